@@ -13,6 +13,7 @@ here, and each report is judged as tools/run_trials.py does.
 import sys
 
 import trying
+from beginning import begin
 from run_trials import Job, Wrong, check_report
 
 LEAST_RING = 8
@@ -135,4 +136,5 @@ def bound_cases():
 
 
 if __name__ == "__main__":
+    begin(__doc__)
     sys.exit(trying.run_or_write(sys.argv[1:], list(bound_cases()), "bound"))

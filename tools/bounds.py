@@ -8,7 +8,7 @@ import re
 from programs import TOP
 
 FILES = ("mu_model/specs/Bounds.antt", "mu_pace/specs/Watches.antt", "mu_alive/specs", "mu_cluster/specs")
-DEFINITION = re.compile(r"^abbrev pub (\w+) : Config (?:→ ℕ )?→ ℕ\n\1 c ?(\w*) =([^\n]*\n(?:    [^\n]*\n)*)",
+DEFINITION = re.compile(r"^abbrev pub (\w+) : Config (?:→ ℕ )*→ ℕ\n\1 c ?([\w ]*) =([^\n]*\n(?:    [^\n]*\n)*)",
                         re.M)
 TOKEN = re.compile(r"\d+|[\w.]+|[-+*()]")
 MOST_BUDGET = 131_071
@@ -26,8 +26,8 @@ def texts():
 
 
 # What each definition is called with besides the configuration, and its sum.
-DEFINITIONS = {name: (argument, TOKEN.findall(body))
-               for text in texts() for name, argument, body in DEFINITION.findall(text)}
+DEFINITIONS = {name: (arguments.split(), TOKEN.findall(body))
+               for text in texts() for name, arguments, body in DEFINITION.findall(text)}
 
 
 class Sum:
@@ -69,14 +69,14 @@ class Sum:
             self.words.pop(0)
             if word in self.job:
                 return self.job[word]
-            return bound(word, self.job, *([self.call()] if DEFINITIONS[word][0] else []))
+            return bound(word, self.job, *[self.call() for _ in DEFINITIONS[word][0]])
         return self.names[word]
 
 
 def bound(name, job, *values):
     """The bound of this name. A job has `replicas`, `width`, and its counts of rows and of reserved positions."""
-    argument, words = DEFINITIONS[name]
-    return Sum(words, job, dict(zip([argument], values))).sum()
+    arguments, words = DEFINITIONS[name]
+    return Sum(words, job, dict(zip(arguments, values))).sum()
 
 
 def job_of(version, replicas, width, commands):

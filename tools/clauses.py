@@ -13,6 +13,7 @@ import re
 import sys
 
 import programs
+from beginning import begin
 from programs import CRATES, TOP
 
 PAGE = os.path.join(TOP, "docs", "PROVED.md")
@@ -76,6 +77,7 @@ def judged():
 
 
 def main():
+    begin(__doc__)
     right, stale = judged()
     return programs.tell(stale, f"clauses: {right} right, {len(stale)} stale")
 

@@ -16,6 +16,7 @@ import resource
 import subprocess
 import sys
 
+from beginning import begin
 from measure_speed import ROWS, input_of
 from programs import BIN, NO_ANSWER
 
@@ -84,6 +85,7 @@ def troubles(program):
 
 
 def main():
+    begin(__doc__)
     words = sys.argv[1:]
     measures = words[:1] == ["--measure"]
     program = (words[measures:] or [os.path.join(BIN, "mu")])[0]

@@ -13,6 +13,7 @@ import os
 import re
 import sys
 
+from beginning import begin
 from programs import CRATES
 
 # A longer time between two files is a pause between two checks.
@@ -52,6 +53,9 @@ def seconds_of(crate):
 
 
 def main():
+    begin(__doc__)
+    if len(sys.argv) > 1 and not sys.argv[1].isdigit():
+        sys.exit(__doc__.strip())
     count = int(sys.argv[1]) if len(sys.argv) > 1 else 30
     crates = sys.argv[2:] or sorted(os.listdir(CRATES))
     all_of = {(crate, owner): kinds for crate in crates for owner, kinds in seconds_of(crate).items()}

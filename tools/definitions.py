@@ -19,6 +19,7 @@ import re
 import sys
 
 import programs
+from beginning import begin
 from programs import CRATES, TOP
 
 PAGE = os.path.join(TOP, "docs", "DEFINITIONS.md")
@@ -107,6 +108,7 @@ def judged():
 
 
 def main():
+    begin(__doc__)
     if sys.argv[1:] not in ([], ["--check"]):
         print("usage: tools/definitions.py [--check]")
         return 1

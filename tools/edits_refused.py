@@ -3,6 +3,7 @@
 
     tools/edits_refused.py mu_text mu_grant            the edits that changed since the last time
     tools/edits_refused.py --anew mu_text              all of them
+    tools/edits_refused.py --beside mu_top             those beside the gate, by tools/try_edits.py
 
 A line has the crate, the edit, and the function with the clause or the goal that isn't proved. The
 edits at the end are refused only at a name, at the shape of a proof file or by a limit of the
@@ -14,12 +15,16 @@ import re
 import subprocess
 import sys
 
+from beginning import begin
+from telling import telling
+
 TOP = os.path.dirname(os.path.dirname(os.path.abspath(__file__)))
 TRIED = re.compile(r"must-fail (\w+)/([\w.-]+)\.edit: (.*)")
 PLACE = re.compile(r"(?:note: )?(?:\./)?(src|proofs|specs)/(\S+?):(\d+):\d+: (.*)")
 GOAL = re.compile(r"`([\w.-]+)`: ")
 # What rt says if an answer doesn't prove the goal that it is for.
 NOT_PROVED = re.compile(r"the two types|expected type|`omega`: the goal|`search`: no proof")
+BESIDE = "--beside"
 # What rt says of a refusal that tells nothing of a contract.
 ONLY = {"only because a proof file names": "name", "only by a limit": "limit"}
 
@@ -63,8 +68,11 @@ def read_edit(crate, told):
 
 def edits_of(words):
     """Runs the edits, and gives crate, edit, place and kind of each that was tried."""
-    run = subprocess.run(["rt", "must-fail", *words], cwd=TOP, text=True, check=False,
-                         stdout=subprocess.PIPE, stderr=subprocess.STDOUT)
+    names = [word for word in words if word != BESIDE]
+    tries = [os.path.join(TOP, "tools", "try_edits.py")] if BESIDE in words else ["rt", "must-fail"]
+    with telling(lambda seconds: f"edits_refused: {' '.join(names)}: {seconds} s so far"):
+        run = subprocess.run([*tries, *names], cwd=TOP, text=True, check=False, stdout=subprocess.PIPE,
+                             stderr=subprocess.STDOUT)
     tried = [m.groups() for m in map(TRIED.search, run.stdout.split("\n")) if m]
     if not tried:
         print(run.stdout, end="")
@@ -72,6 +80,7 @@ def edits_of(words):
 
 
 def main():
+    begin(__doc__)
     if not [word for word in sys.argv[1:] if not word.startswith("-")]:
         print(__doc__, end="")
         return 1

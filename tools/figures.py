@@ -13,8 +13,11 @@ import re
 import sys
 
 import bound_jobs
+import edits
+import made_cases
 import programs
 import stop_jobs
+from beginning import begin
 from bounds import DEFINITIONS, MOST_BUDGET, steps
 from programs import TOP
 
@@ -22,7 +25,7 @@ CONSTANT = re.compile(r"^pub const (\w+): \w+ = ([\d_]+);", re.M)
 LARGEST_RING, MOST_COMMANDS, MOST_WIDTH = 1_024, 1_500, 4
 # The bounds that have tables.
 BOUNDS = {"steps_enough", "steps_after", "steps_in_any_ring", "finishing_steps", "finishing_after",
-          "finishing_in_any_ring", "steps_after_in_any_ring", "finishing_after_in_any_ring"}
+          "finishing_in_any_ring", "steps_after_in_any_ring", "finishing_after_in_any_ring", "steps_after_pauses"}
 
 
 def contents(path):
@@ -38,13 +41,6 @@ def constant(crate, name):
             if found == name:
                 return int(value)
     raise SystemExit(f"figures.py: {crate} has no constant {name}")
-
-
-def edits():
-    """How many must-fail edits there are."""
-    crates = os.path.join(TOP, "crates")
-    folders = [os.path.join(crates, it, "must-fail") for it in os.listdir(crates)]
-    return sum(name.endswith(".edit") for it in folders if os.path.isdir(it) for name in os.listdir(it))
 
 
 def cases_of(path, data):
@@ -63,6 +59,7 @@ def jobs_at_bounds(tool):
 STATED = [
     ("README.md", r"up to seven replicas and the commands of up to (\d+) clients",
      lambda: [constant("mu_input", "MOST_CLIENTS")]),
+    ("README.md", r"all commands, at most ([\d,]+), before", lambda: [constant("mu_input", "MOST_COMMANDS")]),
     ("docs/FORMATS.md", r"k from (\d+) to ([\d,]+) places of a log",
      lambda: [constant("mu_input", "LEAST_RING"), constant("mu_input", "MOST_RING")]),
     ("docs/FORMATS.md", r"b from 1 to ([\d,]+) steps of one replica", lambda: [constant("mu_input", "MOST_STEPS")]),
@@ -86,7 +83,8 @@ STATED = [
      lambda: [sum(it.endswith(".trace") for it in os.listdir(os.path.join(TOP, "examples", "rules")))]),
     ("docs/PACE.md", r"(\d+) go on, (\d+) copy or learn, by (\d+) a region joins",
      lambda: [cases_of("mu_pace/specs/Weights.antt", it) for it in ("GoesOn", "Copies", "Joins")]),
-    ("docs/WORKING.md", r"There are (\d+) edits", lambda: [edits()]),
+    ("docs/WORKING.md", r"There are (\d+) edits in the gate and (\d+) beside it", lambda: edits.judged()[0]),
+    ("docs/MEASURED.md", r"cases and ([\d,]+) more that are made by a rule", lambda: [len(made_cases.made_cases())]),
     ("docs/WORKING.md", r"runs `replay` over ([\d,]+) jobs whose budget is exactly",
      lambda: [jobs_at_bounds("bound_jobs")]),
     ("docs/WORKING.md", r"runs `replay` over ([\d,]+) jobs at exactly a bound",
@@ -109,7 +107,7 @@ STATED = [
      lambda: [*after_stops("steps_after_in_any_ring", 2), *after_stops("finishing_after_in_any_ring", 2)]),
     ("docs/ALIVE.md", r"status is 0 up to N = ([\d,]+), and each replica finishes up to N = ([\d,]+)",
      lambda: [most("steps_in_any_ring"), most("finishing_in_any_ring")]),
-    ("docs/ALIVE.md", r"a budget of 1,000; ([\d,]+) is enough", lambda: [steps("steps_enough", 1, 3, 1, 2)]),
+    ("docs/ALIVE.md", r"a budget of 100,000; ([\d,]+) is enough", lambda: [steps("steps_enough", 1, 3, 1, 2)]),
     ("docs/PACE.md", r"56 steps of each a command. The bound that is proved pays for ([\d,]+)",
      lambda: [steps("steps_enough", 1, 3, 1, 1) - steps("steps_enough", 1, 3, 1, 0)]),
     ("docs/PACE.md", r"a budget of ([\d,]+) steps is enough for 2 commands, ([\d,]+) for 10, ([\d,]+) for 100",
@@ -123,6 +121,20 @@ def number(text):
     """The number that a cell begins with; None if it has none."""
     found = re.match(r"[\d,]+", text)
     return int(found.group().replace(",", "")) if found else None
+
+
+def fair():
+    """Each row of the table of the steps of a fair run: what a unit of the ratio takes, the rest, and a command."""
+    rows = re.findall(r"(?m)^\| (\d) \| ([\d,]+) f \| 3 d \| ([\d,]+) \| ([\d,]+) \|$", contents("docs/ALIVE.md"))
+    for row in rows:
+        replicas, *figures = [number(it) for it in row]
+
+        def taken(commands, ratio, lag, replicas=replicas):
+            return steps("steps_if_fair", 1, replicas, 1, commands, ratio, lag)
+
+        yield (f"docs/ALIVE.md: a fair run of {replicas}", [*figures, 3],
+               [taken(0, 1, 0) - taken(0, 0, 0), taken(0, 0, 0), taken(1, 0, 0) - taken(0, 0, 0),
+                taken(0, 0, 1) - taken(0, 0, 0)])
 
 
 def stated():
@@ -245,6 +257,12 @@ class Formula:
         return result
 
 
+def given(name, s, ratio, lag):
+    """What a bound is of besides the job: a replica, or the ratio and the lag at which others keep up."""
+    arguments = DEFINITIONS[name][0]
+    return [ratio, lag] if len(arguments) == 2 else [s] * len(arguments)
+
+
 def formulas():
     """Each formula of docs/ALIVE.md, for a few jobs."""
     for name, body in re.findall(r"^    (\w+) += (.*(?:\n {9,}\+ .*)*)", contents("docs/ALIVE.md"), re.M):
@@ -252,9 +270,10 @@ def formulas():
             yield f"docs/ALIVE.md: {name}", "a formula", "no definition"
             continue
         stand, wanted = [], []
-        for replicas, width, commands, s in ((3, 1, 2, 1), (5, 4, 17, 2), (7, 3, 100, 3)):
-            def value(word, job=(1, replicas, width, commands), known=dict(n=replicas, w=width, K=commands, s=s)):
-                return known[word] if word in known else steps(word, *job, *([s] if DEFINITIONS[word][0] else []))
+        for replicas, width, commands, s, f, d in ((3, 1, 2, 1, 1, 1), (5, 4, 17, 2, 3, 0), (7, 3, 100, 3, 16, 500)):
+            def value(word, job=(1, replicas, width, commands),
+                      known=dict(n=replicas, w=width, K=commands, s=s, f=f, d=d)):
+                return known[word] if word in known else steps(word, *job, *given(word, s, f, d))
             stand.append(Formula(body, value).sum())
             wanted.append(value(name))
         yield f"docs/ALIVE.md: {name}, for three jobs", stand, wanted
@@ -262,12 +281,13 @@ def formulas():
 
 def judged():
     """How many figures are right, and which are stale."""
-    found = [*stated(), *tables(), *in_version_two(), *formulas()]
+    found = [*stated(), *tables(), *in_version_two(), *fair(), *formulas()]
     stale = [f"{where}: {stands}, and {wanted} is right" for where, stands, wanted in found if stands != wanted]
     return len(found) - len(stale), stale
 
 
 def main():
+    begin(__doc__)
     right, stale = judged()
     return programs.tell(stale, f"figures: {right} right, {len(stale)} stale")
 

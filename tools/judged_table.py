@@ -9,11 +9,13 @@ what an independent program says of it in NAME.stdout. The input gets them, byte
 separator of crates/mu_judge/src/main.rt between two; the output gets one line for each, and
 cases/judged.names its name. The lines are those of the cases, never the program's own. A job that is
 refused for a line after its `end` is left out: events may follow there in a trace (such jobs stand in
-crates/worked_rows/src/refusals.rt).
+cases/refusals.table). What stands last shows how an input is cut into traces.
 """
 
 import pathlib
 import sys
+
+from beginning import begin
 
 TOP = pathlib.Path(__file__).resolve().parent.parent
 INPUT = TOP / "crates" / "mu_judge" / "stdin"
@@ -21,6 +23,15 @@ OUTPUT = TOP / "crates" / "mu_judge" / "stdout"
 NAMES = TOP / "cases" / "judged.names"
 SEPARATOR = b"\n---\n"
 AFTER_END = b" cause 12\n"
+# Traces between which the input is cut at the first separator, and only there: the first of the two has a line feed of
+# its own at its end, which the separator follows, and the last is the rest of the input.
+NO_TRACE, NOTHING = b"refused line 1 cause 1\n", b"refused line 1 cause 11\n"
+CUT = [("cut/two-first", b"mu 1\nreplicas 3\nring 8\nbudget 100\nend\nend\n", b"legal 0\n"),
+       ("cut/two-second", b"mu 1\nreplicas 8\n", b"refused line 2 cause 2\n"),
+       ("cut/end-and-feed", b"end\n", NO_TRACE), ("cut/settings", b"mu 1\n", b"refused line 2 cause 11\n"),
+       ("cut/end", b"end", NO_TRACE), ("cut/nothing", b"", NOTHING), ("cut/separator-without-feed", b"---\n", NO_TRACE),
+       ("cut/a", b"a", NO_TRACE), ("cut/b", b"b", NO_TRACE), ("cut/c", b"c", NO_TRACE),
+       ("cut/separator-unended", b"end\n---", NO_TRACE)]
 
 
 def cases(folder):
@@ -41,7 +52,7 @@ def judged():
 def write(traces_folder, jobs_folder, more):
     jobs = [case for case in cases(jobs_folder) if not case[2].endswith(AFTER_END)]
     others = [case for folder in more for case in cases(folder)]
-    names, traces, lines = zip(*cases(traces_folder), *jobs, *others)
+    names, traces, lines = zip(*cases(traces_folder), *jobs, *others, *CUT)
     joined = SEPARATOR.join(traces)
     if joined.split(SEPARATOR) != list(traces):
         sys.exit("a trace holds the separator")
@@ -58,8 +69,11 @@ def show(line):
 
 
 def main():
-    if sys.argv[1:2] == ["--case"]:
+    begin(__doc__)
+    if len(sys.argv) == 3 and sys.argv[1] == "--case" and sys.argv[2].isdigit():
         show(int(sys.argv[2]))
+    elif len(sys.argv) < 3 or sys.argv[1].startswith("-"):
+        sys.exit(__doc__.split("\n\n")[1])
     else:
         write(sys.argv[1], sys.argv[2], sys.argv[3:])
 

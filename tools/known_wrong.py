@@ -15,11 +15,16 @@ import tempfile
 from types import SimpleNamespace
 from unittest import mock
 
+import astray_jobs
 import bound_jobs
 import clauses
 import cost_bounds
 import definitions
+import edits
+import faults
+import fairness
 import figures
+import made_cases
 import own_traces
 import pages
 import refused_memory
@@ -28,9 +33,10 @@ import second_judge
 import stop_jobs
 import surface
 import trying
+from beginning import begin
 from judged_table import judged
 from programs import EXAMPLES, TOP
-from run_cases import contents, stored_cases, wanted_status
+from run_cases import contents, stored_cases, table_case, wanted_status
 from run_trials import Job, Wrong, check_report
 from trying import troubles
 
@@ -69,8 +75,15 @@ WRONG_FIGURES = [
     ("docs/PACE.md", "2,240 for 10", "2,241 for 10"),
     ("docs/FORMATS.md", "at most 100 lines of the script", "a hundred lines of the script"),
 ]
-# How many jobs of stops there are: each family of them is whole.
-STOP_JOBS = 3_875
+# How many jobs of stops there are: each family of them is whole; and how many cases are made by a rule.
+STOP_JOBS, MADE_CASES = 3_875, 1_720
+# A program that says what a fault of its input or of its output was.
+FAULT_TELLER = """#!/bin/sh
+cat > /dev/null 2>&1 || { echo read fault; exit 4; }
+echo first && echo second || exit 5
+"""
+# More steps than the bound of a fair run of JOB.
+UNFAIR_STEPS = 12_000
 # A line of a page, and what it names.
 PAGE_LINE = ("`crates/kv_store`, `src/no_such_file.rt`, `no_such_name`, `NoSuchName` and `mu replay < no_input`",
              ["crates/kv_store", "src/no_such_file.rt", "no_such_name", "NoSuchName"])
@@ -96,6 +109,78 @@ def tells_sums():
     case = trying.SummedCase("a sum", [], b"", "2c26b46b68ffc68ff99b453c1d30413413422d706483bfa0f98a5e886266e7ae")
     yield case.trouble(trying.Answer("ended", 0, b"foo", [])) is None
     yield case.trouble(trying.Answer("ended", 0, b"fop", [])) is not None
+
+
+def tells_parts():
+    """Of some outputs the beginning or the end is compared, and the status."""
+    for case, right, wrong in ((trying.BeginningCase, b"right and more", (b"wrong", b"righ", b"")),
+                               (trying.EndingCase, b"more that is right", (b"right and more", b"ight", b""))):
+        made = case("a part", [], b"", b"right", 7)
+        yield made.trouble(trying.Answer("ended", 7, right, [])) is None
+        yield made.trouble(trying.Answer("ended", 0, right, [])) is not None
+        for output in wrong:
+            yield made.trouble(trying.Answer("ended", 7, output, [])) is not None
+
+
+def tells_tables():
+    """A case of a table has its words, its input with or without a last line feed, and what is wanted."""
+    for text, given, kind, wanted, status in (
+            (b"a replay\nmu 1\nprints\nrefused line 2 cause 11\n", b"mu 1\n", trying.Case, b"refused line 2 cause 11\n", 2),
+            (b"a replay\nmu 1\n\\prints\nlegal 0\n", b"mu 1", trying.Case, b"legal 0\n", 0),
+            (b"a replay\nprints status 3\nx\n", b"", trying.Case, b"x\n", 3),
+            (b"a replay\nend\nbegins\nillegal 0 at line 6\n", b"end\n", trying.BeginningCase, b"illegal 0 at line 6\n", 7),
+            (b"a replay\nend\nends status 0\n</svg>\n", b"end\n", trying.EndingCase, b"</svg>\n", 0)):
+        case = table_case("t.table", text)
+        yield (case.name, case.words) == ("t.table/a", ["replay"])
+        yield (case.given, type(case), case.wanted, case.status) == (given, kind, wanted, status)
+    yield table_case("t.table", b"a b\nc\nprints sha256 0123\n").summed == "0123"
+
+
+def tells_stops():
+    """After stops the others finish with all commands, and of two logs one begins the other."""
+    def trouble(stopped, report, status=0):
+        return made_cases.StopsCase(stopped, 0).trouble(trying.Answer("ended", status, report.encode(), []))
+
+    report = made_cases.two_clients().wanted.decode()
+    yield trouble([0], report) is None and trouble([0, 1], report) is None and trouble([0, 1], report, 3) is None
+    yield trouble([0], report, 3) is not None and trouble([0, 1], report, 2) is not None
+    for old, new in (("log 2 entries 6 commits 0 finished", "log 2 entries 6 commits 0 budget"),
+                     ("3 1.2 swap a 9\n", "3 1.2 swap a 8\n"), ("5 1.3 cas a 9 1\nreplies", "replies"),
+                     ("log 2 entries", "log two entries")):
+        first, _, last = report.rpartition(old)
+        yield old in report and trouble([1], first + new + last) is not None
+    first, _, last = report.rpartition("3 1.2 swap a 9\n")
+    yield trouble([0, 1], first + "3 1.2 swap a 8\n" + last) is not None
+    yield len(made_cases.made_cases()) == MADE_CASES
+    replicas = range(made_cases.LARGEST_REPLICAS)
+    steps = b"".join(b"%d beat = done\n" % replica * made_cases.LARGEST_STEPS for replica in replicas)
+    yield made_cases.LargestCase().trouble(trying.Answer("ended", 0, steps, [])) is None
+    yield made_cases.LargestCase().trouble(trying.Answer("ended", 0, steps[15:], [])) is not None
+
+
+def tells_edits():
+    """An edit fits if its file has the old text once, after the pairs before."""
+    def trouble(*lines):
+        return edits.trouble_of("mu_judge", "\n".join(lines))
+
+    file, old = "file: src/main.rt", "old: ExitCode::from(status("
+    yield trouble(file, old, "new: ExitCode::from(other(", "old: from(other(", "new: from(it(") is None
+    for lines in ((file, "old: ExitCode", "new: Code"), (file, "old: no such text", "new: none"), (file,), (old, "new: x"),
+                  ("file: specs/Judged.antt", old, "new: x"), ("file: src/none.rt", old, "new: x"), (file, "new: x")):
+        yield trouble(*lines) is not None
+    yield edits.judged()[1] == [] and min(edits.judged()[0]) > 0
+
+
+def tells_faults():
+    """A program that says that it couldn't read or write is right, one that doesn't is not."""
+    with tempfile.TemporaryDirectory() as room:
+        path = os.path.join(room, "teller")
+        with open(path, "w", encoding="utf-8") as program:
+            program.write(FAULT_TELLER)
+        os.chmod(path, 0o755)
+        yield faults.troubles_of(path, "teller", [], b"given", b"read fault\n", b"first\n") == (4, [])
+        yield len(faults.troubles_of(path, "teller", [], b"given", b"", b"")[1]) == 2
+        yield len(faults.troubles_of("/bin/true", "true", [], b"given", b"read fault\n", b"first\n")[1]) == 4
 
 
 def tells_missing_answers():
@@ -294,11 +379,39 @@ def tells_refused_memory():
     yield not is_right(plain, [alone, alone])
 
 
+def tells_hangs():
+    """A job hangs if a command is missing, and that is wrong unless half were stopped or outrun."""
+    def kind(*ends, status=3):
+        return astray_jobs.Report("".join(f"log {r} entries {r} commits 0 {end}\n" for r, end in enumerate(ends)), status)
+
+    hung, halved = kind("budget", "budget", "stopped"), kind("budget", "outrun 1 2")
+    yield not hung.has_all() and not hung.lost_half()
+    yield not halved.has_all() and halved.lost_half()
+    yield kind("finished", "budget", status=0).kind() != kind("budget", "finished", status=0).kind()
+    yield kind("finished", "stopped", status=0).kind() != kind("budget", "stopped", status=0).kind()
+
+
+def tells_unfair_runs():
+    """A run that is fair for long enough and gets nothing done refutes the law; one that isn't fair doesn't."""
+    def stretch(counts, others=1):
+        events = [event for count in counts for event in ("0 beat = done", *[f"1 readbeat 0 = {count}"] * others)]
+        run = fairness.Run(JOB + "\n".join([*events, "end", ""]))
+        return fairness.Stretch(run, [0, 1], 0, len(run.lines))
+
+    fair, stale = stretch(range(UNFAIR_STEPS)), stretch([1] * UNFAIR_STEPS)
+    yield (fair.ratio, fair.lag, fair.found, fair.alive) == (1, 1, True, True)
+    yield fair.refutes(None) and fair.refutes(fair.bound + 1) and not fair.refutes(fair.bound)
+    yield not stale.found and not stale.alive and not stale.refutes(None)
+    yield not stretch(range(UNFAIR_STEPS), others=2).found and not stretch(range(9)).refutes(None)
+    yield [fairness.least_lag(rows, 2) for rows in ([2, 2], [1, 2], [9, 0], [3, 0, 3, 2])] == [1, 1, 8, 2]
+
+
 JUDGES = [
-    tells_failures, tells_answers, tells_sums, tells_missing_answers, tells_statuses, tells_reports, tells_bounds,
+    tells_failures, tells_answers, tells_sums, tells_parts, tells_tables, tells_stops, tells_edits, tells_faults,
+    tells_missing_answers, tells_statuses, tells_reports, tells_bounds,
     tells_own_traces, tells_pages, tells_clauses, tells_figures, tells_uncited_lemmas, tells_idle_imports,
     tells_stored_inputs, tells_rules, tells_breaks, tells_refused_memory, tells_finishers, tells_costs,
-    tells_stale_definitions]
+    tells_stale_definitions, tells_hangs, tells_unfair_runs]
 
 
 def tried():
@@ -312,6 +425,7 @@ def tried():
 
 
 def main():
+    begin(__doc__)
     passed, wrong = tried()
     print(*wrong, f"{passed} passed, {len(wrong)} failed", sep="\n")
     return 1 if wrong else 0

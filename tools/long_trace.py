@@ -12,6 +12,8 @@ nothing to do, the replica beats. The wanted output is `legal` and the number of
 
 import sys
 
+from beginning import begin
+
 REPLICAS, RING, BUDGET, CLIENTS = 7, 64, 131071, 4
 OPERATIONS = {"put": 1, "get": 2, "del": 3, "swap": 4, "cas": 5}
 DONE, ENTERED, EMPTY, PAST = ("done",), ("entered",), ("empty",), ("past",)
@@ -292,6 +294,9 @@ def committed(replica, position, words):
 
 
 def main():
+    begin(__doc__)
+    if len(sys.argv) > 3 or not all(word.isdigit() for word in sys.argv[1:]):
+        sys.exit(__doc__.split("\n\n")[1])
     turns, total = ([int(word) for word in sys.argv[1:]] + [120887, 1500][len(sys.argv) - 1:])[:2]
     each = -(-total // CLIENTS)
     rows = [row_words(j // each, j % each + 1, command(j)) for j in range(total)]

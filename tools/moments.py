@@ -16,6 +16,7 @@ import sys
 import programs
 import trying
 from account import MARKS, PAYLOADS, Job
+from beginning import begin
 from second_judge import Steps
 
 # Of the same traces the same moments are taken.
@@ -197,6 +198,7 @@ def moments_of(paths, count):
 
 
 def main():
+    begin(__doc__)
     count, paths = 1000, sys.argv[1:]
     if paths[:1] == ["--count"]:
         count, paths = int(paths[1]), paths[2:]

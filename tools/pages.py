@@ -1,6 +1,6 @@
 #!/usr/bin/env python3
 """Checks what the pages name: each path stands, each name is in some source, each link leads somewhere;
-that two pages stay short, and that each crate is on the map.
+that two pages stay short, that each command has its help, and that each crate is on the map.
 
     tools/pages.py        prints what is stale; the last line is `pages: N named, N stale`
 
@@ -14,6 +14,7 @@ import re
 import sys
 
 import programs
+from beginning import begin
 from programs import TOP
 
 ENDINGS = (".rt", ".antt", ".md", ".py", ".job", ".trace", ".svg", ".table", ".edit", ".txt", ".h", ".c")
@@ -115,6 +116,16 @@ def off_the_map():
     return [f"docs/MAP.md: the crate {name} isn't there" for name in names if name not in there]
 
 
+def without_help():
+    """The commands of the usage lines of which the help of ./mu and ./mu_draw says nothing."""
+    launcher, told = (os.path.join(TOP, "tools", name) for name in ("run_program", "program_help.bash"))
+    with open(launcher, encoding="utf-8") as usage, open(told, encoding="utf-8") as text:
+        forms, lines = re.findall(r'echo "usage: (.*)"', usage.read()), text.read()
+    for form in ", ".join(forms).split(", "):
+        if not re.search(rf"^    {form.removeprefix('mu ')}( |$)", lines, re.MULTILINE):
+            yield f"tools/program_help.bash: {form} isn't there"
+
+
 def judged():
     """How many things the pages name, and where one is stale."""
     paths = list(files())
@@ -133,10 +144,11 @@ def judged():
                           if not it.startswith("http")]
                 named += len(found)
                 stale += [f"{page}:{number}: {it}" for it, good in found if not good]
-    return named, stale + list(too_long()) + off_the_map()
+    return named, stale + list(too_long()) + list(without_help()) + off_the_map()
 
 
 def main():
+    begin(__doc__)
     named, stale = judged()
     return programs.tell(stale, f"pages: {named} named, {len(stale)} stale")
 

@@ -11,6 +11,8 @@ replica knows, its leaderships, whom it names and the owners of regions are comp
 import subprocess
 import sys
 
+import beginning
+
 COLOURS = ("#e69f00", "#56b4e9", "#009e73", "#f0e442", "#0072b2", "#d55e00", "#cc79a7")
 STYLE = ("text{font:9px sans-serif;paint-order:stroke;stroke:#fff;stroke-width:5px}"
          ".t{font-family:monospace}.s{text-anchor:end;fill:#555}path{stroke:#000;fill:none}"
@@ -630,12 +632,17 @@ def differs(program, text):
 
 def main():
     """Draws one trace, or compares many."""
+    beginning.begin(__doc__)
     if len(sys.argv) < 3:
         print(__doc__.split("\n\n")[1], "\n\nno trace is named", file=sys.stderr)
         sys.exit(2)
     if sys.argv[1] == "--draw":
         with open(sys.argv[2], encoding="ascii") as file:
-            sys.stdout.write(drawn(file.read()))
+            try:
+                drawing = drawn(file.read())
+            except (ValueError, IndexError):
+                sys.exit(f"picture_cases.py: {sys.argv[2]} is no trace, or a line of it is no event")
+        sys.stdout.write(drawing)
         return
     wrong = 0
     for name in sys.argv[2:]:

@@ -21,6 +21,11 @@ CRATE_OF = {"mu": "mu_tool", "mu_draw": "mu_draw"}
 NO_ANSWER = 70
 
 
+def crate_of(name):
+    """The crate of a program: of one that only tests run it has the same name."""
+    return CRATE_OF.get(name, name)
+
+
 def toolchain_named():
     """The toolchain that README.md names, as `rt version` prints it."""
     with open(README, encoding="utf-8") as text:
@@ -51,13 +56,32 @@ def need_toolchain(name):
         print(f"{name}: README.md names {needed}, and rt is {found}: nothing was tried with that one", file=sys.stderr)
 
 
-def sources_sum():
-    """One checksum of all that the programs are made of: sources, specs, proofs and the toolchain."""
+def crates_below(names):
+    """What each crate of the repository stands on, of those that these need."""
+    with open(os.path.join(TOP, "crates.txt"), encoding="utf-8") as text:
+        lines = text.read().splitlines()
+    listed = {}
+    for line in lines:
+        if ":" in line and not line.startswith("#"):
+            head, below = line.split(":", 1)
+            listed[head.split()[0]] = below.split()
+    needed, waiting = {}, list(names)
+    while waiting:
+        crate = waiting.pop()
+        if crate not in needed:
+            needed[crate] = [b for b in listed[crate] if b in listed]
+            waiting += needed[crate]
+    return needed
+
+
+def sources_sum(crates=("",)):
+    """One checksum of all that is read of some crates, or of all: sources, specs, proofs and the toolchain."""
     paths = [os.path.join(TOP, "crates.txt")]
-    for folder, below, files in os.walk(CRATES):
-        if "out" in below:
-            below.remove("out")
-        paths += [os.path.join(folder, name) for name in files if name.endswith((".rt", ".antt"))]
+    for crate in crates:
+        for folder, below, files in os.walk(os.path.join(CRATES, crate)):
+            if "out" in below:
+                below.remove("out")
+            paths += [os.path.join(folder, name) for name in files if name.endswith((".rt", ".antt"))]
     whole = hashlib.sha256((toolchain_found() or "").encode())
     for path in sorted(paths):
         with open(path, "rb") as source:
@@ -66,12 +90,12 @@ def sources_sum():
     return whole.hexdigest()
 
 
-def set_mark_time(moment):
-    """Says that the mark is of the sources as they were at a moment.
+def set_mark_time(moment, mark=MARK):
+    """Says that a mark is of the sources as they were at a moment.
 
     It is set a little before, since the time of a file may lag behind the clock.
     """
-    os.utime(MARK, (moment - 0.1, moment - 0.1))
+    os.utime(mark, (moment - 0.1, moment - 0.1))
 
 
 def proved_program(name):
@@ -101,12 +125,13 @@ def forget_proved():
         os.remove(MARK)
 
 
-def leave_proved(checksum, moment):
-    """Leaves the programs in out/bin, as those of the sources that had this checksum at a moment."""
+def leave_proved(crates, checksum, moment):
+    """Leaves the programs that stand in the crates of a folder in out/bin, as those of the sources that had this
+    checksum at a moment."""
     os.makedirs(BIN, exist_ok=True)
     for name, crate in CRATE_OF.items():
         path = os.path.join(BIN, name)
-        shutil.copy(os.path.join(CRATES, crate, "out", crate), path + ".new")
+        shutil.copy(os.path.join(crates, crate, "out", crate), path + ".new")
         os.replace(path + ".new", path)
     with open(MARK, "w", encoding="ascii") as mark:
         mark.write(checksum + "\n")

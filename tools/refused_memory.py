@@ -17,6 +17,7 @@ import sys
 import tempfile
 
 import run_hostile
+from beginning import begin
 from programs import BIN, CRATE_OF, EXAMPLES, NO_ANSWER
 
 # The status and the text of a program that had no memory.
@@ -24,6 +25,7 @@ NO_MEMORY, SAID = 6, b"no memory\n"
 # Each command of each program, with an example to run it over; check and why also over an illegal list.
 COMMANDS = [
     ("mu", ["replay"], "put-and-get.job"), ("mu", ["run"], "put-and-get.job"), ("mu", ["trace"], "put-and-get.job"),
+    ("mu", ["eager"], "put-and-get.job"), ("mu", ["eager", "trace"], "put-and-get.job"),
     ("mu", ["check"], "late-exchange.trace"), ("mu", ["check"], "grant-before-drain.trace"),
     ("mu", ["why"], "late-exchange.trace"), ("mu", ["why"], "grant-before-drain.trace"),
     ("mu", ["tell"], "late-exchange.trace"), ("mu", ["show", "20"], "late-exchange.trace"), ("mu", ["bulk", "3"], None),
@@ -83,6 +85,7 @@ def troubles(paths):
 
 
 def main():
+    begin(__doc__)
     paths = dict(zip(CRATE_OF, sys.argv[1:] + [os.path.join(BIN, name) for name in CRATE_OF][len(sys.argv) - 1:]))
     if shutil.which("cc") is None or not all(os.access(path, os.X_OK) for path in paths.values()):
         print("needs a C compiler, and the programs that ./prove builds", file=sys.stderr)

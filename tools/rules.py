@@ -16,6 +16,7 @@ import sys
 
 import picture_cases
 from account import MIN, Job
+from beginning import begin
 from programs import EXAMPLES, tell
 from run_cases import contents
 from second_judge import Steps
@@ -484,6 +485,7 @@ def write():
 
 
 def main():
+    begin(__doc__)
     if sys.argv[1:] == ["--write"]:
         write()
     count, wrong = judged()

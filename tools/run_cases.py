@@ -8,8 +8,10 @@ CASES is a folder or a table. In a folder a case NAME is a file NAME with the in
 words, one a line, and NAME.stdout with what has to be printed; if there is a file NAME.told, it is what
 `tell` has to print of NAME.stdout, a trace. A table is a file NAME.table. A case of
 it is a line `case NAME WORD`, the input, and a line `prints` with what has to be printed below it, or
-`prints sha256 SUM` with its checksum. The status that is wanted is that of the last line, `status S`,
-or of what is said: usage 1, refused 2, illegal 7.
+`begins` or `ends` with what that has to begin or to end with, or `prints sha256 SUM` with its checksum. A
+backslash before that word says that the last line of the input has no line feed. The status that is wanted
+stands behind that word, as `status S`, or is that of the last line, `status S`, or of what is said: usage 1,
+refused 2, illegal 7.
 """
 import os
 import re
@@ -17,7 +19,10 @@ import sys
 
 import programs
 import trying
+from telling import telling
 
+# The line of a table between an input and what is printed of it.
+TOLD_LINE = re.compile(rb"^(\\?)(prints|begins|ends)(?: (sha256 [0-9a-f]+|status \d))?(?:\n|\Z)", re.MULTILINE)
 STATUS_OF = {b"usage:": 1, b"refused": 2, b"illegal": 7, b"legal": 0}
 
 
@@ -50,18 +55,24 @@ def stored_cases(folder):
     return cases
 
 
+def table_case(name, text):
+    """A case of a table, from its first line on."""
+    head, rest = text.split(b"\n", 1)
+    told = TOLD_LINE.search(rest)
+    given, wanted = rest[:told.start()], rest[told.end():]
+    title, *words = head.decode().split(" ")
+    kind, value = (told[3] or b"").decode().partition(" ")[::2]
+    case = {b"prints": trying.Case, b"begins": trying.BeginningCase, b"ends": trying.EndingCase}[told[2]]
+    made = [f"{name}/{title}", words, given[:-1] if told[1] else given]
+    if kind == "sha256":
+        return trying.SummedCase(*made, value)
+    return case(*made, wanted, int(value) if kind == "status" else wanted_status(wanted))
+
+
 def table_cases(path):
     """The cases of a table."""
-    cases, name = [], os.path.basename(path)
-    for text in re.split(rb"^case ", contents(path), flags=re.MULTILINE)[1:]:
-        head, rest = text.split(b"\n", 1)
-        given, wanted = re.split(rb"^prints", rest, flags=re.MULTILINE)
-        title, *words = head.decode().split(" ")
-        if wanted.startswith(b" sha256 "):
-            cases.append(trying.SummedCase(f"{name}/{title}", words, given, wanted.split()[1].decode()))
-        else:
-            cases.append(trying.Case(f"{name}/{title}", words, given, wanted[1:], wanted_status(wanted[1:])))
-    return cases
+    name, (_, *texts) = os.path.basename(path), re.split(rb"^case ", contents(path), flags=re.MULTILINE)
+    return [table_case(name, text) for text in texts]
 
 
 def cases_at(path):
@@ -80,7 +91,8 @@ def main():
     if program is None:
         programs.need_toolchain("run_cases.py")
     try:
-        answers = trying.run_cases(program, cases) if program else trying.answers_of("mu", cases)
+        with telling(lambda seconds: f"run_cases.py: {len(cases)} cases: {seconds} s so far"):
+            answers = trying.run_cases(program, cases) if program else trying.answers_of("mu", cases)
     except (OSError, trying.NotBuilt) as cause:
         print(f"run_cases.py: {cause}", file=sys.stderr)
         return programs.NO_ANSWER

@@ -26,6 +26,7 @@ from xml.etree import ElementTree
 
 import job_reader
 import picture_cases
+from beginning import begin
 from run_trials import Job, Wrong, check_report
 
 TOP = os.path.dirname(os.path.dirname(os.path.abspath(__file__)))
@@ -333,6 +334,7 @@ def large_job(seed, pauses):
 
 
 def main():
+    begin(__doc__)
     built = [os.path.join(TOP, "out", "bin", name) for name in ("mu", "mu_draw")]
     programs = sys.argv[1:] + built[len(sys.argv) - 1:]
     missing = [path for path in programs if not os.access(path, os.X_OK)]
@@ -348,7 +350,7 @@ def main():
         broken = open(os.path.join(TOP, "examples", "grant-before-drain.trace"), "rb").read()
         jobs = [(["replay"], TWO_CLIENTS), (["run"], TWO_CLIENTS), (["trace"], TWO_CLIENTS), (["check"], trace),
                 (["check"], judged), (["check"], broken), (["why"], judged), (["why"], broken), (["tell"], trace),
-                (["show", "9"], trace), (["replay"], BATCHED),
+                (["show", "9"], trace), (["replay"], BATCHED), (["eager"], TWO_CLIENTS), (["eager", "trace"], BATCHED),
                 (["desk"], TWO_CLIENTS), (["book"], TWO_CLIENTS), (["live", "2"], TWO_CLIENTS), (["bulk", "10"], b"")]
         for words, given in jobs:
             if given:

@@ -10,6 +10,8 @@ import subprocess
 import sys
 
 import programs
+import unproved
+from telling import telling
 
 # What is said of a run that didn't end, by the word that `rt try` has for it.
 TOLD_OF = {
@@ -33,10 +35,16 @@ def cause_of(lines):
 def run_unproved(name, words):
     """Runs an unproved build; its status, or that of no answer."""
     programs.need_toolchain(name)
-    say(name, "these sources aren't proved here: building without proofs first, in about a minute "
-              "(./tour builds once and shows every command, ./prove proves)")
-    done = subprocess.run(["rt", "try", "--", *words], stderr=subprocess.PIPE, check=False,
-                          cwd=os.path.join(programs.CRATES, programs.CRATE_OF[name]))
+    if not unproved.kept(name):
+        say(name, "these sources aren't proved here: building without proofs, once, in about a minute (./prove proves)")
+    if unproved.kept(name) or unproved.built(name):
+        runner = os.path.join(os.path.dirname(os.path.abspath(__file__)), "run_unproved")
+        signal.signal(signal.SIGPIPE, signal.SIG_DFL)
+        os.execv(runner, [runner, name, *words])
+    # rt says why nothing is built, or builds and runs it for this once.
+    with telling(lambda seconds: f"{name}: rt try builds and runs it: {seconds} s so far"):
+        done = subprocess.run(["rt", "try", "--", *words], stderr=subprocess.PIPE, check=False,
+                              cwd=os.path.join(programs.CRATES, programs.CRATE_OF[name]))
     lines = done.stderr.decode(errors="replace").splitlines()
     state = lines[-1].split()[0][4:] if lines and lines[-1].startswith("run=") else None
     if state == "ended":

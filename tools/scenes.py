@@ -4,6 +4,8 @@
     tools/scenes.py MU             with `mu trace` of this program, drawn by tools/picture_cases.py
     tools/scenes.py MU MU_DRAW     drawn by this program too
     tools/scenes.py --write MU     stores the drawings of tools/picture_cases.py
+
+Some are drawn with the nodes of a run too, by `mu eager trace`.
 """
 
 import os
@@ -13,37 +15,52 @@ import sys
 import picture_cases
 
 SCENES = os.path.join(os.path.dirname(os.path.dirname(os.path.abspath(__file__))), "examples", "scenes")
+# The jobs that are drawn with the nodes of a run too.
+EAGER_TOO = {"astray.job"}
+# Statuses of what was told: of a run with all commands, or without some.
+TOLD = (0, 3)
 
 
 def output_of(words, given):
     """What a program prints, as text."""
-    done = subprocess.run(words, input=given, capture_output=True, text=True, check=True)
+    done = subprocess.run(words, input=given, capture_output=True, text=True, check=False)
+    if done.returncode not in TOLD:
+        sys.exit(f"{' '.join(words)}: status {done.returncode}")
     return done.stdout
+
+
+def scenes():
+    """The path of each job, the words by which its trace is made, and the path of the stored drawing."""
+    for name in sorted(os.listdir(SCENES)):
+        if name.endswith(".job"):
+            path = os.path.join(SCENES, name)
+            yield path, ["trace"], path.replace(".job", ".svg")
+            if name in EAGER_TOO:
+                yield path, ["eager", "trace"], path.replace(".job", "-eager.svg")
 
 
 def main():
     """Compares each scene, or stores its drawing."""
-    words = [word for word in sys.argv[1:] if word != "--write"]
-    if not words:
+    programs = [word for word in sys.argv[1:] if word != "--write"]
+    if not programs:
         print(__doc__.split("\n\n")[1], file=sys.stderr)
         sys.exit(2)
-    jobs, wrong = sorted(name for name in os.listdir(SCENES) if name.endswith(".job")), 0
-    for name in jobs:
-        path = os.path.join(SCENES, name)
+    drawn = wrong = 0
+    for path, words, stored in scenes():
         with open(path, encoding="ascii") as file:
-            trace = output_of([words[0], "trace"], file.read())
+            trace = output_of([programs[0], *words], file.read())
         drawing = picture_cases.drawn(trace)
-        stored = path.replace(".job", ".svg")
+        drawn += 1
         if "--write" in sys.argv:
             with open(stored, "w", encoding="ascii") as file:
                 file.write(drawing)
             continue
         with open(stored, encoding="ascii") as file:
             is_same = file.read() == drawing
-        if not is_same or len(words) > 1 and output_of([words[1]], trace) != drawing:
+        if not is_same or len(programs) > 1 and output_of([programs[1]], trace) != drawing:
             wrong += 1
-            print("differs:", name)
-    print(len(jobs), "scenes,", wrong, "wrong")
+            print("differs:", stored)
+    print(drawn, "scenes,", wrong, "wrong")
     sys.exit(wrong > 0)
 
 

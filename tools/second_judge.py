@@ -11,6 +11,7 @@ import sys
 
 from account import Job, Memory, Replica
 from allowed import broken
+from beginning import begin
 from judged_table import judged
 from programs import EXAMPLES, TOP, tell
 from run_cases import contents, stored_cases
@@ -84,6 +85,7 @@ def compared():
 
 
 def main():
+    begin(__doc__)
     if sys.argv[1:]:
         for path in sys.argv[1:]:
             print(f"{path}:", first_break(contents(path).decode()) or "legal")

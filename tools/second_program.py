@@ -5,9 +5,9 @@
 
 plain_mu has to print what the stored replays, traces and verdicts want, and the jobs of tools/bound_jobs.py
 and tools/stop_jobs.py have to go well with it. Then both programs replay and trace random jobs of both
-versions, with stops and pauses, some of whose budgets or rings are too small; and they judge each of these
-traces, whole and with a line dropped, repeated, moved or changed. It needs rustc, and a built program for the
-random jobs.
+versions, by plain and by eager nodes, with stops and pauses, some of whose budgets or rings are too small; and
+they judge each of these traces, whole and with a line dropped, repeated, moved or changed. It needs rustc, and a
+built program for the random jobs.
 """
 import argparse
 import os
@@ -26,7 +26,9 @@ from stop_jobs import stop_cases
 
 ANCHORS = os.path.join(TOP, "tools", "anchors")
 SOURCES = {"plain_mu": "plain_mu/main.rs", "locked_log": "locked_log.rs", "rings": "rings.rs"}
-STORED = ("replay", "trace", "more.table")
+STORED = ("replay", "trace", "more.table", "astray", "astray.table")
+# The report and the trace of a replay by plain nodes, and by eager ones.
+REPLAYS = ((["replay"], ["trace"]), (["eager"], ["eager", "trace"]))
 REFUSED = 2
 # How often each random trace is broken.
 BROKEN = 6
@@ -97,20 +99,21 @@ def broken(chance, trace):
     return "\n".join(lines).encode()
 
 
-def printed(program, word, given):
+def printed(program, words, given):
     """What a program prints, and its status. What isn't in the grammar is told by the status alone."""
-    done = subprocess.run([program, word], input=given, stdout=subprocess.PIPE, stderr=subprocess.DEVNULL, check=False)
+    done = subprocess.run([program, *words], input=given, stdout=subprocess.PIPE, stderr=subprocess.DEVNULL,
+                          check=False)
     return (b"" if done.returncode == REFUSED else done.stdout), done.returncode
 
 
-def are_same(programs, chance, given):
-    """Whether both programs print the same of a job, and of its trace, whole and broken."""
+def are_same(programs, chance, given, report, told):
+    """Whether both programs print the same report of a job, and the same of its trace, whole and broken."""
     first, second = programs
-    trace, status = printed(first, "trace", given)
+    trace, status = printed(first, told, given)
     lists = [trace, *(broken(chance, trace) for _ in range(BROKEN))]
-    return (printed(second, "trace", given) == (trace, status)
-            and printed(first, "replay", given) == printed(second, "replay", given)
-            and all(printed(first, "check", events) == printed(second, "check", events) for events in lists))
+    return (printed(second, told, given) == (trace, status)
+            and printed(first, report, given) == printed(second, report, given)
+            and all(printed(first, ["check"], events) == printed(second, ["check"], events) for events in lists))
 
 
 def compare(programs, jobs, seed):
@@ -118,7 +121,7 @@ def compare(programs, jobs, seed):
     chance, same = random.Random(seed), 0
     for _ in range(jobs):
         given = random_job(chance)
-        is_same = are_same(programs, chance, given)
+        is_same = all([are_same(programs, chance, given, *words) for words in REPLAYS])
         if not is_same:
             print(f"not the same of this job:\n{given.decode()}")
         same += is_same
@@ -132,7 +135,7 @@ def stored_cases():
         if line.startswith((b"legal", b"illegal")):
             wanted = line.rstrip(b"\n") + b"\n"
             cases.append(trying.Case(name, ["check"], trace, wanted, run_cases.wanted_status(wanted)))
-    return [case for case in cases if case.words[0] in ("replay", "trace", "check")]
+    return [case for case in cases if case.words[0] in ("replay", "eager", "trace", "check")]
 
 
 def main():
@@ -150,7 +153,8 @@ def main():
         if given.jobs:
             same = compare((given.program, plain), given.jobs, given.seed)
             failed += given.jobs - same
-            print(f"random: {same} of {given.jobs} jobs have the same report, trace and {1 + BROKEN} verdicts")
+            print(f"random: of {same} of {given.jobs} jobs, by plain and by eager nodes, report, trace and "
+                  f"{1 + BROKEN} verdicts are the same")
     return 1 if failed else 0
 
 

@@ -29,6 +29,7 @@ import re
 import sys
 
 import trying
+from beginning import begin
 from bound_jobs import (
     BATCHES, BoundCase, MOST_BUDGET, cycle, followers_stopped, steps_after, steps_enough, steps_in_any_ring, written)
 from programs import EXAMPLES
@@ -235,4 +236,5 @@ def stop_cases():
 
 
 if __name__ == "__main__":
+    begin(__doc__)
     sys.exit(trying.run_or_write(sys.argv[1:], list(stop_cases()), "stop"))

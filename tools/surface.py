@@ -15,6 +15,8 @@ import os
 import re
 import sys
 
+from beginning import begin
+
 TOP = os.path.dirname(os.path.dirname(os.path.realpath(__file__)))
 CRATES = os.path.join(TOP, "crates")
 LEMMA_FILE = re.compile(r"Rattle\.(\w+)\.proofs\.(\w+)")
@@ -141,6 +143,7 @@ def judged():
 
 
 def main():
+    begin(__doc__)
     count, found = judged()
     for where in sum(found, []):
         print(where)

@@ -19,6 +19,7 @@ import tempfile
 import time
 
 sys.path.insert(0, os.path.dirname(os.path.realpath(__file__)))
+from beginning import begin
 from judged_table import judged
 from own_traces import OWN, PLACE, RUNS, c_compiler, cxx_compiler
 from programs import TOP
@@ -160,6 +161,7 @@ def iter_to_end(lines):
 
 
 def main():
+    begin(__doc__)
     if not os.path.exists(ARCHIVE):
         print("try_library: there is no out/libmu.a: ./library builds it")
         return 1

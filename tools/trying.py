@@ -7,7 +7,9 @@ import shutil
 import subprocess
 import tempfile
 
-from programs import CRATE_OF, CRATES, TOP, proved_program, tell
+import unproved
+from programs import CRATES, TOP, crate_of, proved_program, tell
+from telling import telling
 
 # The crate in which the tests of several crates are built.
 MERGED = "merged_tests"
@@ -46,6 +48,22 @@ class Case:
         if self.status is not None and answer.status != self.status:
             return f"has status {answer.status}, not {self.status}"
         return None
+
+
+class BeginningCase(Case):
+    """A run of whose output only the beginning is known."""
+
+    def trouble(self, answer):
+        begun = Answer(answer.state, answer.status, answer.output[:len(self.wanted)], answer.told)
+        return super().trouble(begun)
+
+
+class EndingCase(Case):
+    """A run of whose output only the end is known."""
+
+    def trouble(self, answer):
+        end = answer.output[max(len(answer.output) - len(self.wanted), 0):]
+        return super().trouble(Answer(answer.state, answer.status, end, answer.told))
 
 
 class SummedCase(Case):
@@ -135,57 +153,45 @@ def count_of_tests(crate):
     return count
 
 
-def without(tests, text):
-    """The text of a file without some tests."""
-    for name in tests:
-        text, count = re.subn(rf"#\[test\]\nfn {name}\(.*?\n}}\n", "", text, flags=re.DOTALL)
-        if count != 1:
-            raise NotBuilt(f"there is no test {name}, which is to be left out")
-    return text
-
-
-def write_module(crate, left, sources):
+def write_module(crate, sources):
     """Writes a crate as a module of that name: its root file, and the others in a folder."""
     for name in os.listdir(os.path.join(CRATES, crate, "src")):
         with open(os.path.join(CRATES, crate, "src", name), encoding="utf-8") as source:
             text = source.read().replace("crate::", f"crate::{crate}::").replace("#![tactic(auto)]\n", "")
-        module = name[:-len(".rt")]
-        text = without([test[len(module) + 2:] for test in left if test.startswith(module + "::")], text)
         path = os.path.join(sources, crate + ".rt" if name == "lib.rt" else os.path.join(crate, name))
         os.makedirs(os.path.dirname(path), exist_ok=True)
         with open(path, "w", encoding="utf-8") as out:
             out.write(text)
 
 
-def write_merged(left_of, room):
+def write_merged(crates, room):
     """A copy of the sources with one more crate, whose modules are some crates: its folder.
 
-    So the tests of several crates are built once: a build takes a minute of a processor. Tests that
-    are to be left out aren't in it.
+    So the tests of several crates are built once: a build takes a minute of a processor.
     """
-    kept = shutil.ignore_patterns("out", "specs", "proofs", "must-fail")
+    kept = shutil.ignore_patterns("out", "specs", "proofs", "must-fail", "edits")
     shutil.copytree(CRATES, os.path.join(room, "crates"), ignore=kept)
     shutil.copy(os.path.join(TOP, "HANDLES"), room)
     sources = os.path.join(room, "crates", MERGED, "src")
-    for crate, left in left_of.items():
-        write_module(crate, left, sources)
+    for crate in crates:
+        write_module(crate, sources)
     with open(os.path.join(sources, "lib.rt"), "w", encoding="utf-8") as root:
-        root.write("#![tactic(auto)]\n" + "".join(f"#[cfg(test)]\nmod {crate};\n" for crate in left_of))
+        root.write("#![tactic(auto)]\n" + "".join(f"#[cfg(test)]\nmod {crate};\n" for crate in crates))
     with open(os.path.join(TOP, "crates.txt"), encoding="utf-8") as lines:
         listed = lines.read()
-    below = {it for crate in left_of for it in re.search(rf"^{crate}\b.*:(.*)$", listed, re.MULTILINE)[1].split()}
+    below = {it for crate in crates for it in re.search(rf"^{crate}\b.*:(.*)$", listed, re.MULTILINE)[1].split()}
     with open(os.path.join(room, "crates.txt"), "w", encoding="utf-8") as out:
         out.write(f"{listed.rstrip()}\n{MERGED}: {' '.join(sorted(below))}\n")
     return os.path.dirname(sources)
 
 
-def try_tests(left_of):
-    """Runs the tests of some crates but for those that are left out, in one build.
+def try_tests(crates):
+    """Runs the tests of some crates in one build.
 
     Which passed and which failed, with their crates, and what was said of these.
     """
     with tempfile.TemporaryDirectory(prefix="tests-") as room:
-        done = rt_try(write_merged(left_of, room), "--test")
+        done = rt_try(write_merged(crates, room), "--test")
     results = TEST_LINE.findall(done.stdout)
     if not results:
         told = done.stderr.decode(errors="replace").strip()
@@ -211,10 +217,15 @@ def run_cases(path, cases):
     return answers
 
 
+def program_of(name):
+    """A program: the proved one if ./prove left it, else the unproved one that a build keeps; None if none can be kept."""
+    return proved_program(name) or unproved.kept(name) or unproved.built(name)
+
+
 def answers_of(name, cases):
-    """The answers of a program: the proved one if ./prove left it, else one unproved build."""
-    path = proved_program(name)
-    return run_cases(path, cases) if path else try_cases(CRATE_OF[name], cases)
+    """The answers of a program, or of one that is built for them alone."""
+    path = program_of(name)
+    return run_cases(path, cases) if path else try_cases(crate_of(name), cases)
 
 
 def troubles(cases, answers):
@@ -237,5 +248,6 @@ def run_or_write(words, cases, name):
             with open(os.path.join(words[1], f"{name}{number:04d}"), "wb") as out:
                 out.write(case.given)
         return 0
-    wrong = troubles(cases, run_cases(words[0], cases) if words else answers_of("mu", cases))
+    with telling(lambda seconds: f"{name}: {len(cases)} cases: {seconds} s so far"):
+        wrong = troubles(cases, run_cases(words[0], cases) if words else answers_of("mu", cases))
     return tell(wrong, f"{len(cases) - len(wrong)} passed, {len(wrong)} failed")

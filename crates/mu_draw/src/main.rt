@@ -10,9 +10,6 @@
 //! `read fault`, `no memory` or `too long`; or how the program is called.
 #![tactic(auto)]
 
-#[cfg(test)]
-mod tests;
-
 use mu_drawing::{answer, draw, unread};
 use mu_io::{StdSink, StdSource};
 use mu_shell::words_after_name;

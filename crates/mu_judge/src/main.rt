@@ -13,8 +13,6 @@
 
 mod cutting;
 mod judging;
-#[cfg(test)]
-mod tests;
 
 pub use cutting::cut;
 pub use judging::{End, INPUT_LIMIT, judge_input, limit_is_stated, status};

@@ -1,11 +1,9 @@
-//! The stated job: its first ten commands, and the replies to all of them, counted.
-ghost use Rattle.std.specs.Prelude.{◌<◌, ◌≤◌};
-
+//! The first ten commands of the stated job.
 use crate::spelled::command;
-use kv_store::{Command, Reply, Store};
+use kv_store::Command;
 use mu_input::bulk;
 use mu_model::NoMemory;
-use std::alloc::{AllocError, Global};
+use std::alloc::Global;
 use std::test::Fail;
 
 /// Client, number and line of each of the first ten commands.
@@ -44,44 +42,5 @@ fn are_ten(alloc: Global, spellings: &[(u8, u16, &str); 10]) -> Result<bool, NoM
 #[test]
 fn bulk_ten(rt: HostRuntime) -> Result<(), Fail> {
     assert!(rt; are_ten(rt.alloc(), &FIRST_TEN)?);
-    Ok(())
-}
-
-/// Where a reply is counted: done, a value, none and a kept value.
-fn kind_of(reply: &Reply) -> usize
-    ensures { result < 4 }
-{
-    match reply {
-        Reply::Done => 0,
-        Reply::Value(_) => 1,
-        Reply::None => 2,
-        Reply::Kept(_) => 3,
-    }
-}
-
-/// How many replies of a new store to the commands are done, a value, none and a kept value.
-fn counted(alloc: Global, commands: &[Command]) -> Result<[u64; 4], AllocError> {
-    let mut store = Store::with_room(alloc, commands.len())?;
-    let mut counts = [0u64; 4];
-    for command in commands {
-        let kind = kind_of(&store.apply(command));
-        counts[kind] = counts[kind].wrapping_add(1);
-    }
-    Ok(counts)
-}
-
-/// The same for the stated job with this many commands.
-fn counted_of(alloc: Global, count: u16) -> Result<[u64; 4], Fail>
-    requires { count ≤ 1500 }
-{
-    let job = bulk(alloc, count)?;
-    Ok(counted(alloc, job.commands.as_slice())?)
-}
-
-#[test]
-fn replies_to_all(rt: HostRuntime) -> Result<(), Fail> {
-    for (count, wanted) in [(10, [4, 1, 4, 1]), (1_500, [749, 299, 302, 150])] {
-        assert_eq!(rt; counted_of(rt.alloc(), count)?, wanted, "{count}");
-    }
     Ok(())
 }

@@ -1,31 +1,19 @@
-//! The worked rows of all crates: figures, lists of events and texts from outside, compared with
-//! what the public calls make of them.
+//! The worked rows of all crates that only a call can say: figures, lists of events and texts from
+//! outside, compared with what the public calls make of them. What the program can say is in `cases/`.
 #![tactic(auto)]
 
 #[cfg(test)]
 mod bulk_jobs;
 #[cfg(test)]
-mod event_lines;
-#[cfg(test)]
 mod event_scripts;
 #[cfg(test)]
 mod grants;
-#[cfg(test)]
-mod jobs;
 #[cfg(test)]
 mod laws;
 #[cfg(test)]
 mod memories;
 #[cfg(test)]
 mod model;
-#[cfg(test)]
-mod more_order_cases;
-#[cfg(test)]
-mod order_cases;
-#[cfg(test)]
-mod orders;
-#[cfg(test)]
-mod refusals;
 #[cfg(test)]
 mod rows;
 #[cfg(test)]

@@ -1,5 +1,5 @@
-//! Operations, commands and replies from the texts that spell them.
-use kv_store::{Command, Key, Op, Reply, Text};
+//! Operations and commands from the texts that spell them.
+use kv_store::{Command, Key, Op, Text};
 
 pub(crate) fn key(name: &str) -> Option<Key> {
     Key::new(name.as_bytes())
@@ -33,22 +33,4 @@ pub(crate) fn op(line: &str) -> Option<Op> {
 /// The command that a line of a job spells, of this client and with this number.
 pub(crate) fn command(client: u8, number: u16, line: &str) -> Option<Command> {
     Command::new(client, number, op(line)?)
-}
-
-/// The reply that a line of a report spells.
-pub(crate) fn reply(line: &str) -> Option<Reply> {
-    let mut words = line.split(' ');
-    let kind = words.next()?;
-    if kind == "done" {
-        return Some(Reply::Done);
-    }
-    if kind == "none" {
-        return Some(Reply::None);
-    }
-    let held = text(words.next()?)?;
-    Some(if kind == "value" {
-        Reply::Value(held)
-    } else {
-        Reply::Kept(held)
-    })
 }

@@ -1,57 +1,7 @@
-//! Replies of whole runs, and the bounds of each kind of value.
-use crate::spelled::{command, key, op, reply, text};
+//! The bounds of each kind of value, and looks at a store.
+use crate::spelled::{command, key, op, text};
 use kv_store::{Command, Key, Store, Text};
-use std::alloc::{AllocError, Global};
 use std::test::Fail;
-
-/// Operations, and what a new store replies to them one after the other.
-const RUNS: [&[(&str, &str)]; 4] = [
-    &[("put a 5", "done"), ("get a", "value 5")],
-    &[
-        ("del a", "none"),
-        ("get a", "none"),
-        ("put a 5", "done"),
-        ("del a", "done"),
-        ("get a", "none"),
-    ],
-    &[
-        ("put a 5", "done"),
-        ("put b 7", "done"),
-        ("get a", "value 5"),
-        ("swap a 9", "value 5"),
-        ("cas a 5 6", "kept 9"),
-        ("cas a 9 1", "done"),
-    ],
-    &[
-        ("put k0 v0", "done"),
-        ("get k1", "none"),
-        ("swap k2 v2", "none"),
-        ("cas k0 v0 v3", "done"),
-        ("del k1", "none"),
-        ("put k2 v5", "done"),
-        ("get k0", "value v3"),
-        ("swap k1 v7", "none"),
-        ("cas k2 x v8", "kept v5"),
-        ("del k0", "done"),
-    ],
-];
-
-/// The number of the first operation to which a new store replies otherwise.
-fn first_wrong(alloc: Global, run: &[(&str, &str)]) -> Result<Option<usize>, AllocError> {
-    let mut store = Store::with_room(alloc, run.len())?;
-    let mut wrong = None;
-    for step in 0..run.len() {
-        let (line, wanted) = run[step];
-        let is_right = match command(0, 1, line) {
-            Some(command) => Some(store.apply(&command)) == reply(wanted),
-            None => false,
-        };
-        if !is_right && wrong.is_none() {
-            wrong = Some(step);
-        }
-    }
-    Ok(wrong)
-}
 
 /// Commands for which a store takes about 600 MB. No machine of today's size has room for many
 /// times that, so the test fails if a store takes more than it was asked for.
@@ -62,14 +12,6 @@ fn takes_no_more_room_than_asked(rt: HostRuntime) -> Result<(), Fail> {
     let name = key("a").ok_or("no key")?;
     let store = Store::with_room(rt.alloc(), MANY_COMMANDS)?;
     assert_eq!(rt; store.look(&name), None);
-    Ok(())
-}
-
-#[test]
-fn replies_in_turn(rt: HostRuntime) -> Result<(), Fail> {
-    for (index, &run) in RUNS.iter().enumerate() {
-        assert_eq!(rt; first_wrong(rt.alloc(), run)?, None, "run {index}");
-    }
     Ok(())
 }
 
@@ -99,17 +41,6 @@ fn words_have_bounds(rt: HostRuntime) {
         );
         assert_eq!(rt; made, (allowed, allowed), "with {byte}");
     }
-}
-
-#[test]
-fn words_give_their_bytes(rt: HostRuntime) -> Result<(), Fail> {
-    let (name, held) = (
-        key("~key!").ok_or("no key")?,
-        text("a-text").ok_or("no text")?,
-    );
-    assert_eq!(rt; name.as_bytes(), b"~key!".as_slice());
-    assert_eq!(rt; held.as_bytes(), b"a-text".as_slice());
-    Ok(())
 }
 
 /// Client and number of an operation, and whether that is a command.

@@ -1,7 +1,7 @@
-//! Verdicts on the scripts, and on lists that differ from them.
+//! The verdict on an event that no trace can have.
 ghost use Rattle.mu_model.specs.Contents.{IsConfig};
 
-use crate::event_scripts::{JOB, LATE_EXCHANGE, SCRIPTS, Step, config, events_of};
+use crate::event_scripts::{JOB, Step, config, events_of};
 use mu_check::{Verdict, Wrong, check};
 use mu_model::{Answer, Config, Event, NoMemory, Verb};
 use std::alloc::Global;
@@ -25,73 +25,16 @@ fn verdict_of(alloc: Global, pieces: &[&[Step]]) -> Result<Option<Verdict>, Fail
     Ok(verdict_on(alloc, &config, events.as_slice())?)
 }
 
-#[test]
-fn judges_scripts(rt: HostRuntime) -> Result<(), Fail> {
-    for (name, _, pieces) in SCRIPTS {
-        let verdict = verdict_of(rt.alloc(), pieces)?;
-        assert_eq!(rt; verdict, Some(Verdict::Legal), "{name}");
-    }
-    Ok(())
-}
-
-/// `Done` was due.
-const DONE_WAS_DUE: Wrong = Wrong::WrongAnswer {
-    expected: Answer::Done,
-};
-
-/// `Missed` was due.
-const MISSED_WAS_DUE: Wrong = Wrong::WrongAnswer {
-    expected: Answer::Missed,
-};
-
-/// The verdict on the late exchange with the event at the index replaced by the step.
-fn changed_at(alloc: Global, index: usize, step: Step) -> Result<Option<Verdict>, Fail> {
-    let (_, _, pieces) = LATE_EXCHANGE;
-    let (by, verb, answer) = step;
-    let config = config(alloc, JOB)?;
-    let mut events = events_of(alloc, pieces)?;
-    if index < events.len() {
-        events[index] = Event { by, verb, answer };
-    }
-    Ok(verdict_on(alloc, &config, events.as_slice())?)
-}
-
-/// Indexes of the late exchange, the step that stands there instead, and what is wrong with it.
-const CHANGED: [(u32, Step, Wrong); 2] = [
-    (24, (0, Verb::PutMin(1, 8), Answer::Done), MISSED_WAS_DUE),
-    (
-        14,
-        (0, Verb::PutMin(0, 16), Answer::Done),
-        Wrong::NotAllowed,
-    ),
-];
+/// A beat of a replica that isn't one of the three.
+const OF_NOBODY: Step = (3, Verb::Beat, Answer::Done);
 
 #[test]
-fn judges_changed_scripts(rt: HostRuntime) -> Result<(), Fail> {
-    for (index, step, cause) in CHANGED {
-        let verdict = changed_at(rt.alloc(), index as usize, step)?;
-        assert_eq!(rt; verdict, Some(Verdict::Illegal { index, cause }));
-    }
-    Ok(())
-}
-
-/// Events that are wrong before all others.
-const FIRST: [(Step, Wrong); 4] = [
-    (
-        (0, Verb::PutSlot(0, 65_535, 8, 0), Answer::Done),
-        Wrong::NotAllowed,
-    ),
-    ((0, Verb::RaiseHead(0), Answer::Done), Wrong::NotAllowed),
-    ((3, Verb::Beat, Answer::Done), Wrong::NotAllowed),
-    ((0, Verb::Beat, Answer::Missed), DONE_WAS_DUE),
-];
-
-#[test]
-fn judges_first_events(rt: HostRuntime) -> Result<(), Fail> {
-    for (step, cause) in FIRST {
-        let verdict = verdict_of(rt.alloc(), &[&[step]])?;
-        let wanted = Verdict::Illegal { index: 0, cause };
-        assert_eq!(rt; verdict, Some(wanted), "{step:?}");
-    }
+fn judges_an_event_of_nobody(rt: HostRuntime) -> Result<(), Fail> {
+    let verdict = verdict_of(rt.alloc(), &[&[OF_NOBODY]])?;
+    let wanted = Verdict::Illegal {
+        index: 0,
+        cause: Wrong::NotAllowed,
+    };
+    assert_eq!(rt; verdict, Some(wanted));
     Ok(())
 }

@@ -13,6 +13,9 @@ impl Replica<'_> {
             self.give_up();
             return self.idle_replication(led, port);
         }
+        if self.eager && self.lead.leads && self.has_astray() {
+            self.give_up();
+        }
         self.lead.place = match self.lead.place {
             Place::Ask(p) => self.ask(p, port),
             Place::Confirm(round, p) => self.confirm(round, p, port),
@@ -86,6 +89,16 @@ impl Replica<'_> {
         };
     }
 
+    /// Whether a region has gone astray: it is no member, its host isn't held to be failed, and it
+    /// was seen open to another 16 times in a row.
+    fn has_astray(&self) -> bool {
+        (0..self.job.replicas).any(|p| {
+            self.lead.foreign[usize::from(p)] == 16
+                && self.lead.members & 1 << p == 0
+                && self.scores.failed & 1 << p == 0
+        })
+    }
+
     fn give_up(&mut self) {
         self.lead.leads = false;
         self.lead.place = Place::Ask(0);
@@ -101,6 +114,8 @@ impl Replica<'_> {
         if p == 0 {
             self.lead.noted = 0;
             self.lead.members = 0;
+            self.lead.foreign = [0; 7];
+            self.lead.is_numbered = false;
             self.lead.above = self.lead.greatest_put;
         }
         port.ask(p);
@@ -119,6 +134,10 @@ impl Replica<'_> {
             self.lead.fences[usize::from(p)] = word;
         } else {
             self.lead.noted &= !(1 << p);
+        }
+        if self.lead.is_numbered {
+            let foreign = &mut self.lead.foreign[usize::from(p)];
+            *foreign = if words::is_foreign(word, self.id) { 16.min(*foreign + 1) } else { 0 };
         }
     }
 
@@ -185,6 +204,7 @@ impl Replica<'_> {
     fn join<M: Memory, R: Record>(&mut self, p: u8, port: &mut Port<M, R>) -> bool {
         let number = self.lead.number;
         self.lead.greatest_put = number;
+        self.lead.is_numbered = true;
         let landed = port.put_min(p, &mut self.lead.minima[usize::from(p)], number);
         if landed {
             self.lead.members |= 1 << p;
@@ -295,6 +315,7 @@ impl Replica<'_> {
         if p == self.id {
             self.own_fuo = self.own_fuo.max(to);
         }
+        self.idle_cycles = 0;
         port.raise_fuo(p, to);
     }
 

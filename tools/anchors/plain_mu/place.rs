@@ -67,6 +67,10 @@ pub struct Leader {
     /// The value that is put.
     pub value: u16,
     pub greatest_put: u32,
+    /// How many times in a row each region was seen open to another under the number, up to 16.
+    pub foreign: [u8; 7],
+    /// Whether the leadership has its number.
+    pub is_numbered: bool,
 }
 
 impl Default for Leader {
@@ -89,6 +93,8 @@ impl Default for Leader {
             best: None,
             value: 0,
             greatest_put: 0,
+            foreign: [0; 7],
+            is_numbered: false,
         }
     }
 }

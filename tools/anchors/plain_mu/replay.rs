@@ -52,12 +52,12 @@ impl Seat<'_> {
 }
 
 /// Lets the replicas take their turns until each has ended.
-pub fn replay<R: Record>(job: &Job, record: &mut R) -> Vec<Result> {
+pub fn replay<R: Record>(job: &Job, eager: bool, record: &mut R) -> Vec<Result> {
     let layout = layout_of(job);
     let memory = Plain(layout.first_words().map(Cell::new).collect());
     let mut seats: Vec<Seat> = (0..job.replicas)
         .map(|id| {
-            let replica = Replica::new(job, id, false);
+            let replica = Replica::new(job, id, eager);
             Seat { pauses: &replica.script().pauses, replica, waited: 0, end: None }
         })
         .collect();

@@ -52,6 +52,10 @@ pub struct Replica<'a> {
     whole: u16,
     /// How many reads of the beats of another, in a row before the last step, found what it found.
     pub silence: u32,
+    /// In how many cycles, in a row, it got nothing done: each ends when the asks of replica 0 are read.
+    pub idle_cycles: u32,
+    /// How many of these the last step ended: all of them, or none.
+    pub idle_ended: u32,
     pub outrun: Option<(u8, u16)>,
     pub commits: u16,
 }
@@ -84,6 +88,8 @@ impl<'a> Replica<'a> {
             reading: None,
             whole: 0,
             silence: 0,
+            idle_cycles: 0,
+            idle_ended: 0,
             outrun: None,
             commits: 0,
         }
@@ -123,6 +129,7 @@ impl<'a> Replica<'a> {
         let is_background = self.steps & 1 == 0;
         self.steps += 1;
         self.silence = 0;
+        self.idle_ended = 0;
         if is_background {
             let place = self.place;
             let places = 2 * self.job.replicas + 22;
@@ -143,6 +150,10 @@ impl<'a> Replica<'a> {
             let q = if place <= self.id { place - 1 } else { place };
             self.silence = self.scores.read(q, port);
             return;
+        }
+        if place == n {
+            self.idle_cycles += 1;
+            self.idle_ended = self.idle_cycles;
         }
         if place < 2 * n {
             return self.host.read_ask(place - n, port);
@@ -219,6 +230,7 @@ impl<'a> Replica<'a> {
     /// Reads word `k` of a row, which was due.
     fn read_word<M: Memory, R: Record>(&mut self, row: u16, k: u8, port: &mut Port<M, R>) -> bool {
         let word = port.read_row(row, k);
+        self.idle_cycles = 0;
         self.applying.take(row, k, word);
         self.reading = if k < 11 { Some(row) } else { None };
         true
@@ -235,6 +247,7 @@ impl<'a> Replica<'a> {
             return false;
         }
         self.own_fuo = self.filled_to;
+        self.idle_cycles = 0;
         port.raise_fuo(self.id, self.filled_to);
         true
     }
@@ -247,6 +260,7 @@ impl<'a> Replica<'a> {
             return false;
         }
         self.own_head = head;
+        self.idle_cycles = 0;
         port.raise_head(head);
         true
     }
@@ -261,8 +275,11 @@ impl<'a> Replica<'a> {
     }
 
     pub fn read_head<M: Memory, R: Record>(&mut self, q: u8, port: &mut Port<M, R>) -> u16 {
-        let head = port.head(q);
-        self.heads[usize::from(q)] = head;
+        let (head, last) = (port.head(q), &mut self.heads[usize::from(q)]);
+        if head > *last {
+            self.idle_cycles = 0;
+        }
+        *last = head;
         self.heads_read |= 1 << q;
         head
     }
@@ -278,6 +295,7 @@ impl<'a> Replica<'a> {
 
     pub fn write_word<M: Memory, R: Record>(&mut self, row: u16, port: &mut Port<M, R>) {
         let (k, word) = self.applying.write(row);
+        self.idle_cycles = 0;
         port.write_row(row, k, word);
     }
 

@@ -8,15 +8,25 @@ use std::sync::atomic::AtomicU64;
 use std::thread;
 use std::time::Duration;
 
-/// Lets the other threads on, as `docs/THREADS.md` tells of silences.
-fn rest(silence: u32) {
-    let microseconds = match silence {
-        0 | 15.. => return,
-        1 => return thread::yield_now(),
+/// Lets the other threads on for a silence and for idle cycles, as `docs/THREADS.md` tells.
+fn rest(silence: u32, idle_cycles: u32) {
+    if silence == 1 {
+        thread::yield_now();
+    }
+    let for_silence = match silence {
         2..=6 => 4u64.pow(silence - 2),
-        _ => 512,
+        7..=14 => 512,
+        _ => 0,
     };
-    thread::sleep(Duration::from_micros(microseconds));
+    let for_idle_cycles = match idle_cycles {
+        0..=3 => 0,
+        4..=7 => 4u64.pow(idle_cycles - 2),
+        _ => 2048,
+    };
+    let microseconds = for_idle_cycles.max(for_silence);
+    if microseconds > 0 {
+        thread::sleep(Duration::from_micros(microseconds));
+    }
 }
 
 /// The turns of one replica until it has ended.
@@ -27,7 +37,7 @@ fn drive(mut replica: Replica, memory: &Shared, layout: Layout) -> Result {
         if let Some((_, rounds)) = pauses.next_if(|pause| pause.0 == replica.steps) {
             (0..*rounds).for_each(|_| thread::yield_now());
         }
-        rest(replica.silence);
+        rest(replica.silence, replica.idle_ended);
         let mut port = Port { memory, layout, by, record: &mut Nothing };
         if let Some(end) = replica.turn(&mut port) {
             return Result::of(replica, end);

@@ -172,6 +172,12 @@ pub fn is_granted(fence: u64, to: u8) -> bool {
     fence & (CLOSING | 7 << OWNER_SHIFT) == u64::from(to) << OWNER_SHIFT
 }
 
+/// Whether the fence is open, and granted to another than the replica.
+pub fn is_foreign(fence: u64, than: u8) -> bool {
+    let owner = owner_of(fence);
+    !is_closing(fence) && owner != 7 && owner != u64::from(than)
+}
+
 /// What a slot shows of a position.
 #[derive(Clone, Copy)]
 pub enum Seen {
