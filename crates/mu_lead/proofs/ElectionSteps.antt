@@ -77,7 +77,7 @@ asks_quiet c r p now quiet = record {
 one_more : (round n p : ℕ) → n ≤ (round + 1) * n + p
 one_more round n p = let one = suc-mul round n in omega (arith, one)
 
-fences_quiet : (c : Config) (r round p : ℕ) (now : List Event) → Quiet c r now → FencesNext c r now round p
+pub fences_quiet : (c : Config) (r round p : ℕ) (now : List Event) → Quiet c r now → FencesNext c r now round p
 fences_quiet c r round p now quiet = record {
   asks = λ q low. under_zero (since_ask c r q now) q ((round + 1) * c.replicas + p) c.replicas (quiet.asks q) low (one_more round c.replicas p);
   fenced = λ q low. below_zero (since_fence c r q now) q p (quiet.fences q) low;

@@ -1,9 +1,11 @@
 -- The leader's place, tables and number are those of its journal.
+use Rattle.mu_lead.proofs.Asking.{begins_not, begins_now}
+use Rattle.mu_lead.proofs.ElectionSteps.{is_ask, verb_asks_none}
 use Rattle.mu_lead.proofs.Lates.{fence_ends}
 use Rattle.mu_lead.proofs.Says.{said_next}
 use Rattle.mu_lead.specs.Beside.{leads_at, writes_row}
 use Rattle.mu_lead.specs.Going.{begins_at, going_after}
-use Rattle.mu_lead.specs.Journal.{HasLeft, IsWhere, PlacesNext, WritesNext, due_after, least_above, number_due, number_or, place_after, tables_at, tables_beside, tables_with}
+use Rattle.mu_lead.specs.Journal.{HasLeft, IsWhere, PlacesNext, WritesNext, due_after, least_above, number_due, number_or, place_after, place_before, tables_at, tables_beside, tables_with}
 use Rattle.mu_lead.specs.Lasting.{Follows, tables_of}
 use Rattle.mu_lead.specs.Listing.{Tables, next_place}
 use Rattle.mu_lead.specs.Losses.{LosesEntering, LosesReading}
@@ -15,11 +17,11 @@ use Rattle.mu_lead.specs.declared.lead.Lead.{Lead}
 use Rattle.mu_lead.specs.declared.note.AbortCause.{AbortCause}
 use Rattle.mu_lead.specs.declared.note.Note.{Note}
 use Rattle.mu_lead.specs.declared.place.Place.{Place}
-use Rattle.mu_model.proofs.Basics.{event_by, same_some}
+use Rattle.mu_model.proofs.Basics.{event_by, same_number, same_some}
 use Rattle.mu_model.specs.Entering.{any_min_read, number_allowed}
 use Rattle.mu_model.specs.Histories.{greatest, or_zero}
 use Rattle.mu_model.specs.Knowledge.{known}
-use Rattle.mu_model.specs.Leaderships.{is_above, is_member, is_over, leadership, number_put, proposal_number}
+use Rattle.mu_model.specs.Leaderships.{begins_leadership, is_above, is_member, is_over, leadership, number_put, proposal_number}
 use Rattle.mu_model.specs.Parts.{IsPossible}
 use Rattle.mu_model.specs.Scores.{leader}
 use Rattle.mu_model.specs.Steps.{is_named}
@@ -31,7 +33,7 @@ use Rattle.mu_model.specs.declared.event.Fence.{Fence}
 use Rattle.mu_model.specs.declared.event.Target.{Target}
 use Rattle.mu_model.specs.declared.event.Verb.{Verb}
 use Rattle.std.proofs.Common.{Bool, List, None, Some, ap, arith, false, get_or, inl, inr, max, refl, subst, sym, true, true≢false, ℕ, ◌%◌, ◌&&◌, ◌*◌, ◌+◌, ◌/◌, ◌<◌, ◌==◌, ◌||◌, ◌∙◌, ◌∷◌, ◌≡◌, ◌≤◌}
-use Rattle.std.proofs.lemmas.Bool.{ltb-false, ltb-true}
+use Rattle.std.proofs.lemmas.Bool.{cases_eq, ltb-false, ltb-true}
 use Rattle.std.specs.Prelude.{if◌then◌else◌, nat_lt, not, ◌⊎◌}
 use Rattle.std.specs.declared.option.Option.{Option}
 
@@ -75,7 +77,7 @@ same_number_place c r b mine now up reach written t a (Place.LateMin p) at = ap 
 same_number_place c r b mine now up reach written t a place at = refl
 
 -- a replication step of r, if it is named and if it isn't
-led_place : (c : Config) (r : ℕ) (mine : List Event) (e : Event) → is_replication mine e ≡ true → is_named c r mine ≡ true → place_after c r (e ∷ mine) ≡ next_place c r (or_zero (proposal_number r mine)) (e ∷ mine) (tables_at c r (e ∷ mine)) e.answer (place_after c r mine)
+led_place : (c : Config) (r : ℕ) (mine : List Event) (e : Event) → is_replication mine e ≡ true → is_named c r mine ≡ true → place_after c r (e ∷ mine) ≡ next_place c r (or_zero (proposal_number r mine)) (e ∷ mine) (tables_at c r (e ∷ mine)) e.answer (place_before r e (place_after c r mine))
 led_place c r mine e turn named = rw (turn, named) refl
 
 pub unnamed_place : (c : Config) (r : ℕ) (mine : List Event) (e : Event) → is_replication mine e ≡ true → is_named c r mine ≡ false → place_after c r (e ∷ mine) ≡ Place.Ask 0
@@ -178,14 +180,63 @@ aborts_anew mine old values answer note verb t s noted due possible told aborted
     go (Note.Aborted (AbortCause.Higher p m)) is aborted = told_higher p m (((said_next mine old values answer note verb s noted due possible told).reads.higher p m).0 is)
     go n is aborted = absurd (true≢false (sym aborted))
 
+-- the verb of a place begins a leadership only at the first ask
+other_begins : (r : ℕ) (verb : Verb) (a : Answer) → is_ask verb ≡ false → begins_leadership r (event_by r verb a) ≡ false
+other_begins r (Verb.Ask p) a none = absurd (true≢false none)
+other_begins r verb a none = refl
+
+first_before : (r p : ℕ) (a : Answer) → place_before r (event_by r (Verb.Ask p) a) (Place.Ask p) ≡ Place.Ask p
+first_before r p a = elim (cases_eq p 0) [
+  | inl first ↦ subst (λ q. place_before r (event_by r (Verb.Ask q) a) (Place.Ask q) ≡ Place.Ask q) (sym first) (rw (same_number r) refl)
+  | inr other ↦ ap (λ x. if x then Place.Ask 0 else Place.Ask p) (begins_not r p a other)
+]
+
+-- so the step is made from the place
+pub before_due : (c : Config) (r b : ℕ) (values up written : List ℕ) (place : Place) (verb : Verb) (a : Answer) → verb_at c b values up written place ≡ Some verb → place_before r (event_by r verb a) place ≡ place
+before_due c r b values up written (Place.Ask p) verb a due = subst (λ w. place_before r (event_by r w a) (Place.Ask p) ≡ Place.Ask p) (same_some (Verb.Ask p) verb due) (first_before r p a)
+before_due c r b values up written (Place.Confirm round p) verb a due = subst (λ w. place_before r (event_by r w a) (Place.Confirm round p) ≡ Place.Confirm round p) (same_some (Verb.Fence p) verb due) refl
+before_due c r b values up written (Place.Evidence p) verb a due = subst (λ w. place_before r (event_by r w a) (Place.Evidence p) ≡ Place.Evidence p) (same_some (Verb.Fence p) verb due) refl
+before_due c r b values up written place verb a due = ap (λ x. if x then Place.Ask 0 else place) (other_begins r verb a (verb_asks_none c b values up written place verb refl due))
+
+-- a leader that left its leadership makes the first ask, whatever place it left
+before_left : (c : Config) (r b : ℕ) (values up written : List ℕ) (place was : Place) (verb : Verb) (a : Answer) → place ≡ Place.Ask 0 → verb_at c b values up written place ≡ Some verb → place_before r (event_by r verb a) was ≡ place
+before_left c r b values up written place was verb a left due =
+    subst (λ w. place_before r (event_by r w a) was ≡ place) (same_some (Verb.Ask 0) verb (subst (λ p. verb_at c b values up written p ≡ Some verb) left due))
+    (ap (λ x. if x then Place.Ask 0 else was) (begins_now r a) ∙ sym left)
+
+-- the leader is where the step is made from
+record IsBefore (c : Config) (r : ℕ) (mine : List Event) (e : Event) (l : Lead) : Type 0 where
+  pub place : l.place ≡ place_before r e (place_after c r mine)
+  pub tables : tables_of l ≡ tables_at c r mine
+  pub idle : l.under_way ≡ false → l.place ≡ Place.Ask 0
+
+is_before : (mine : List Event) (old : Lead) (verb : Verb) (a : Answer) → verb_of old (known old.config old.id mine) ≡ Some verb → IsWhere old.config old.id mine old ⊎ HasLeft old.config old.id mine old → IsBefore old.config old.id mine (event_by old.id verb a) old
+is_before mine old verb a due at =
+    let c = old.config in
+    let r = old.id in
+    let values = known c r mine in
+    elim at [
+      | inl here ↦ record {
+        place = sym (before_due c r old.number values old.up old.written.items old.place verb a due) ∙ ap (place_before r (event_by r verb a)) here.place;
+        tables = here.tables;
+        idle = here.idle;
+      }
+      | inr left ↦ record {
+        place = sym (before_left c r old.number values old.up old.written.items old.place (place_after c r mine) verb a left.place due);
+        tables = left.tables;
+        idle = λ off. left.place;
+      }
+    ]
+
 -- a step of the leader, in a turn in which r is named
 pub where_led : (mine : List Event) (old new : Lead) (values : List ℕ) (answer : Answer) (note : Note) → StandsFor mine old → NotesNext mine old values answer note → WritesNext mine old values answer new → Follows mine old values answer new
     → new.under_way ≡ going_after (begins_at old.place || old.under_way) note → PlacesNext mine old values answer new
-where_led mine old new values answer note s noted writes follows going verb due possible told turn named at =
+where_led mine old new values answer note s noted writes follows going verb due possible told turn named was =
     let c = old.config in
     let r = old.id in
     let e = event_by r verb answer in
     let b = or_zero (proposal_number r mine) in
+    let at = is_before mine old verb answer due was in
     let place = follows verb due possible told in
     let tables : tables_of new ≡ tables_at c r (e ∷ mine) = writes verb due possible told ∙ ap (λ t. tables_with c r mine (e ∷ mine) t verb answer) at.tables ∙ sym (turn_tables c r mine e turn) in
     record {

@@ -43,7 +43,7 @@ pub quiet_at : (c : Config) (r q : ℕ) (mine : List Event) (e : Event) → is_f
 quiet_at c r q mine e none at = countdowns_run.joins.quiet c r q mine e (unfenced c r q mine e none) at
 
 -- an ask that begins a leadership ends all waiting
-none_begun : (c : Config) (r p : ℕ) (a : Answer) (mine : List Event) → p ≡ 0 → NoneWaits c r (event_by r (Verb.Ask p) a ∷ mine)
+pub none_begun : (c : Config) (r p : ℕ) (a : Answer) (mine : List Event) → p ≡ 0 → NoneWaits c r (event_by r (Verb.Ask p) a ∷ mine)
 none_begun c r p a mine first q =
     let e = event_by r (Verb.Ask p) a in
     shut (joining c r q) mine e (unallowed (is_welcoming c r q) (λ now. 4) mine e refl)

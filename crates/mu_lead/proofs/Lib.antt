@@ -1,6 +1,8 @@
+pub mod AskedAgain
 pub mod Ahead
 mod Allowing
 mod Asking
+mod Astray
 mod Bringing
 mod Calm
 pub mod Causes

@@ -31,6 +31,7 @@ use Rattle.mu_model.specs.Parts.{IsPossible}
 use Rattle.mu_model.specs.declared.config.Config.{Config}
 use Rattle.mu_model.specs.declared.event.Answer.{Answer}
 use Rattle.mu_model.specs.declared.event.Event.{Event}
+use Rattle.mu_model.specs.declared.event.Fence.{Fence}
 use Rattle.mu_model.specs.declared.event.Verb.{Verb}
 use Rattle.std.proofs.Common.{Bool, List, Some, ap, false, inl, inr, is_some, length, refl, subst, sym, true, ℕ, ◌+◌, ◌<◌, ◌∙◌, ◌∷◌, ◌≡◌}
 use Rattle.std.specs.Prelude.{if◌then◌else◌, nat_lt, ◌⊎◌}
@@ -150,6 +151,7 @@ says_next mine old values answer note s noted lacks verb due possible told =
       idle = λ is. absurd (differs_by_test is_of_no_place note Note.Idle placed refl is);
       working = λ is. (let in_session = values_in_session mine old values answer verb note s possible is grew in all_known mine old values answer verb note false is grew (lacks is in_session.1 in_session.0));
       stays = λ to is. differs_by_test is_of_no_place note (Note.Resigned to) placed refl is;
+      kept = λ p fence is. differs_by_test is_of_no_place note (Note.Astray p fence) placed refl is;
     }
 
 -- `Idle` in place of `Working`, if all commands are known
@@ -180,10 +182,14 @@ says_idle mine old values answer note s noted is all verb due possible told =
       idle = λ same. all_known mine old values answer verb note true is grew (all in_session.1 in_session.0);
       working = λ same. absurd (differs_by_test is_of_no_place Note.Working Note.Idle refl refl (sym same));
       stays = λ to same. not_resigned to same;
+      kept = λ p fence same. not_astray p fence same;
     }
   where
     not_resigned : (to : ℕ) → Note.Idle ≡ Note.Resigned to → ⊥
     not_resigned to same = cc
+
+    not_astray : (p : ℕ) (fence : Fence) → Note.Idle ≡ Note.Astray p fence → ⊥
+    not_astray p fence same = cc
 
 -- which it is, by whether the values hold all commands
 idle_if : (x : Bool) → Note.Idle ≡ (if x then Note.Idle else Note.Working) → x ≡ true

@@ -1,6 +1,6 @@
 -- place after, tables at, due after, is where: the place, the tables and the due verb of a leader,
 -- by its journal only; and that a leader is at that place with those tables.
-use Rattle.std.specs.Prelude.{Bool, List, None, Some, [], false, get_or, if◌then◌else◌, max, nat_le, nat_lt, replicate, set, true, ℕ, ◌*◌, ◌+◌, ◌/◌, ◌==◌, ◌||◌, ◌∷◌, ◌≡◌}
+use Rattle.std.specs.Prelude.{Bool, List, None, Some, [], false, get_or, if◌then◌else◌, max, nat_le, nat_lt, replicate, set, true, ℕ, ◌*◌, ◌+◌, ◌/◌, ◌==◌, ◌||◌, ◌∷◌, ◌≡◌, ◌⊎◌}
 use Rattle.std.specs.declared.option.Option.{Option}
 use Rattle.mu_model.specs.declared.config.Config.{Config}
 use Rattle.mu_model.specs.declared.event.Answer.{Answer}
@@ -10,7 +10,7 @@ use Rattle.mu_model.specs.Contents.{row_count}
 use Rattle.mu_model.specs.Entering.{any_min_read}
 use Rattle.mu_model.specs.Histories.{greatest, or_zero}
 use Rattle.mu_model.specs.Knowledge.{known}
-use Rattle.mu_model.specs.Leaderships.{is_member, leadership, number_put, proposal_number}
+use Rattle.mu_model.specs.Leaderships.{begins_leadership, is_member, leadership, number_put, proposal_number}
 use Rattle.mu_model.specs.Parts.{IsPossible}
 use Rattle.mu_model.specs.Scores.{leader}
 use Rattle.mu_model.specs.Steps.{is_named}
@@ -113,6 +113,11 @@ WritesNext mine old values answer new =
     → values ≡ known_told old.config old.id mine old.id verb answer
     → WritesTo old mine verb answer new
 
+-- the place that a step is made from: if it begins a leadership the first ask, which a leader that
+-- asks again makes out of turn
+abbrev pub place_before : ℕ → Event → Place → Place
+place_before r e place = if begins_leadership r e then Place.Ask 0 else place
+
 -- the place of the listing, by the journal: with each replication step of a replica that its scores
 -- name it goes on, with any other it begins again, and the background leaves it
 abbrev pub place_after : Config → ℕ → List Event → Place
@@ -121,7 +126,7 @@ place_after c r (e ∷ past) =
     if is_replication past e
     then (if leader c r past == r
     then next_place c r (or_zero (proposal_number r past)) (e ∷ past) (tables_at c r (e ∷ past))
-    e.answer (place_after c r past)
+    e.answer (place_before r e (place_after c r past))
     else Place.Ask 0)
     else place_after c r past
 
@@ -158,18 +163,20 @@ pub record IsWhere (c : Config) (r : ℕ) (mine : List Event) (l : Lead) : Type 
   pub tables : tables_of l ≡ tables_at c r mine
   pub idle : l.under_way ≡ false → l.place ≡ Place.Ask 0
 
--- by the answer to the verb that was due, in a turn in which r is named, it is there again
+-- the leader was told that a lower replica is named, or has left its leadership: its tables are those
+-- of the journal, and it next asks again
+pub record HasLeft (c : Config) (r : ℕ) (mine : List Event) (l : Lead) : Type 0 where
+  pub place : l.place ≡ Place.Ask 0
+  pub tables : tables_of l ≡ tables_at c r mine
+
+-- by the answer to the verb that was due, in a turn in which r is named, it is there again; also if
+-- it had left its leadership, and next asked again
 abbrev pub PlacesNext : List Event → Lead → List ℕ → Answer → Lead → Type 0
 PlacesNext mine old values answer new =
     (verb : Verb) → verb_of old (known old.config old.id mine) ≡ Some verb
     → IsPossible old.config old.id (record { by = old.id; verb = verb; answer = answer } ∷ mine)
     → values ≡ known_told old.config old.id mine old.id verb answer
     → is_replication mine (record { by = old.id; verb = verb; answer = answer }) ≡ true
-    → is_named old.config old.id mine ≡ true → IsWhere old.config old.id mine old
+    → is_named old.config old.id mine ≡ true
+    → IsWhere old.config old.id mine old ⊎ HasLeft old.config old.id mine old
     → IsWhere old.config old.id (record { by = old.id; verb = verb; answer = answer } ∷ mine) new
-
--- the leader was told that a lower replica is named: its tables are those of the journal, and it
--- next asks again
-pub record HasLeft (c : Config) (r : ℕ) (mine : List Event) (l : Lead) : Type 0 where
-  pub place : l.place ≡ Place.Ask 0
-  pub tables : tables_of l ≡ tables_at c r mine

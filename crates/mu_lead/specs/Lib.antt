@@ -1,3 +1,4 @@
+pub mod Again
 pub mod Ahead
 pub mod Beside
 pub mod Causes

@@ -32,6 +32,7 @@ is_working note = false
 -- the note is of none of the verbs of a leader
 abbrev pub is_of_no_place : Note → Bool
 is_of_no_place (Note.Resigned to) = true
+is_of_no_place (Note.Astray p fence) = true
 is_of_no_place Note.Idle = true
 is_of_no_place note = false
 
@@ -169,7 +170,7 @@ pub record SaysReads (c : Config) (r : ℕ) (mine : List Event) (up : List ℕ) 
   pub joined : (p : ℕ) → (note ≡ Note.Joined p) ↔ EndsJoining c r mine up place answer p
 
 -- each note comes exactly if its row holds: `Idle` if all commands are known and none of the others
--- holds, `Working` if some command isn't, and `Resigned` never
+-- holds, `Working` if some command isn't, and `Resigned` and `Astray` never
 pub record Says (c : Config) (r : ℕ) (mine : List Event) (up : List ℕ) (place : Place) (verb : Verb)
     (answer : Answer) (note : Note) : Type 0 where
   pub rounds : SaysRound c r (record { by = r; verb = verb; answer = answer } ∷ mine) place note
@@ -187,6 +188,7 @@ pub record Says (c : Config) (r : ℕ) (mine : List Event) (up : List ℕ) (plac
       note ≡ Note.Working
       → holds_all c (known c r (record { by = r; verb = verb; answer = answer } ∷ mine)) ≡ false
   pub stays : (to : ℕ) → note ≡ Note.Resigned to → ⊥
+  pub kept : (p : ℕ) (fence : Fence) → note ≡ Note.Astray p fence → ⊥
 
 -- the same after these events, whose known values make the verb that was due
 abbrev pub SaysNext : List Event → Lead → List ℕ → Answer → Note → Type 0

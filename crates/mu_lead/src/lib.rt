@@ -1,6 +1,7 @@
 //! The leader of one replica: what it does next by its listing, and what the answers tell it.
 #![tactic(auto)]
 
+ghost use Rattle.mu_lead.specs.Again.{AsksAreApart, LeadersAskAgain};
 ghost use Rattle.mu_lead.specs.Beside.{OthersKeep};
 ghost use Rattle.mu_lead.specs.Causes.{LeadersAskWithCause};
 ghost use Rattle.mu_lead.specs.Confirmations.{MinimaComeInTime};
@@ -11,6 +12,7 @@ ghost use Rattle.mu_lead.specs.Resigning.{BeatsKeepCounts, CountsAreInTime};
 ghost use Rattle.mu_lead.specs.Rooms.{OthersKeepRooms, RoomsAreInTime};
 ghost use Rattle.mu_lead.specs.Welcomes.{FollowersJoinInTime};
 
+mod again;
 mod batches;
 mod behind;
 mod confirming;
@@ -85,4 +87,16 @@ pub fn leaders_ask_with_cause()
 /// other machines.
 pub fn elections_come_in_time()
     ensures { ElectionsComeInTime }
+{}
+
+/// A leader that asks again, wherever it is, keeps with its first ask what a leader keeps, and has a
+/// cause.
+pub fn leaders_ask_again()
+    ensures { LeadersAskAgain }
+{}
+
+/// Between two first asks of a leader, of which the second is an ask again, it saw 16 fences of one
+/// region under its number.
+pub fn asks_are_apart()
+    ensures { AsksAreApart }
 {}

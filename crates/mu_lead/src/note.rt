@@ -77,6 +77,14 @@ pub enum Note {
         /// That replica.
         to: u8,
     },
+    /// The leadership was given up for a new one: this region had gone astray, as the last of its
+    /// fences that was read shows.
+    Astray {
+        /// The region.
+        replica: u8,
+        /// Its fence.
+        fence: Fence,
+    },
     /// All commands are known, and none of the above.
     Idle,
 }

@@ -304,7 +304,7 @@ impl Lead {
 }
 
 /// Whether bit `q` of the set is 1.
-fn has_bit(set: u8, q: u8) -> bool
+pub(crate) fn has_bit(set: u8, q: u8) -> bool
     ensures { result ≡ is_bit q set }
 {
     let mut rest = set;

@@ -5,6 +5,7 @@ use Rattle.std.specs.List.{slice_get}
 use Rattle.mu_model.specs.declared.event.Event.{Event}
 use Rattle.mu_model.specs.declared.event.Fence.{Fence}
 use Rattle.mu_model.specs.declared.event.Verb.{Verb}
+use Rattle.mu_model.specs.Again.{foreign_row}
 use Rattle.mu_model.specs.Allowed.{last_ask}
 use Rattle.mu_model.specs.Entering.{any_min_read, last_opened, min_read, min_read_since, open_target}
 use Rattle.mu_model.specs.Histories.{greatest, newest, or_zero}
@@ -30,6 +31,8 @@ pub record StandsForRegionNotes (r p : ℕ) (mine : List Event) (notes : RegionN
   pub minimum : notes.minimum ≡ or_zero (newest (λ e. min_read r p e.by e.verb e.answer) mine)
   pub shown : notes.shown ≡ last_grant r p mine
   pub has_read : notes.has_read ≡ min_read_since r p mine (last_grant r p mine)
+  pub seen : notes.seen ≡ newest (λ e. fence_seen r p e.by e.verb e.answer) mine
+  pub foreign : notes.foreign ≡ foreign_row r p mine
 
 -- the same of every region
 abbrev pub StandForRegionNotes : ℕ → List Event → List RegionNotes → Type 0

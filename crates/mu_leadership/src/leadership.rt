@@ -3,10 +3,11 @@ ghost use Rattle.std.specs.Prelude.{IsTrue, List, None, Some, [], is_some, true,
 ghost use Rattle.mu_model.specs.declared.config.Config.{Config};
 ghost use Rattle.mu_model.specs.declared.event.Event.{Event};
 ghost use Rattle.mu_model.specs.declared.event.Verb.{Verb};
+ghost use Rattle.mu_model.specs.Again.{foreign_row};
 ghost use Rattle.mu_model.specs.Allowed.{Needs, last_ask};
 ghost use Rattle.mu_model.specs.Entering.{any_min_read, has_confirmed_majority, has_read_min, last_opened, min_read, number_allowed, open_target};
 ghost use Rattle.mu_model.specs.Histories.{count_below, greatest, newest, or_zero};
-ghost use Rattle.mu_model.specs.Leaderships.{ends_leadership, grant_at_joining, has_begun, has_quorum, is_changed, is_member, is_over, leadership, noted_grant, number_put, proposal_number};
+ghost use Rattle.mu_model.specs.Leaderships.{ends_leadership, fence_seen, grant_at_joining, has_begun, has_quorum, is_changed, is_member, is_over, leadership, noted_grant, number_put, proposal_number};
 ghost use Rattle.mu_model.specs.Parts.{IsPossible};
 ghost use Rattle.mu_leadership.specs.Leadership.{StandsForRegionNotes, StandsForLeadership, ReadsWithin};
 
@@ -201,13 +202,14 @@ impl Leadership {
             → StandsForLeadership r mine self.old
             → StandsForLeadership r (event.now ∷ mine) self.new }
     {
+        let numbered = self.number.is_some();
         self.over = self.over_after(r, event);
         self.begun = begun_after(self.begun, r, event);
         self.asked = asked_after(self.asked, r, event);
         self.number = number_after(self.number, r, event);
         self.greatest_minimum = greatest_minimum_after(self.greatest_minimum, r, event);
         self.greatest_number = greatest_number_after(self.greatest_number, r, event);
-        take_at_regions(&mut self.notes, r, event);
+        take_at_regions(&mut self.notes, r, event, numbered);
     }
 
     /// Whether the leadership is over.
@@ -277,6 +279,22 @@ impl Leadership {
             → result ≡ noted_grant r p mine }
     {
         self.notes_of(p).noted
+    }
+
+    /// The fence of `p` that was seen last.
+    pub fn seen(&self, p: u8) -> Option<Fence>
+        ensures { (r : ℕ) → (mine : List Event) → p < 7 → StandsForLeadership r mine self.now
+            → result ≡ newest (λ e. fence_seen r p e.by e.verb e.answer) mine }
+    {
+        self.notes_of(p).seen
+    }
+
+    /// How many times in a row, up to 16, `p` was seen open to another under the number.
+    pub fn foreign(&self, p: u8) -> u8
+        ensures { (r : ℕ) → (mine : List Event) → p < 7 → StandsForLeadership r mine self.now
+            → result ≡ foreign_row r p mine }
+    {
+        self.notes_of(p).foreign
     }
 
     /// The target that `p` was entered with last.

@@ -1,10 +1,11 @@
 //! What a replica has done at one region.
-ghost use Rattle.std.specs.Prelude.{List, Some, [], false, ℕ, ◌∷◌, ◌≡◌, ◌≢◌};
+ghost use Rattle.std.specs.Prelude.{List, Some, [], false, if◌then◌else◌, is_some, ℕ, ◌∷◌, ◌≡◌, ◌≢◌};
 ghost use Rattle.mu_model.specs.declared.config.Config.{Config};
 ghost use Rattle.mu_model.specs.declared.event.Event.{Event};
+ghost use Rattle.mu_model.specs.Again.{foreign_row, is_foreign, one_more};
 ghost use Rattle.mu_model.specs.Entering.{has_read_min, last_opened, min_read, min_read_since, min_read_under, open_target};
 ghost use Rattle.mu_model.specs.Histories.{newest, or_zero};
-ghost use Rattle.mu_model.specs.Leaderships.{begins_leadership, grant_at_joining, grant_for, noted_grant};
+ghost use Rattle.mu_model.specs.Leaderships.{begins_leadership, fence_seen, grant_at_joining, grant_for, noted_grant, proposal_number};
 ghost use Rattle.mu_model.specs.Parts.{IsPossible};
 ghost use Rattle.mu_leadership.specs.Leadership.{StandForRegionNotes, StandsForRegionNotes, last_grant};
 ghost use Rattle.mu_leadership.specs.Bearing.{region_named};
@@ -29,6 +30,10 @@ pub struct RegionNotes {
     pub shown: Option<u32>,
     /// Whether it has read the minimum since it first saw that grant.
     pub has_read: bool,
+    /// The fence that it saw last.
+    pub seen: Option<Fence>,
+    /// How many times in a row, up to 16, it saw the region open to another, under its number.
+    pub foreign: u8,
 }
 
 /// Whether the event begins a leadership of `r`.
@@ -212,6 +217,67 @@ fn has_read_after(held: bool, shown: Option<u32>, r: u8, p: u8, event: &Event) -
     }
 }
 
+/// The fence of `p` that `r` saw last, after the event.
+fn seen_after(held: Option<Fence>, r: u8, p: u8, event: &Event) -> Option<Fence>
+    ensures { (mine : List Event)
+        → held ≡ newest (λ e. fence_seen r p e.by e.verb e.answer) mine
+        → result ≡ newest (λ e. fence_seen r p e.by e.verb e.answer) (event.now ∷ mine) }
+{
+    match (event.verb, event.answer) {
+        (Verb::Fence(q), Answer::Seen(fence)) => {
+            if event.by == r && q == p {
+                Some(fence)
+            } else {
+                held
+            }
+        }
+        _ => held,
+    }
+}
+
+/// Whether the fence is open, and granted to another than `r`.
+fn is_foreign(r: u8, fence: Fence) -> bool
+    ensures { result ≡ is_foreign r fence }
+{
+    !fence.closing
+        && match fence.owner {
+            None => false,
+            Some(owner) => owner != r,
+        }
+}
+
+/// The row after a fence under a number.
+fn row_after(held: u8, r: u8, fence: Fence) -> u8
+    ensures { result ≡ (if is_foreign r fence then one_more held else 0) }
+{
+    if !is_foreign(r, fence) {
+        0
+    } else if held < 16 {
+        held.saturating_add(1)
+    } else {
+        held
+    }
+}
+
+/// How many times in a row `r` saw the region `p` open to another, after the event.
+fn foreign_after(held: u8, numbered: bool, r: u8, p: u8, event: &Event) -> u8
+    ensures { (mine : List Event) → held ≡ foreign_row r p mine
+        → numbered ≡ is_some (proposal_number r mine)
+        → result ≡ foreign_row r p (event.now ∷ mine) }
+{
+    match (event.verb, event.answer) {
+        (Verb::Ask(q), _) => { if event.by == r && q == 0 { 0 } else { held } }
+        (Verb::Fence(q), Answer::Seen(fence)) => {
+            if event.by == r && q == p && numbered {
+                row_after(held, r, fence)
+            } else {
+                held
+            }
+        }
+        _ => held,
+    }
+}
+
 impl RegionNotes {
     /// The notes on a region at which nothing was done.
     pub fn new() -> RegionNotes
@@ -225,12 +291,16 @@ impl RegionNotes {
             minimum: 0,
             shown: None,
             has_read: false,
+            seen: None,
+            foreign: 0,
         }
     }
 
     /// What `r` has done at `p` after the event.
-    pub fn after(self, r: u8, p: u8, event: &Event) -> RegionNotes
+    /// `numbered` says whether its leadership has its number.
+    pub fn after(self, r: u8, p: u8, event: &Event, numbered: bool) -> RegionNotes
         ensures { (c : Config) → (mine : List Event) → IsPossible c r (event.now ∷ mine)
+            → numbered ≡ is_some (proposal_number r mine)
             → StandsForRegionNotes r p mine self
             → StandsForRegionNotes r p (event.now ∷ mine) result }
     {
@@ -242,6 +312,8 @@ impl RegionNotes {
             minimum: minimum_after(self.minimum, r, p, event),
             shown: shown_after(self.shown, r, p, event),
             has_read: has_read_after(self.has_read, self.shown, r, p, event),
+            seen: seen_after(self.seen, r, p, event),
+            foreign: foreign_after(self.foreign, numbered, r, p, event),
         }
     }
 
@@ -263,39 +335,42 @@ pub(crate) fn no_notes() -> [RegionNotes; 7]
 }
 
 /// What was done at each region, with the event.
-fn take_at_each(notes: &mut [RegionNotes; 7], r: u8, event: &Event)
+fn take_at_each(notes: &mut [RegionNotes; 7], r: u8, event: &Event, numbered: bool)
     ensures { (c : Config) → (mine : List Event) → IsPossible c r (event.now ∷ mine)
+        → numbered ≡ is_some (proposal_number r mine)
         → StandForRegionNotes r mine notes.old
         → StandForRegionNotes r (event.now ∷ mine) notes.new }
 {
     for p in 0..7u8 {
         let at = usize::from(p);
         let held = notes[at];
-        notes[at] = held.after(r, p, event);
+        notes[at] = held.after(r, p, event, numbered);
     }
 }
 
 /// What was done at the region that the event names, with the event.
-fn take_at(notes: &mut [RegionNotes; 7], p: u8, r: u8, event: &Event)
+fn take_at(notes: &mut [RegionNotes; 7], p: u8, r: u8, event: &Event, numbered: bool)
     ensures { (c : Config) → (mine : List Event) → IsPossible c r (event.now ∷ mine)
+        → numbered ≡ is_some (proposal_number r mine)
         → region_named event.now.verb ≡ Some p → StandForRegionNotes r mine notes.old
         → StandForRegionNotes r (event.now ∷ mine) notes.new }
 {
     if p < 7 {
         let at = usize::from(p);
         let held = notes[at];
-        notes[at] = held.after(r, p, event);
+        notes[at] = held.after(r, p, event, numbered);
     }
 }
 
 /// What was done at the regions that the event bears on, with the event.
-pub(crate) fn take_at_regions(notes: &mut [RegionNotes; 7], r: u8, event: &Event)
+pub(crate) fn take_at_regions(notes: &mut [RegionNotes; 7], r: u8, event: &Event, numbered: bool)
     ensures { (c : Config) → (mine : List Event) → IsPossible c r (event.now ∷ mine)
+        → numbered ≡ is_some (proposal_number r mine)
         → StandForRegionNotes r mine notes.old
         → StandForRegionNotes r (event.now ∷ mine) notes.new }
 {
     match region_of(&event.verb) {
-        Some(p) => take_at(notes, p, r, event),
-        None => take_at_each(notes, r, event),
+        Some(p) => take_at(notes, p, r, event, numbered),
+        None => take_at_each(notes, r, event, numbered),
     }
 }

@@ -1,8 +1,10 @@
--- diligent: the journal of replica r keeps its paces: ten points, one for each pace.
+-- diligent: the journal of replica r keeps its paces: ten points, one for each pace. One that may
+-- ask again keeps the same, but has one more cause to ask anew.
 use Rattle.std.specs.Prelude.{Bool, List, [], false, if◌then◌else◌, is_some, length, min, nat_le, not, true, ℕ, ◌%◌, ◌&&◌, ◌*◌, ◌++◌, ◌+◌, ◌<◌, ◌==◌, ◌||◌, ◌∷◌, ◌≡◌, ◌≢◌, ◌≤◌, ◌⊎◌}
 use Rattle.mu_model.specs.declared.config.Config.{Config}
 use Rattle.mu_model.specs.declared.event.Event.{Event}
 use Rattle.mu_model.specs.declared.event.Verb.{Verb}
+use Rattle.mu_model.specs.Again.{asks_again}
 use Rattle.mu_model.specs.Bounds.{Follows, bound, cycle, is_at_most, is_learning, members}
 use Rattle.mu_model.specs.Contents.{is_batch, rest_of}
 use Rattle.mu_model.specs.Ends.{outrun}
@@ -106,14 +108,22 @@ may_ask_anew c r past =
     || (not (has_min r past)
     && all_below c.replicas (λ p. nat_le 16 (how_many (is_fencing p) (leadership r past))))))
 
+-- the same if it may also ask again, since a region has gone astray
+abbrev pub may_begin : Bool → Config → ℕ → List Event → Bool
+may_begin false c r past = may_ask_anew c r past
+may_begin true c r past = may_ask_anew c r past || asks_again c r past
+
 -- ask discipline: r asks only if it is named, and asks again only with cause
-pub record AsksWithCause (c : Config) (r : ℕ) (past : List Event) : Type 0 where
+pub record AsksWithCauseBy (again : Bool) (c : Config) (r : ℕ) (past : List Event) : Type 0 where
   pub named :
       (p : ℕ) (e : Event) (older : List Event) → IsStretch past (e ∷ []) older
       → is_asking p e ≡ true → is_named c r older ≡ true
   pub anew :
       (e : Event) (older : List Event) → IsStretch past (e ∷ []) older → is_asking 0 e ≡ true
-      → may_ask_anew c r older ≡ true
+      → may_begin again c r older ≡ true
+
+abbrev pub AsksWithCause : Config → ℕ → List Event → Type 0
+AsksWithCause c r past = AsksWithCauseBy false c r past
 
 -- the last fences of the leadership name r, not closing, at a majority with r's own region
 abbrev pub is_confirmed : Config → ℕ → List Event → Bool
@@ -231,14 +241,14 @@ pub record TellsHeads (c : Config) (r : ℕ) (past : List Event) : Type 0 where
       (q : ℕ) (window older : List Event) → q < c.replicas → q ≢ r → IsStretch past window older
       → length window ≡ c.replicas * cycle c → has (is_head_of q) window ≡ true
 
--- the journal of r is diligent
-pub record IsDiligent (c : Config) (r : ℕ) (past : List Event) : Type 0 where
+-- the journal of r is diligent, and asks again if it may
+pub record IsDiligentBy (again : Bool) (c : Config) (r : ℕ) (past : List Event) : Type 0 where
   pub heartbeat_pace : ReadsInTime c r past
   pub grant_pace : GrantsInTime c r past
   pub election_pace : AsksInTime c r past
   pub progress_bound : CommitsInTime c r past
   pub evidence_after_a_miss : LooksIntoMisses c r past
-  pub ask_discipline : AsksWithCause c r past
+  pub ask_discipline : AsksWithCauseBy again c r past
   pub confirmation : BeginsInTime c r past
   pub raised_fuos : RaisesInTime c r past
   pub asking_after : AsksAfterOthers c r past
@@ -246,3 +256,7 @@ pub record IsDiligent (c : Config) (r : ℕ) (past : List Event) : Type 0 where
   pub bringing_up : BringsUpInTime c r past
   pub replayer_pace : Replays c r past
   pub head_pace : TellsHeads c r past
+
+-- the journal of r is diligent, and never asks again
+abbrev pub IsDiligent : Config → ℕ → List Event → Type 0
+IsDiligent c r past = IsDiligentBy false c r past

@@ -1,3 +1,4 @@
+pub mod Again
 pub mod Allowed
 pub mod Answers
 pub mod Bounds

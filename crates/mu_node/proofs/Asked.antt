@@ -3,7 +3,7 @@ use Rattle.std.proofs.Common.{◌≡◌, ◌∙◌, ◌≢◌, ℕ, suc, zero, �
 use Rattle.std.specs.declared.option.Option.{Option}
 use Rattle.std.specs.Prelude.{if◌then◌else◌, is_some, nat_lt, not}
 use Rattle.std.proofs.Math.Nat.{mul-le-mul_right}
-use Rattle.std.proofs.lemmas.Bool.{and_from, and_parts, cases_eq, cases_lt, eq-eqb, ltb-false, ltb-true, true≢false}
+use Rattle.std.proofs.lemmas.Bool.{and_from, and_parts, cases_eq, cases_lt, eq-eqb, eqb-true, ltb-false, ltb-true, true≢false}
 use Rattle.mu_agree.specs.Possible.{CameBy}
 use Rattle.mu_agree.proofs.Landings.{has_more}
 use Rattle.mu_agree.proofs.Possible.{parts_shorten_law}
@@ -28,37 +28,60 @@ use Rattle.mu_knowledge.specs.Offers.{IsFirst}
 use Rattle.mu_knowledge.proofs.Firsts.{first_in_is}
 use Rattle.mu_lead.specs.declared.place.Place.{Place}
 use Rattle.mu_lead.specs.Beside.{leads_at}
-use Rattle.mu_lead.specs.Journal.{number_due, place_after, tables_at}
+use Rattle.mu_lead.specs.Journal.{due_after, number_due, place_after, place_before, tables_at}
+use Rattle.mu_lead.proofs.Folding.{before_due}
 use Rattle.mu_lead.specs.Listing.{after_round, is_lost, next_place, noted_from, or_else}
 use Rattle.mu_lead.specs.Standing.{verb_at}
 use Rattle.mu_pace.specs.Counters.{AtEachMoment, AtEachStep}
 use Rattle.mu_pace.proofs.Counting.{last_moment}
+use Rattle.mu_follow.specs.CatchingUp.{or_else as or_else_due}
 use Rattle.mu_node.proofs.CatchingUp.{catches_reading, made_led, reading_fails}
 use Rattle.mu_node.specs.Cycle.{other_at, place_now}
 use Rattle.mu_node.specs.Due.{or_ahead, verb_or_beat}
-use Rattle.mu_node.specs.Journal.{WasMade}
+use Rattle.mu_node.specs.Journal.{IsListed, WasMade}
+use Rattle.mu_node.specs.declared.zeal.Zeal.{Zeal}
 use Rattle.mu_node.proofs.Rounding.{FailsBackground, background_fails}
 use Rattle.mu_pace.specs.Watches.{puts_number}
 use Rattle.mu_pace.proofs.Pasts.{min_on, min_now}
 
--- such a verb is one of the leader, in a turn of its own
-record OfLead (c : Config) (r : ℕ) (mine : List Event) (e : Event) (held : WasMade c r mine e) : Type 0 where
-  odd : is_odd (length mine) ≡ true
-  named : is_named c r mine ≡ true
-  verb : verb_at c (number_due r mine) (known c r mine) (tables_at c r mine).up (tables_at c r mine).written (place_after c r mine) ≡ Some e.verb
+-- the place of the listing that the event was made from
+abbrev pub place_of : Config → ℕ → List Event → Event → Place
+place_of c r mine e = place_before r e (place_after c r mine)
 
-of_lead : (test : Verb → Bool) (c : Config) (r : ℕ) (mine : List Event) (e : Event) (held : WasMade c r mine e) → FailsBackground test → ((j k x : ℕ) → test (Verb.WriteRow j k x) ≡ false) → test Verb.Beat ≡ false → ((q : ℕ) → test (Verb.ReadBeat q) ≡ false) → ((w : ℕ) → test (Verb.ReadAsk w) ≡ false) → test e.verb ≡ true → OfLead c r mine e held
+-- the verb of a place
+abbrev pub placed : Config → ℕ → List Event → Place → Option Verb
+placed c r mine place = verb_at c (number_due r mine) (known c r mine) (tables_at c r mine).up (tables_at c r mine).written place
+
+-- an event that begins a leadership is the first ask
+pub begins_first : (r : ℕ) (e : Event) → begins_leadership r e ≡ true → e.verb ≡ Verb.Ask 0
+begins_first r e begins = go e.by e.verb begins
+  where
+    go : (by : ℕ) (verb : Verb) → is_first_ask r by verb ≡ true → verb ≡ Verb.Ask 0
+    go by (Verb.Ask p) is = ap Verb.Ask (eqb-true p 0 (and_parts (by == r) (p == 0) is).1)
+    go by verb is = absurd (true≢false (sym is))
+
+-- and a first ask of r begins one
+pub first_begins : (r : ℕ) (e : Event) → e.by ≡ r → e.verb ≡ Verb.Ask 0 → begins_leadership r e ≡ true
+first_begins r e own first = ap (is_first_ask r e.by) first ∙ ap (λ t. t && (0 == 0)) (eq-eqb e.by r own)
+
+-- such a verb is one of the leader, in a turn of its own
+pub record OfLead (c : Config) (r : ℕ) (mine : List Event) (e : Event) (held : WasMade c r mine e) : Type 0 where
+  pub odd : is_odd (length mine) ≡ true
+  pub named : is_named c r mine ≡ true
+  pub verb : placed c r mine (place_of c r mine e) ≡ Some e.verb
+
+pub of_lead : (test : Verb → Bool) (c : Config) (r : ℕ) (mine : List Event) (e : Event) (held : WasMade c r mine e) → FailsBackground test → ((j k x : ℕ) → test (Verb.WriteRow j k x) ≡ false) → test Verb.Beat ≡ false → ((q : ℕ) → test (Verb.ReadBeat q) ≡ false) → ((w : ℕ) → test (Verb.ReadAsk w) ≡ false) → test e.verb ≡ true → OfLead c r mine e held
 of_lead test c r mine e held fails write beat beats asks is = go (is_odd (length mine)) refl
   where
+    there : Option Verb
+    there = placed c r mine (place_after c r mine)
+
     mine_due : (o : Option Verb) → e.verb ≡ verb_or_beat o → o ≡ Some e.verb
     mine_due None made = absurd (true≢false (sym is ∙ (ap test made ∙ beat)))
     mine_due (Some verb) made = ap Some (sym made)
 
-    placed : Option Verb
-    placed = verb_at c (number_due r mine) (known c r mine) (tables_at c r mine).up (tables_at c r mine).written (place_after c r mine)
-
-    named : (t : Bool) → e.verb ≡ verb_or_beat (if t then placed else None) → placed ≡ Some e.verb
-    named true made = mine_due placed made
+    named : (t : Bool) → e.verb ≡ verb_or_beat (if t then there else None) → there ≡ Some e.verb
+    named true made = mine_due there made
     named false made = absurd (true≢false (sym is ∙ (ap test made ∙ beat)))
 
     read : (s t : Bool) → test (if s then Verb.Beat else if t then Verb.ReadBeat (other_at r (place_now c mine)) else Verb.ReadAsk (place_now c mine - c.replicas)) ≡ false
@@ -66,14 +89,21 @@ of_lead test c r mine e held fails write beat beats asks is = go (is_odd (length
     read false true = beats (other_at r (place_now c mine))
     read false false = asks (place_now c mine - c.replicas)
 
-    is_mine : (t : Bool) → e.verb ≡ verb_or_beat (if t then placed else None) → t ≡ true
+    is_mine : (t : Bool) → e.verb ≡ verb_or_beat (if t then there else None) → t ≡ true
     is_mine true made = refl
     is_mine false made = absurd (true≢false (sym is ∙ (ap test made ∙ beat)))
 
+    from : (t : Bool) → begins_leadership r e ≡ t → (t ≡ false → there ≡ Some e.verb) → placed c r mine (if t then Place.Ask 0 else place_after c r mine) ≡ Some e.verb
+    from true begins other = ap Some (sym (begins_first r e begins))
+    from false none other = other refl
+
     go : (t : Bool) → is_odd (length mine) ≡ t → OfLead c r mine e held
     go true odd = elim (made_led held.zeal c r mine e.verb (held.made.replication odd)) [
-      | inl listed ↦ record { odd = odd; named = is_mine (leader c r mine == r) listed; verb = named (leader c r mine == r) listed }
-      | inr caught ↦ absurd (true≢false (sym is ∙ reading_fails test e.verb (catches_reading c r mine e.verb caught.due) fails.replays.look fails.replays.row))
+      | inl listed ↦ record { odd = odd; named = is_mine (leader c r mine == r) listed; verb = from (begins_leadership r e) refl (λ _. named (leader c r mine == r) listed) }
+      | inr other ↦ elim other [
+        | inl caught ↦ absurd (true≢false (sym is ∙ reading_fails test e.verb (catches_reading c r mine e.verb caught.due) fails.replays.look fails.replays.row))
+        | inr out ↦ record { odd = odd; named = out.named; verb = from (begins_leadership r e) refl (λ none. absurd (true≢false (sym (first_begins r e held.own out.first) ∙ none))) }
+      ]
     ]
     go false even =
         let made = held.made.background even in
@@ -83,11 +113,11 @@ of_lead test c r mine e held fails write beat beats asks is = go (is_odd (length
         ]
 
 -- an ask is none of the background
-abbrev is_any_ask : Verb → Bool
+abbrev pub is_any_ask : Verb → Bool
 is_any_ask (Verb.Ask p) = true
 is_any_ask _ = false
 
-any_asks_fail : FailsBackground is_any_ask
+pub any_asks_fail : FailsBackground is_any_ask
 any_asks_fail = record {
   replays = record { beat = refl; fuo = λ q. refl; look = λ q i. refl; row = λ v k. refl; raise = λ q u. refl; raise_head = λ h. refl; head = λ q. refl };
   host = host;
@@ -98,7 +128,7 @@ any_asks_fail = record {
     host d verb is = refl
 
 -- a minimum is read by the leader too
-mins_fail : FailsBackground is_min_verb
+pub mins_fail : FailsBackground is_min_verb
 mins_fail = record {
   replays = record { beat = refl; fuo = λ q. refl; look = λ q i. refl; row = λ v k. refl; raise = λ q u. refl; raise_head = λ h. refl; head = λ q. refl };
   host = host;
@@ -108,29 +138,69 @@ mins_fail = record {
     host d (Verb.Min q) is = absurd (true≢false (sym is))
     host d verb is = refl
 
--- the verb of the place
-abbrev placed : Config → ℕ → List Event → Place → Option Verb
-placed c r mine place = verb_at c (number_due r mine) (known c r mine) (tables_at c r mine).up (tables_at c r mine).written place
+-- in a turn of its own a replica that names itself makes the verb of the place that it makes it from
+pub made_verb : (c : Config) (r : ℕ) (mine : List Event) (e : Event) (verb : Verb) → WasMade c r mine e → is_odd (length mine) ≡ true → is_named c r mine ≡ true → placed c r mine (place_of c r mine e) ≡ Some verb → e.verb ≡ verb
+made_verb c r mine e verb held odd named is = go (begins_leadership r e) refl is
+  where
+    go : (t : Bool) → begins_leadership r e ≡ t → placed c r mine (if t then Place.Ask 0 else place_after c r mine) ≡ Some verb → e.verb ≡ verb
+    go true begins is = begins_first r e begins ∙ same_some (Verb.Ask 0) verb is
+    go false none is = elim (made_led held.zeal c r mine e.verb (held.made.replication odd)) [
+      | inl listed ↦ listed ∙ ap verb_or_beat (ap (λ t. if t then placed c r mine (place_after c r mine) else None) named ∙ is)
+      | inr other ↦ elim other [
+        | inl caught ↦ absurd (true≢false (sym named ∙ caught.unnamed))
+        | inr out ↦ absurd (true≢false (sym (first_begins r e held.own out.first) ∙ none))
+      ]
+    ]
 
--- in a turn of its own a replica that names itself makes it
-made_verb : (c : Config) (r : ℕ) (mine : List Event) (e : Event) (verb : Verb) → WasMade c r mine e → is_odd (length mine) ≡ true → is_named c r mine ≡ true → placed c r mine (place_after c r mine) ≡ Some verb → e.verb ≡ verb
-made_verb c r mine e verb held odd named is = elim (made_led held.zeal c r mine e.verb (held.made.replication odd)) [
-  | inl listed ↦ listed ∙ ap verb_or_beat (ap (λ t. if t then placed c r mine (place_after c r mine) else None) named ∙ is)
-  | inr caught ↦ absurd (true≢false (sym named ∙ caught.unnamed))
-]
+-- what holds at the place after the events, and at a first ask, holds at the place it makes it from
+pub at_place : (P : Place → Type 0) (c : Config) (r : ℕ) (mine : List Event) (e : Event) → P (Place.Ask 0) → P (place_after c r mine) → P (place_of c r mine e)
+at_place P c r mine e first there = go (begins_leadership r e)
+  where
+    go : (t : Bool) → P (if t then Place.Ask 0 else place_after c r mine)
+    go true = first
+    go false = there
 
 -- and the next place follows; another turn leaves the place, or begins again
-abbrev follows : Config → ℕ → List Event → Event → Place → Place
+abbrev pub follows : Config → ℕ → List Event → Event → Place → Place
 follows c r mine e place = next_place c r (or_zero (proposal_number r mine)) (e ∷ mine) (tables_at c r (e ∷ mine)) e.answer place
 
-place_on : (c : Config) (r : ℕ) (mine : List Event) (e : Event) → is_odd (length mine) ≡ true → is_named c r mine ≡ true → place_after c r (e ∷ mine) ≡ follows c r mine e (place_after c r mine)
-place_on c r mine e odd named = ap (λ t. if t then (if is_named c r mine then follows c r mine e (place_after c r mine) else Place.Ask 0) else place_after c r mine) odd ∙ ap (λ t. if t then follows c r mine e (place_after c r mine) else Place.Ask 0) named
+pub place_on : (c : Config) (r : ℕ) (mine : List Event) (e : Event) → is_odd (length mine) ≡ true → is_named c r mine ≡ true → place_after c r (e ∷ mine) ≡ follows c r mine e (place_of c r mine e)
+place_on c r mine e odd named = ap (λ t. if t then (if is_named c r mine then follows c r mine e (place_of c r mine e) else Place.Ask 0) else place_after c r mine) odd ∙ ap (λ t. if t then follows c r mine e (place_of c r mine e) else Place.Ask 0) named
 
-place_anew : (c : Config) (r : ℕ) (mine : List Event) (e : Event) → is_odd (length mine) ≡ true → is_named c r mine ≡ false → place_after c r (e ∷ mine) ≡ Place.Ask 0
-place_anew c r mine e odd named = ap (λ t. if t then (if is_named c r mine then follows c r mine e (place_after c r mine) else Place.Ask 0) else place_after c r mine) odd ∙ ap (λ t. if t then follows c r mine e (place_after c r mine) else Place.Ask 0) named
+pub place_anew : (c : Config) (r : ℕ) (mine : List Event) (e : Event) → is_odd (length mine) ≡ true → is_named c r mine ≡ false → place_after c r (e ∷ mine) ≡ Place.Ask 0
+place_anew c r mine e odd named = ap (λ t. if t then (if is_named c r mine then follows c r mine e (place_of c r mine e) else Place.Ask 0) else place_after c r mine) odd ∙ ap (λ t. if t then follows c r mine e (place_of c r mine e) else Place.Ask 0) named
 
-place_still : (c : Config) (r : ℕ) (mine : List Event) (e : Event) → is_odd (length mine) ≡ false → place_after c r (e ∷ mine) ≡ place_after c r mine
-place_still c r mine e even = ap (λ t. if t then (if is_named c r mine then follows c r mine e (place_after c r mine) else Place.Ask 0) else place_after c r mine) even
+pub place_still : (c : Config) (r : ℕ) (mine : List Event) (e : Event) → is_odd (length mine) ≡ false → place_after c r (e ∷ mine) ≡ place_after c r mine
+place_still c r mine e even = ap (λ t. if t then (if is_named c r mine then follows c r mine e (place_of c r mine e) else Place.Ask 0) else place_after c r mine) even
+
+-- each event was made, by a plain node
+abbrev pub MadePlain : Config → ℕ → List Event → Event → Type 0
+MadePlain c r mine e = WasMade c r mine e × IsListed Zeal.Plain c r mine e
+
+-- which makes in a turn of its leader what the listing has due, so from the place after its events
+placed_before : (c : Config) (r : ℕ) (mine : List Event) (e : Event) → MadePlain c r mine e → is_odd (length mine) ≡ true → is_named c r mine ≡ true → place_of c r mine e ≡ place_after c r mine
+placed_before c r mine e held odd named = go (placed c r mine place) refl
+  where
+    place : Place
+    place = place_after c r mine
+
+    alone : (o : Option Verb) → or_else_due o None ≡ o
+    alone None = refl
+    alone (Some verb) = refl
+
+    due : e.verb ≡ verb_or_beat (placed c r mine place)
+    due = held.1 odd ∙ ap verb_or_beat (alone (due_after c r mine)) ∙ ap (λ t. verb_or_beat (if t then placed c r mine place else None)) named
+
+    is : (verb : Verb) → e.verb ≡ verb → place_before r (record { by = r; verb = verb; answer = e.answer }) place ≡ place → place_before r e place ≡ place
+    is verb same before = subst (λ b. place_before r (record { by = b; verb = e.verb; answer = e.answer }) place ≡ place) (sym held.0.own) (subst (λ v. place_before r (record { by = r; verb = v; answer = e.answer }) place ≡ place) (sym same) before)
+
+    go : (o : Option Verb) → placed c r mine place ≡ o → place_before r e place ≡ place
+    go (Some verb) some = is verb (due ∙ ap verb_or_beat some) (before_due c r (number_due r mine) (known c r mine) (tables_at c r mine).up (tables_at c r mine).written place verb e.answer some)
+    go None none = is Verb.Beat (due ∙ ap verb_or_beat none) refl
+
+each_made : (c : Config) (r : ℕ) (mine : List Event) → AtEachStep (MadePlain c r) mine → AtEachStep (WasMade c r) mine
+each_made c r [] made = tt
+each_made c r (e ∷ mine) made = (each_made c r mine made.0, made.1.0)
 
 -- of the noted grants from a region on there is a first one, if one is there
 first_noted : (c : Config) (r from p : ℕ) (now : List Event) (P : Place → Type 0) (there : ℕ → Place) (other : Place) → from ≤ p → p < c.replicas → is_some (noted_grant r p now) ≡ true → ((q : ℕ) → from ≤ q → q < c.replicas → P (there q)) → P (or_else (noted_from c r now from) there other)
@@ -159,6 +229,9 @@ Opens c mine (Place.Ask p) = (p < c.replicas) × ((q : ℕ) → q < p → has (i
 Opens c mine (Place.Confirm k p) = (k < 16) × (p < c.replicas) × ((q : ℕ) → q < c.replicas → has (is_asking q) mine ≡ true)
 Opens c mine (Place.ReadMin p) = (q : ℕ) → q < c.replicas → has (is_asking q) mine ≡ true
 Opens c mine place = ⊥
+
+opens_first : (c : Config) (r : ℕ) (mine : List Event) → r < c.replicas → Opens c mine (Place.Ask 0)
+opens_first c r mine inside = (omega (arith, inside), λ q low. absurd (omega (arith, low)))
 
 opens_more : (c : Config) (e : Event) (mine : List Event) (place : Place) → Opens c mine place → Opens c (e ∷ mine) place
 opens_more c e mine (Place.Ask p) o = (o.0, λ q low. has_more (is_asking q) e mine (o.1 q low))
@@ -189,7 +262,7 @@ opens_on c r mine e (Place.Confirm k p) inside verb made none o = go (nat_lt (p 
 
     again : (t : Bool) → nat_lt k 15 ≡ t → Opens c (e ∷ mine) (if t then Place.Confirm (k + 1) 0 else Place.Ask 0)
     again true low = let few = ltb-true k 15 low in (omega (arith, few), omega (arith, inside), asked)
-    again false high = (omega (arith, inside), λ q low. absurd (omega (arith, low)))
+    again false high = opens_first c r (e ∷ mine) inside
 
     confirmed : (t : Bool) → is_confirmed c r (e ∷ mine) ≡ t → Opens c (e ∷ mine) (if t then or_else (noted_from c r (e ∷ mine) 0) Place.ReadMin Place.Rest else (if nat_lt k 15 then Place.Confirm (k + 1) 0 else Place.Ask 0))
     confirmed true is = first_noted c r 0 r (e ∷ mine) (Opens c (e ∷ mine)) Place.ReadMin Place.Rest (omega arith) inside (and_parts (is_some (noted_grant r r (e ∷ mine))) _ is).0 (λ q low few. asked)
@@ -203,17 +276,20 @@ opens_on c r mine e place inside verb made none o = absurd o
 
 -- so before it reads a minimum it is at one of them
 opens : (c : Config) (r : ℕ) (mine : List Event) → r < c.replicas → AtEachStep (WasMade c r) mine → AtEachMoment (λ now. has_min r now ≡ false) mine → Opens c mine (place_after c r mine)
-opens c r [] inside made none = (omega (arith, inside), λ q low. absurd (omega (arith, low)))
+opens c r [] inside made none = opens_first c r [] inside
 opens c r (e ∷ mine) inside made none = go (is_odd (length mine)) refl (is_named c r mine) refl (opens c r mine inside made.0 none.0)
   where
     go : (t : Bool) → is_odd (length mine) ≡ t → (u : Bool) → is_named c r mine ≡ u → Opens c mine (place_after c r mine) → Opens c (e ∷ mine) (place_after c r (e ∷ mine))
-    go true odd true named o = subst (Opens c (e ∷ mine)) (sym (place_on c r mine e odd named)) (opens_on c r mine e (place_after c r mine) inside (λ verb is. made_verb c r mine e verb made.1 odd named is) made.0 none.1 o)
-    go true odd false named o = subst (Opens c (e ∷ mine)) (sym (place_anew c r mine e odd named)) (omega (arith, inside), λ q low. absurd (omega (arith, low)))
+    go true odd true named o = subst (Opens c (e ∷ mine)) (sym (place_on c r mine e odd named)) (opens_on c r mine e (place_of c r mine e) inside (λ verb is. made_verb c r mine e verb made.1 odd named is) made.0 none.1 (at_place (Opens c mine) c r mine e (opens_first c r mine inside) o))
+    go true odd false named o = subst (Opens c (e ∷ mine)) (sym (place_anew c r mine e odd named)) (opens_first c r (e ∷ mine) inside)
     go false even u named o = subst (Opens c (e ∷ mine)) (sym (place_still c r mine e even)) (opens_more c e mine (place_after c r mine) o)
+
+opened : (c : Config) (r : ℕ) (mine : List Event) (e : Event) → r < c.replicas → AtEachStep (WasMade c r) mine → AtEachMoment (λ now. has_min r now ≡ false) mine → Opens c mine (place_of c r mine e)
+opened c r mine e inside made none = at_place (Opens c mine) c r mine e (opens_first c r mine inside) (opens c r mine inside made none)
 
 -- before its first minimum it has asked each region
 pub asks_all_first : (c : Config) (r : ℕ) (mine : List Event) (e : Event) → r < c.replicas → AtEachStep (WasMade c r) (e ∷ mine) → AtEachMoment (λ now. has_min r now ≡ false) mine → is_min e ≡ true → (p : ℕ) → p < c.replicas → has (is_asking p) mine ≡ true
-asks_all_first c r mine e inside made none min p low = go (place_after c r mine) (ap due_min turn.verb ∙ min) (opens c r mine inside made.0 none)
+asks_all_first c r mine e inside made none min p low = go (place_of c r mine e) (ap due_min turn.verb ∙ min) (opened c r mine e inside made.0 none)
   where
     turn : OfLead c r mine e made.1
     turn = of_lead is_min_verb c r mine e made.1 mins_fail (λ j k x. refl) refl (λ q. refl) (λ w. refl) min
@@ -287,9 +363,9 @@ nearer c r p d mine e (Place.Confirm k q) inside low verb made none o not_asked 
 nearer c r p d mine e (Place.ReadMin q) inside low verb made none o not_asked near = absurd (true≢false (sym (min_now r e mine (ap is_min_verb (verb (Verb.Min q) refl)) (begun_asked c r mine made (o 0 (omega (arith, inside))))) ∙ none))
 nearer c r p d mine e place inside low verb made none o not_asked near = absurd o
 
-toward : (c : Config) (r p d : ℕ) (window older : List Event) → r < c.replicas → p < c.replicas → AtEachStep (WasMade c r) (window ++ older) → AtEachMoment (λ now. has_min r now ≡ false) (window ++ older) → named_throughout c r window older ≡ true → d + replications window older ≡ 17 * c.replicas + 1
+toward : (c : Config) (r p d : ℕ) (window older : List Event) → r < c.replicas → p < c.replicas → AtEachStep (MadePlain c r) (window ++ older) → AtEachMoment (λ now. has_min r now ≡ false) (window ++ older) → named_throughout c r window older ≡ true → d + replications window older ≡ 17 * c.replicas + 1
     → (replicates (λ before e. is_asking p e) window older ≡ true) ⊎ ToAsk c p d (place_after c r (window ++ older))
-toward c r p d [] older inside low made none named all = inr (subst (λ n. ToAsk c p n (place_after c r older)) (let is : 17 * c.replicas + 1 ≡ d = omega (arith, all) in is) (at_most c p older (place_after c r older) low (opens c r older inside made none)))
+toward c r p d [] older inside low made none named all = inr (subst (λ n. ToAsk c p n (place_after c r older)) (let is : 17 * c.replicas + 1 ≡ d = omega (arith, all) in is) (at_most c p older (place_after c r older) low (opens c r older inside (each_made c r older made) none)))
 toward c r p d (e ∷ window) older inside low made none named all = go (is_odd (length mine)) refl (is_named c r mine) refl (is_asking p e) refl named all (λ n. toward c r p n window older inside low made.0 none.0)
   where
     mine : List Event
@@ -301,7 +377,7 @@ toward c r p d (e ∷ window) older inside low made none named all = go (is_odd 
     go true odd true is true asked named all ih = inl refl
     go true odd true is false other named all ih = elim (ih (suc d) named (omega (arith, all))) [
       | inl some ↦ inl some
-      | inr near ↦ inr (subst (ToAsk c p d) (sym (place_on c r mine e odd is)) (nearer c r p d mine e (place_after c r mine) inside low (λ verb due. made_verb c r mine e verb made.1 odd is due) made.0 none.1 (opens c r mine inside made.0 none.0) other near))
+      | inr near ↦ inr (subst (ToAsk c p d) (sym (place_on c r mine e odd is)) (nearer c r p d mine e (place_of c r mine e) inside low (λ verb due. made_verb c r mine e verb made.1.0 odd is due) (each_made c r mine made.0) none.1 (opened c r mine e inside (each_made c r mine made.0) none.0) other (subst (ToAsk c p (suc d)) (sym (placed_before c r mine e made.1 odd is)) near)))
     ]
     go true odd false is w asked named all ih = absurd (true≢false (sym named))
     go false even u is w asked named all ih = elim (ih d (throughout u named) all) [
@@ -313,11 +389,11 @@ toward c r p d (e ∷ window) older inside low made none named all = go (is_odd 
         throughout u named = named
 
 -- in 17 n + 1 replication events it asks each region, if it names itself and reads no minimum
-pub asks_until_min : (c : Config) (r p : ℕ) (window older : List Event) → r < c.replicas → p < c.replicas → AtEachStep (WasMade c r) (window ++ older) → AtEachMoment (λ now. has_min r now ≡ false) (window ++ older) → replications window older ≡ 17 * c.replicas + 1 → named_throughout c r window older ≡ true
+pub asks_until_min : (c : Config) (r p : ℕ) (window older : List Event) → r < c.replicas → p < c.replicas → AtEachStep (MadePlain c r) (window ++ older) → AtEachMoment (λ now. has_min r now ≡ false) (window ++ older) → replications window older ≡ 17 * c.replicas + 1 → named_throughout c r window older ≡ true
     → replicates (λ before e. is_asking p e) window older ≡ true
 asks_until_min c r p window older inside low made none many named = elim (toward c r p 0 window older inside low made none named (omega (arith, many))) [
   | inl some ↦ some
-  | inr near ↦ absurd (never (place_after c r (window ++ older)) (opens c r (window ++ older) inside made none) near)
+  | inr near ↦ absurd (never (place_after c r (window ++ older)) (opens c r (window ++ older) inside (each_made c r (window ++ older) made) none) near)
 ]
   where
     never : (place : Place) → Opens c (window ++ older) place → ToAsk c p 0 place → ⊥
@@ -368,7 +444,7 @@ nearer_put c r d mine e (Place.PutMin q) own verb needs on near = inl (ap (λ v.
 nearer_put c r d mine e place own verb needs on near = absurd near
 
 -- and begins no leadership
-asks_no_more : (c : Config) (r d : ℕ) (mine : List Event) (e : Event) → WasMade c r mine e → ToPut c d (place_after c r mine) → begins_leadership r e ≡ false
+asks_no_more : (c : Config) (r d : ℕ) (mine : List Event) (e : Event) → MadePlain c r mine e → ToPut c d (place_after c r mine) → begins_leadership r e ≡ false
 asks_no_more c r d mine e held near = go (begins_leadership r e) refl
   where
     any : (by : ℕ) (verb : Verb) → is_first_ask r by verb ≡ true → is_any_ask verb ≡ true
@@ -389,8 +465,8 @@ asks_no_more c r d mine e held near = go (begins_leadership r e) refl
     go false is = refl
     go true is =
         let ask = any e.by e.verb is in
-        let turn = of_lead is_any_ask c r mine e held any_asks_fail (λ j k x. refl) refl (λ q. refl) (λ w. refl) ask in
-        absurd (true≢false (sym (ap due_ask turn.verb ∙ ask) ∙ none (place_after c r mine) near))
+        let turn = of_lead is_any_ask c r mine e held.0 any_asks_fail (λ j k x. refl) refl (λ q. refl) (λ w. refl) ask in
+        absurd (true≢false (sym (ap due_ask turn.verb ∙ ask) ∙ none (place_of c r mine e) (subst (ToPut c d) (sym (placed_before c r mine e held turn.odd turn.named)) near)))
 
 -- so it is on its way to put its number after its first minimum
 record OnWay (c : Config) (r : ℕ) (window older : List Event) : Type 0 where
@@ -399,15 +475,15 @@ record OnWay (c : Config) (r : ℕ) (window older : List Event) : Type 0 where
   all : left + replications window older ≡ c.replicas + 1
   min : has_min r (window ++ older) ≡ true
 
-to_put : (c : Config) (r : ℕ) (e : Event) (window older : List Event) → r < c.replicas → IsPossible c r (window ++ e ∷ older) → AtEachStep (WasMade c r) (window ++ e ∷ older) → is_min e ≡ true → AtEachMoment (λ now. has_min r now ≡ false) older → AtEachMoment (λ now. is_over r now ≡ false) (window ++ e ∷ older)
+to_put : (c : Config) (r : ℕ) (e : Event) (window older : List Event) → r < c.replicas → IsPossible c r (window ++ e ∷ older) → AtEachStep (MadePlain c r) (window ++ e ∷ older) → is_min e ≡ true → AtEachMoment (λ now. has_min r now ≡ false) older → AtEachMoment (λ now. is_over r now ≡ false) (window ++ e ∷ older)
     → AtEachMoment (λ now. has_min r now ≡ true → is_named c r now ≡ true) (window ++ e ∷ older) → (has (puts_number r) window ≡ true) ⊎ OnWay c r window (e ∷ older)
 to_put c r e [] older inside possible made min none on named = inr (record { left = c.replicas + 1; near = near; all = omega arith; min = there })
   where
-    turn : OfLead c r older e made.1
-    turn = of_lead is_min_verb c r older e made.1 mins_fail (λ j k x. refl) refl (λ q. refl) (λ w. refl) min
+    turn : OfLead c r older e made.1.0
+    turn = of_lead is_min_verb c r older e made.1.0 mins_fail (λ j k x. refl) refl (λ q. refl) (λ w. refl) min
 
     there : has_min r (e ∷ older) ≡ true
-    there = min_now r e older min (begun_asked c r older made.0 (asks_all_first c r older e inside made none min 0 (omega (arith, inside))))
+    there = let all = each_made c r (e ∷ older) made in min_now r e older min (begun_asked c r older all.0 (asks_all_first c r older e inside all none min 0 (omega (arith, inside))))
 
     due_min : Option Verb → Bool
     due_min None = false
@@ -420,7 +496,7 @@ to_put c r e [] older inside possible made min none on named = inr (record { lef
     go place is due o = absurd o
 
     near : ToPut c (c.replicas + 1) (place_after c r (e ∷ older))
-    near = subst (ToPut c (c.replicas + 1)) (sym (place_on c r older e turn.odd turn.named)) (go (place_after c r older) turn.verb (ap due_min turn.verb ∙ min) (opens c r older inside made.0 none))
+    near = subst (ToPut c (c.replicas + 1)) (sym (place_on c r older e turn.odd turn.named)) (go (place_of c r older e) turn.verb (ap due_min turn.verb ∙ min) (opened c r older e inside (each_made c r older made.0) none))
 to_put c r e (f ∷ window) older inside possible made min none on named = elim (to_put c r e window older inside came.before made.0 min none on.0 named.0) [
   | inl some ↦ inl (has_more (puts_number r) f window some)
   | inr k ↦ step k k.left k.near k.all (is_odd (length mine)) refl
@@ -449,7 +525,7 @@ to_put c r e (f ∷ window) older inside possible made min none on named = elim 
     step k zero near all true odd = absurd (never (place_after c r mine) near)
     step k (suc d) near all true odd =
         let itself = last_moment (λ now. has_min r now ≡ true → is_named c r now ≡ true) mine named.0 k.min in
-        elim (nearer_put c r d mine f (place_after c r mine) made.1.own (λ verb is. made_verb c r mine f verb made.1 odd itself is) came.allowed.may on.1 near) [
+        elim (nearer_put c r d mine f (place_of c r mine f) made.1.0.own (λ verb is. made_verb c r mine f verb made.1.0 odd itself is) came.allowed.may on.1 (subst (ToPut c (suc d)) (sym (placed_before c r mine f made.1 odd itself)) near)) [
           | inl put ↦ inl (ap (λ t. cond t true (has (puts_number r) window)) put)
           | inr on_way ↦ inr (record {
             left = d;
@@ -460,7 +536,7 @@ to_put c r e (f ∷ window) older inside possible made min none on named = elim 
         ]
 
 -- n + 2 replication events after its first minimum it has put a number, if it goes on naming itself and isn't over
-pub numbers_in_time : (c : Config) (r : ℕ) (e : Event) (window older : List Event) → r < c.replicas → IsPossible c r (window ++ e ∷ older) → AtEachStep (WasMade c r) (window ++ e ∷ older) → is_min e ≡ true → AtEachMoment (λ now. has_min r now ≡ false) older → AtEachMoment (λ now. is_over r now ≡ false) (window ++ e ∷ older)
+pub numbers_in_time : (c : Config) (r : ℕ) (e : Event) (window older : List Event) → r < c.replicas → IsPossible c r (window ++ e ∷ older) → AtEachStep (MadePlain c r) (window ++ e ∷ older) → is_min e ≡ true → AtEachMoment (λ now. has_min r now ≡ false) older → AtEachMoment (λ now. is_over r now ≡ false) (window ++ e ∷ older)
     → AtEachMoment (λ now. has_min r now ≡ true → is_named c r now ≡ true) (window ++ e ∷ older) → c.replicas + 2 ≤ replications window (e ∷ older) → has (puts_number r) window ≡ true
 numbers_in_time c r e window older inside possible made min none on named long = elim (to_put c r e window older inside possible made min none on named) [
   | inl some ↦ some

@@ -5,6 +5,7 @@ use Rattle.std.specs.Prelude.{if◌then◌else◌, nat_lt, not, ◌&&◌}
 use Rattle.std.specs.declared.option.Option.{Option}
 use Rattle.std.specs.List.{slice_get}
 use Rattle.std.proofs.lemmas.Bool.{true≢false}
+use Rattle.mu_model.specs.Again.{asks_again}
 use Rattle.mu_model.specs.declared.config.Config.{Config}
 use Rattle.mu_model.specs.declared.event.Answer.{Answer}
 use Rattle.mu_model.specs.declared.event.Event.{Event}
@@ -35,7 +36,7 @@ use Rattle.mu_lead.proofs.Causes.{leaders_ask_with_cause}
 use Rattle.mu_lead.proofs.Elections.{elections_come_in_time}
 use Rattle.mu_lead.proofs.RoomsQuiet.{no_heads, quiet_milestone}
 use Rattle.mu_node.specs.declared.zeal.Zeal.{Zeal}
-use Rattle.mu_node.specs.Due.{CatchesUp, FitsLead, idle_due, lead_due, turn_due, verb_or_beat}
+use Rattle.mu_node.specs.Due.{AsksOutOfTurn, CatchesUp, FitsLead, idle_due, lead_due, turn_due, verb_or_beat}
 use Rattle.mu_node.specs.Paced.{PacesAt}
 use Rattle.mu_pace.proofs.Pasts.{and_false}
 use Rattle.mu_pace.proofs.Closing.{unnamed_turns}
@@ -100,8 +101,23 @@ made_as Zeal.Eager c r mine verb None is = go (leads_at (place_after c r mine)) 
     go false led false named None caught is = inl is
     go false led false named (Some it) caught is = inr (record { unled = led; unnamed = named; due = caught ∙ ap Some (sym is) })
 
-pub made_led : (zeal : Zeal) (c : Config) (r : ℕ) (mine : List Event) (verb : Verb) → verb ≡ verb_or_beat (turn_due zeal c r mine) → (verb ≡ verb_or_beat (due_after c r mine)) ⊎ CatchesUp c r mine verb
-made_led zeal c r mine verb is = made_as zeal c r mine verb (due_after c r mine) is
+pub made_led : (zeal : Zeal) (c : Config) (r : ℕ) (mine : List Event) (verb : Verb) → verb ≡ verb_or_beat (turn_due zeal c r mine) → (verb ≡ verb_or_beat (due_after c r mine)) ⊎ (CatchesUp c r mine verb ⊎ AsksOutOfTurn c r mine verb)
+made_led zeal c r mine verb is = go zeal is
+  where
+    listed : (zeal : Zeal) → verb ≡ verb_or_beat (or_else (due_after c r mine) (idle_due zeal c r mine)) → (verb ≡ verb_or_beat (due_after c r mine)) ⊎ (CatchesUp c r mine verb ⊎ AsksOutOfTurn c r mine verb)
+    listed zeal is = elim (made_as zeal c r mine verb (due_after c r mine) is) [
+      | inl due ↦ inl due
+      | inr caught ↦ inr (inl caught)
+    ]
+
+    asked : (s t : Bool) → is_named c r mine ≡ s → asks_again c r mine ≡ t → verb ≡ verb_or_beat (if s && t then Some (Verb.Ask 0) else or_else (due_after c r mine) (idle_due Zeal.Eager c r mine)) → (verb ≡ verb_or_beat (due_after c r mine)) ⊎ (CatchesUp c r mine verb ⊎ AsksOutOfTurn c r mine verb)
+    asked true true named asks is = inr (inr (record { named = named; asks = asks; first = is }))
+    asked true false named asks is = listed Zeal.Eager is
+    asked false t named asks is = listed Zeal.Eager is
+
+    go : (zeal : Zeal) → verb ≡ verb_or_beat (turn_due zeal c r mine) → (verb ≡ verb_or_beat (due_after c r mine)) ⊎ (CatchesUp c r mine verb ⊎ AsksOutOfTurn c r mine verb)
+    go Zeal.Plain is = listed Zeal.Plain is
+    go Zeal.Eager is = asked (is_named c r mine) (asks_again c r mine) refl refl is
 
 -- while r doesn't lead such a verb is one of another machine
 pub reading_beside : (leading : Bool) (verb : Verb) → leading ≡ false → is_reading verb ≡ true → is_beside leading verb ≡ true

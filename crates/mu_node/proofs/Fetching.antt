@@ -65,7 +65,10 @@ reads_none c b values up written place old = refl
 odd_keeps : (c : Config) (r : ℕ) (past : List Event) (e : Event) → WasMade c r past e → completes_row c r past e ≡ false → is_odd (length past) ≡ true → (u : ℕ) → row_under_way past ≡ Some u → is_row_of c u (known c r past) ≡ true → has_row r u past ≡ false → row_under_way (e ∷ past) ≡ Some u
 odd_keeps c r past e held completes odd u under of_known missing = elim (made_led held.zeal c r past e.verb (held.made.replication odd)) [
   | inl listed ↦ ap (λ v. row_read v (row_under_way past)) listed ∙ (none (leader c r past == r) ∙ under)
-  | inr caught ↦ under_caught c r u past e held.own caught under of_known missing completes
+  | inr third ↦ elim third [
+    | inl caught ↦ under_caught c r u past e held.own caught under of_known missing completes
+    | inr out ↦ ap (λ v. row_read v (row_under_way past)) out.first ∙ under
+  ]
 ]
   where
     none : (t : Bool) → row_read (verb_or_beat (if t then listed_due c r past else None)) (row_under_way past) ≡ row_under_way past

@@ -116,7 +116,10 @@ raises_to_all c r h mine e held raises = go (is_odd (length mine)) refl
     go : (t : Bool) → is_odd (length mine) ≡ t → min (length (applied c r mine)) (own_fuo r mine) ≤ h
     go true odd = elim (made_led held.zeal c r mine e.verb (held.made.replication odd)) [
       | inl listed ↦ absurd (not_raised (due_after c r mine) h (led_none c r mine) (sym listed ∙ raises))
-      | inr caught ↦ absurd (true≢false (sym (ap is_head_raise_verb raises) ∙ reading_fails is_head_raise_verb e.verb (catches_reading c r mine e.verb caught.due) (λ p i. refl) (λ v k. refl)))
+      | inr third ↦ elim third [
+        | inl caught ↦ absurd (true≢false (sym (ap is_head_raise_verb raises) ∙ reading_fails is_head_raise_verb e.verb (catches_reading c r mine e.verb caught.due) (λ p i. refl) (λ v k. refl)))
+        | inr out ↦ absurd (true≢false (sym (ap is_head_raise_verb raises) ∙ ap is_head_raise_verb out.first))
+      ]
     ]
     go false even =
         let made = held.made.background even in

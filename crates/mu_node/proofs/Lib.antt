@@ -1,3 +1,5 @@
+pub mod Anew
+mod AskedAgain
 mod Answering
 pub mod Asked
 mod CatchingUp

@@ -164,7 +164,10 @@ asker_named c r p mine e held asks = go (is_odd (length mine)) refl
     go : (t : Bool) → is_odd (length mine) ≡ t → leader c r mine ≡ r
     go true odd = elim (made_led held.zeal c r mine e.verb (held.made.replication odd)) [
       | inl listed ↦ named (leader c r mine == r) refl listed
-      | inr caught ↦ absurd (true≢false (sym asks ∙ reading_fails (is_asking_verb p) e.verb (catches_reading c r mine e.verb caught.due) (λ q i. refl) (λ v k. refl)))
+      | inr third ↦ elim third [
+        | inl caught ↦ absurd (true≢false (sym asks ∙ reading_fails (is_asking_verb p) e.verb (catches_reading c r mine e.verb caught.due) (λ q i. refl) (λ v k. refl)))
+        | inr out ↦ eqb-true (leader c r mine) r out.named
+      ]
     ]
     go false even =
         let made = held.made.background even in
@@ -193,7 +196,10 @@ writes_fail = record {
 odd_no_read : (c : Config) (r : ℕ) (mine : List Event) (e : Event) → WasMade c r mine e → is_odd (length mine) ≡ true → reads_beat e.verb ≡ false
 odd_no_read c r mine e held odd = elim (made_led held.zeal c r mine e.verb (held.made.replication odd)) [
   | inl listed ↦ ap reads_beat listed ∙ named (leader c r mine == r)
-  | inr caught ↦ reading_fails reads_beat e.verb (catches_reading c r mine e.verb caught.due) (λ q i. refl) (λ v k. refl)
+  | inr third ↦ elim third [
+    | inl caught ↦ reading_fails reads_beat e.verb (catches_reading c r mine e.verb caught.due) (λ q i. refl) (λ v k. refl)
+    | inr out ↦ ap reads_beat out.first
+  ]
 ]
   where
     at : (c : Config) (b : ℕ) (values up written : List ℕ) (place : Place) → reads_beat (verb_or_beat (verb_at c b values up written place)) ≡ false
@@ -243,7 +249,10 @@ writer_named c r mine e before held writes = go (is_odd (length mine)) refl
     go : (t : Bool) → is_odd (length mine) ≡ t → leader c r mine ≡ r
     go true odd = elim (made_led held.zeal c r mine e.verb (held.made.replication odd)) [
       | inl listed ↦ named (leader c r mine == r) refl listed
-      | inr caught ↦ absurd (true≢false (sym writes ∙ reading_fails is_row_write e.verb (catches_reading c r mine e.verb caught.due) (λ q i. refl) (λ v k. refl)))
+      | inr third ↦ elim third [
+        | inl caught ↦ absurd (true≢false (sym writes ∙ reading_fails is_row_write e.verb (catches_reading c r mine e.verb caught.due) (λ q i. refl) (λ v k. refl)))
+        | inr out ↦ eqb-true (leader c r mine) r out.named
+      ]
     ]
     go false even =
         let made = held.made.background even in

@@ -76,7 +76,10 @@ unnamed_made c r past e held unnamed odd =
     let other : is_named c r past ≡ false = sym (ap (λ t. t && is_named c r past) odd) ∙ unnamed in
     elim (made_led held.zeal c r past e.verb (held.made.replication odd)) [
       | inl listed ↦ inl (listed ∙ ap (λ t. verb_or_beat (if t then listed_due c r past else None)) other)
-      | inr caught ↦ inr caught
+      | inr third ↦ elim third [
+        | inl caught ↦ inr caught
+        | inr out ↦ absurd (true≢false (sym out.named ∙ other))
+      ]
     ]
 
 -- an event that doesn't close the count

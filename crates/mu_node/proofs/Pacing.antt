@@ -2,10 +2,12 @@
 use Rattle.std.proofs.Common.{◌≡◌, ◌∙◌, ◌==◌, ◌&&◌, ◌||◌, inl, inr, ℕ, ◌<◌, Bool, true, false, None, Some, List, [], ◌∷◌, ap, arith, eqb-true, length, refl, subst, sym}
 use Rattle.std.specs.Prelude.{if◌then◌else◌, is_some, nat_lt, not}
 use Rattle.std.proofs.Math.Bool.{and-false}
-use Rattle.std.proofs.lemmas.Bool.{and_parts, le-ltb, true≢false}
+use Rattle.std.proofs.lemmas.Bool.{and_parts, le-ltb, or_left, true≢false}
 use Rattle.std.specs.declared.alloc.Global.{Global}
 use Rattle.std.specs.declared.option.Option.{Option}
 use Rattle.std.specs.declared.vec.Vec.{Vec}
+use Rattle.mu_model.specs.Again.{asks_again}
+use Rattle.mu_model.specs.Diligence.{may_ask_anew}
 use Rattle.mu_model.specs.declared.config.Config.{Config}
 use Rattle.mu_model.specs.declared.event.Answer.{Answer}
 use Rattle.mu_model.specs.declared.event.Event.{Event}
@@ -19,9 +21,9 @@ use Rattle.mu_model.specs.Scores.{leader}
 use Rattle.mu_model.specs.Steps.{is_named}
 use Rattle.mu_model.specs.Stretches.{is_odd}
 use Rattle.mu_model.proofs.Basics.{event_by, none_some}
-use Rattle.mu_pace.specs.Collecting.{LeaderKeeps}
+use Rattle.mu_pace.specs.Collecting.{LeaderKeepsBy}
 use Rattle.mu_pace.specs.Counters.{steps_left}
-use Rattle.mu_pace.specs.Keeping.{AsksLately, HasCause}
+use Rattle.mu_pace.specs.Keeping.{HasCauseBy, AsksLately, HasCause}
 use Rattle.mu_pace.specs.Watches.{confirming}
 use Rattle.mu_lead.specs.declared.lead.Lead.{Lead}
 use Rattle.mu_lead.specs.declared.place.Place.{Place}
@@ -50,7 +52,7 @@ use Rattle.mu_node.specs.Paced.{HadPaces, HasPaces, HasPlannedPaces, PacesAt, Pa
 use Rattle.mu_node.proofs.Leading.{lower_named}
 
 -- what is said of the configuration and the id of a leader is said of those of its node
-of_node : (F : Config → ℕ → Type 0) (c : Config) (r : ℕ) (lead : Lead) → lead.config ≡ c → lead.id ≡ r → F lead.config lead.id → F c r
+pub of_node : (F : Config → ℕ → Type 0) (c : Config) (r : ℕ) (lead : Lead) → lead.config ≡ c → lead.id ≡ r → F lead.config lead.id → F c r
 of_node F c r lead same_c same_r it = subst (λ i. F c i) same_r (subst (λ k. F k lead.id) same_c it)
 
 -- before any event
@@ -112,7 +114,7 @@ own_led mine old new verb answer values same_c same_r takes odd named is possibl
     causes = takes.causes verb is possible told odd paces.paces.causes;
     elects = takes.elects verb is possible told odd paces.paces.elects;
   };
-  listed = takes.placed verb is possible told odd named paces.listed;
+  listed = takes.placed verb is possible told odd named (inl paces.listed);
 }
 
 -- what is due is the verb of the place, and r is named
@@ -251,10 +253,15 @@ writes_even c r mine lead verb idle writes = go (is_odd (length mine)) refl
     ]
     go false even = refl
 
+-- who asks with a cause does so too if it may ask again
+pub cause_by : (again : Bool) (c : Config) (r : ℕ) (mine : List Event) (e : Event) → HasCause c r mine e → HasCauseBy again c r mine e
+cause_by false c r mine e cause = cause
+cause_by true c r mine e cause = record { named = cause.named; anew = λ asks. or_left (may_ask_anew c r mine) (asks_again c r mine) (cause.anew asks) }
+
 -- what the leader keeps with an event
-kept_with : (c : Config) (r : ℕ) (mine : List Event) (e : Event) (lead : Lead) → StandsForLead c r (e ∷ mine) lead → HasPaces c r (e ∷ mine) lead → HasCause c r mine e
-    → (begins_leadership r e ≡ true → steps_left (confirming c r) mine ≡ None) → LeaderKeeps c r mine e
-kept_with c r mine e lead held paces cause anew =
+pub kept_with : (again : Bool) (c : Config) (r : ℕ) (mine : List Event) (e : Event) (lead : Lead) → StandsForLead c r (e ∷ mine) lead → HasPaces c r (e ∷ mine) lead → HasCauseBy again c r mine e
+    → (begins_leadership r e ≡ true → steps_left (confirming c r) mine ≡ None) → LeaderKeepsBy again c r mine e
+kept_with again c r mine e lead held paces cause anew =
     let in_time = of_node (λ k i. CountsAt k i (e ∷ mine) lead.written.items lead.place → KeepsCounts k i (e ∷ mine)) c r lead held.config held.id (counts_are_in_time.in_time (e ∷ mine) lead held.stands) paces.paces.counts in
     record {
       asks = of_node (λ k i. ElectsAt k i (e ∷ mine) lead.place → AsksLately k i mine e) c r lead held.config held.id (elections_come_in_time.in_time mine e lead held.stands) paces.paces.elects;
@@ -271,9 +278,9 @@ beside_begins : (r by : ℕ) (leading : Bool) (verb : Verb) → is_beside leadin
 beside_begins r by leading (Verb.Ask p) beside = absurd (true≢false (sym beside))
 beside_begins r by leading verb beside = refl
 
-pub kept_other : (c : Config) (r : ℕ) (mine : List Event) (lead : Lead) (verb : Verb) (answer : Answer) → is_beside (leads_at lead.place) verb ≡ true → StandsForLead c r (event_by r verb answer ∷ mine) lead → HasPaces c r (event_by r verb answer ∷ mine) lead
-    → LeaderKeeps c r mine (event_by r verb answer)
-kept_other c r mine lead verb answer beside held paces = kept_with c r mine (event_by r verb answer) lead held paces (leaders_ask_with_cause.uncaused c r mine (leads_at lead.place) verb answer beside) (λ begins. absurd (true≢false (sym begins ∙ beside_begins r r (leads_at lead.place) verb beside)))
+pub kept_other : (again : Bool) (c : Config) (r : ℕ) (mine : List Event) (lead : Lead) (verb : Verb) (answer : Answer) → is_beside (leads_at lead.place) verb ≡ true → StandsForLead c r (event_by r verb answer ∷ mine) lead → HasPaces c r (event_by r verb answer ∷ mine) lead
+    → LeaderKeepsBy again c r mine (event_by r verb answer)
+kept_other again c r mine lead verb answer beside held paces = kept_with again c r mine (event_by r verb answer) lead held paces (cause_by again c r mine (event_by r verb answer) (leaders_ask_with_cause.uncaused c r mine (leads_at lead.place) verb answer beside)) (λ begins. absurd (true≢false (sym begins ∙ beside_begins r r (leads_at lead.place) verb beside)))
 
 -- one of the leader begins one if its place says so
 abbrev asks_first : ℕ → ℕ → Option Verb → Bool
@@ -284,9 +291,9 @@ place_begins : (c : Config) (r by b : ℕ) (values up written : List ℕ) (place
 place_begins c r by b values up written (Place.Ask p) begins = (and_parts (by == r) (p == 0) begins).1
 place_begins c r by b values up written place begins = absurd (true≢false (sym begins))
 
-pub kept_led : (c : Config) (r : ℕ) (mine : List Event) (old new : Lead) (verb : Verb) (answer : Answer) → lead_due c r mine old ≡ Some verb → StandsForLead c r mine old → HasPaces c r mine old
-    → StandsForLead c r (event_by r verb answer ∷ mine) new → HasPaces c r (event_by r verb answer ∷ mine) new → LeaderKeeps c r mine (event_by r verb answer)
-kept_led c r mine old new verb answer due was before held paces = kept_with c r mine (event_by r verb answer) new held paces cause (λ begins. minima_come_in_time.anew c r mine old.place (first begins) before.paces.counts.confirms)
+pub kept_led : (again : Bool) (c : Config) (r : ℕ) (mine : List Event) (old new : Lead) (verb : Verb) (answer : Answer) → lead_due c r mine old ≡ Some verb → StandsForLead c r mine old → HasPaces c r mine old
+    → StandsForLead c r (event_by r verb answer ∷ mine) new → HasPaces c r (event_by r verb answer ∷ mine) new → LeaderKeepsBy again c r mine (event_by r verb answer)
+kept_led again c r mine old new verb answer due was before held paces = kept_with again c r mine (event_by r verb answer) new held paces (cause_by again c r mine (event_by r verb answer) cause) (λ begins. minima_come_in_time.anew c r mine old.place (first begins) before.paces.counts.confirms)
   where
     is : (is_named c r mine ≡ true) × (verb_of old (known c r mine) ≡ Some verb)
     is = is_asked (leader c r mine == r) (verb_of old (known c r mine)) verb due

@@ -238,7 +238,10 @@ made_reads c r mine e reads was = go (is_odd (length mine)) refl
     go : (t : Bool) → is_odd (length mine) ≡ t → IsReadNext c r mine e.verb
     go true odd = elim (made_led was.zeal c r mine e.verb (was.made.replication odd)) [
       | inl listed ↦ subst (IsReadNext c r mine) (sym listed) (reads_other c r mine (verb_or_beat (due_after c r mine)) (led_reads c r mine))
-      | inr caught ↦ subst (Reads c r mine) caught.due (catch_reads c r mine reads)
+      | inr third ↦ elim third [
+        | inl caught ↦ subst (Reads c r mine) caught.due (catch_reads c r mine reads)
+        | inr out ↦ subst (IsReadNext c r mine) (sym out.first) (reads_other c r mine (Verb.Ask 0) refl)
+      ]
     ]
     go false even = let made = was.made.background even in subst (IsReadNext c r mine) (sym made.2) (ahead_reads c r mine was.zeal made.0 (background_reads c r mine (leads_at (place_after c r mine)) made.0 reads made.1))
 

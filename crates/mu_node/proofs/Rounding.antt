@@ -289,7 +289,10 @@ apart_here c r q mine e held reads = go (is_odd (length mine)) refl
     go : (t : Bool) → is_odd (length mine) ≡ t → length mine % cycle c ≡ 2 * beat_place r q
     go true odd = elim (made_led held.zeal c r mine e.verb (held.made.replication odd)) [
       | inl listed ↦ absurd (not_due (due_after c r mine) (led_no_beat c r q mine) listed)
-      | inr caught ↦ absurd (true≢false (sym reads ∙ reading_fails (is_beat_read_verb q) e.verb (catches_reading c r mine e.verb caught.due) (λ p i. refl) (λ v k. refl)))
+      | inr third ↦ elim third [
+        | inl caught ↦ absurd (true≢false (sym reads ∙ reading_fails (is_beat_read_verb q) e.verb (catches_reading c r mine e.verb caught.due) (λ p i. refl) (λ v k. refl)))
+        | inr out ↦ absurd (true≢false (sym reads ∙ ap (is_beat_read_verb q) out.first))
+      ]
     ]
     go false even =
         let made = held.made.background even in

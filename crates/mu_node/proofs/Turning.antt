@@ -31,7 +31,7 @@ use Rattle.mu_node.specs.declared.node.Node.{Node}
 use Rattle.mu_node.specs.Answers.{HoldsAnswers}
 use Rattle.mu_node.specs.Cycle.{IsBackgroundDue, IsCycleDue, handed, handed_before, other_at, place_now, read_at}
 use Rattle.mu_node.specs.declared.zeal.Zeal.{Zeal}
-use Rattle.mu_node.specs.Due.{write_due, idle_due, lead_due, or_ahead, verb_or_beat}
+use Rattle.mu_node.specs.Due.{asks_out_of_turn, write_due, idle_due, lead_due, or_ahead, verb_or_beat}
 use Rattle.mu_node.proofs.Failing.{ahead_fails, else_fails}
 use Rattle.mu_follow.specs.CatchingUp.{catch_up_due, or_else}
 use Rattle.mu_model.specs.Steps.{is_named}
@@ -231,15 +231,15 @@ due_some zeal c r mine lead due verb led odd some = led odd ∙ ap (λ o. or_els
 -- what a turn is noted as
 pub note_told : (zeal : Zeal) (c : Config) (r : ℕ) (mine : List Event) (lead planned next : Lead) (leads : Bool) (due : Option Verb) (heeded : Note) (answer : Answer) (note : Note) → IsLed c r mine lead leads → IsTurnDue zeal c r mine lead due
     → heeded ≡ note_before c r mine lead → IsPossible c r (event_by r (verb_or_beat due) answer ∷ mine) → TellsTook c r mine leads due heeded answer note
-    → (is_odd (length mine) ≡ true → HasTold c r mine lead planned) → SaysTook c r mine leads due heeded planned next answer note → StandsForLead c r mine lead → IsWhere c r mine lead → TellsNote c r mine lead answer note
-note_told zeal c r mine lead planned next leads due heeded answer note turn led before possible took told says held listed = record {
+    → (is_odd (length mine) ≡ true → HasTold c r mine lead planned) → SaysTook c r mine leads due heeded planned next answer note → StandsForLead c r mine lead → IsWhere c r mine lead → (is_odd (length mine) ≡ true → asks_out_of_turn zeal c r mine ≡ false) → TellsNote zeal c r mine lead answer note
+note_told zeal c r mine lead planned next leads due heeded answer note turn led before possible took told says held listed calm = record {
   background = λ even. took.beside (led_even c r mine lead leads turn even) ∙ (before ∙ ap (λ t. if t then heed_note c r mine lead else Note.Working) even);
-  idle = λ odd none. took.beside (led_idle c r mine lead leads turn (same ∙ none)) ∙ (before ∙ ap (λ t. if t then heed_note c r mine lead else Note.Working) odd);
-  taken = λ verb odd due_now.
+  idle = λ inside odd none. took.beside (led_idle c r mine lead leads turn (same ∙ none)) ∙ (before ∙ ap (λ t. if t then heed_note c r mine lead else Note.Working) odd);
+  taken = λ verb inside odd due_now.
       let some = same ∙ due_now in
       took.taken verb (led_on c r mine lead leads verb turn odd some) (due_some zeal c r mine lead due verb led odd some) (before ∙ (ap (λ t. if t then heed_note c r mine lead else Note.Working) odd ∙ due_unresigned c r mine lead verb some))
       (subst (λ v. IsPossible c r (event_by r v answer ∷ mine)) (ap verb_or_beat (due_some zeal c r mine lead due verb led odd some)) possible);
-  says = λ verb odd due_now.
+  says = λ verb inside odd due_now.
       let some = same ∙ due_now in
       let stays = (told odd).place (due_named c r mine lead verb some) in
       subst (λ u. Says c r mine u (place_after c r mine) verb answer note) (ap (λ (t : Tables). t.up) listed.tables)
@@ -247,13 +247,14 @@ note_told zeal c r mine lead planned next leads due heeded answer note turn led 
       (subst (λ u. Says c r mine u planned.place verb answer note) (told odd).up
       (says.says verb (led_on c r mine lead leads verb turn odd some) (due_some zeal c r mine lead due verb led odd some) (before ∙ (ap (λ t. if t then heed_note c r mine lead else Note.Working) odd ∙ due_unresigned c r mine lead verb some))
       (subst (λ v. IsPossible c r (event_by r v answer ∷ mine)) (ap verb_or_beat (due_some zeal c r mine lead due verb led odd some)) possible))));
-  noted = λ verb odd due_now.
+  noted = λ verb inside odd due_now.
       let some = same ∙ due_now in
       let stays = (told odd).place (due_named c r mine lead verb some) in
       subst (λ t. note ≡ note_at c r mine t (place_after c r mine) verb answer) ((told odd).tables ∙ listed.tables)
       (subst (λ p. note ≡ note_at c r mine (tables_of planned) p verb answer) (stays ∙ listed.place)
       (says.noted verb (led_on c r mine lead leads verb turn odd some) (due_some zeal c r mine lead due verb led odd some) (before ∙ (ap (λ t. if t then heed_note c r mine lead else Note.Working) odd ∙ due_unresigned c r mine lead verb some))
       (subst (λ v. IsPossible c r (event_by r v answer ∷ mine)) (ap verb_or_beat (due_some zeal c r mine lead due verb led odd some)) possible)));
+  again = λ out odd. absurd (true≢false (sym out ∙ calm odd));
 }
   where
     same : lead_due c r mine lead ≡ due_after c r mine

@@ -1,9 +1,10 @@
 -- due of a turn: the step that is due in a turn, of a plain and of an eager node.
-use Rattle.std.specs.Prelude.{Bool, List, None, Some, false, if◌then◌else◌, length, true, ℕ, ◌==◌, ◌||◌, ◌≡◌, ◌⊎◌}
+use Rattle.std.specs.Prelude.{Bool, List, None, Some, false, if◌then◌else◌, length, true, ℕ, ◌&&◌, ◌==◌, ◌||◌, ◌≡◌, ◌⊎◌}
 use Rattle.std.specs.declared.option.Option.{Option}
 use Rattle.mu_model.specs.declared.config.Config.{Config}
 use Rattle.mu_model.specs.declared.event.Event.{Event}
 use Rattle.mu_model.specs.declared.event.Verb.{Verb}
+use Rattle.mu_model.specs.Again.{asks_again}
 use Rattle.mu_model.specs.Allowed.{Allowed}
 use Rattle.mu_model.specs.Knowledge.{known}
 use Rattle.mu_model.specs.Scores.{leader}
@@ -55,9 +56,27 @@ write_due Zeal.Eager c r mine =
 abbrev pub or_ahead : Zeal → Config → ℕ → List Event → Option Verb → Verb
 or_ahead zeal c r mine due = verb_or_beat (or_else due (write_due zeal c r mine))
 
+-- the node may ask again
+abbrev pub is_eager : Zeal → Bool
+is_eager Zeal.Plain = false
+is_eager Zeal.Eager = true
+
+-- an eager node that is named asks again out of turn, if a region has gone astray
+abbrev pub asks_out_of_turn : Zeal → Config → ℕ → List Event → Bool
+asks_out_of_turn Zeal.Plain c r mine = false
+asks_out_of_turn Zeal.Eager c r mine = is_named c r mine && asks_again c r mine
+
 -- what is due in a turn of the leader, by the journal only
 abbrev pub turn_due : Zeal → Config → ℕ → List Event → Option Verb
-turn_due zeal c r mine = or_else (due_after c r mine) (idle_due zeal c r mine)
+turn_due zeal c r mine =
+    if asks_out_of_turn zeal c r mine then Some (Verb.Ask 0)
+    else or_else (due_after c r mine) (idle_due zeal c r mine)
+
+-- r is named, a region has gone astray, and the verb is the first ask
+pub record AsksOutOfTurn (c : Config) (r : ℕ) (mine : List Event) (verb : Verb) : Type 0 where
+  pub named : is_named c r mine ≡ true
+  pub asks : asks_again c r mine ≡ true
+  pub first : verb ≡ Verb.Ask 0
 
 -- r isn't named and didn't lead before, and the verb is what it reads on with
 pub record CatchesUp (c : Config) (r : ℕ) (mine : List Event) (verb : Verb) : Type 0 where

@@ -15,13 +15,14 @@ use Rattle.mu_follow.specs.Groups.{AreSpelled}
 use Rattle.mu_lead.specs.declared.lead.Lead.{Lead}
 use Rattle.mu_lead.specs.Beside.{leads_at}
 use Rattle.mu_lead.specs.Standing.{StandsFor as LeadStandsFor}
+use Rattle.mu_node.specs.Due.{is_eager}
 use Rattle.mu_node.specs.declared.node.Node.{Node}
 use Rattle.mu_node.specs.Answers.{HoldsAnswers}
 use Rattle.mu_node.specs.Cycle.{handed, handed_before}
 use Rattle.mu_node.specs.Journal.{IsListed, WasMade, may_lead, may_lead_before}
-use Rattle.mu_node.specs.Paced.{HasPaces, HasPlannedPaces, PacesTold}
+use Rattle.mu_node.specs.Paced.{HasGone, HasPaces, HasPlannedPaces, PacesTold}
 use Rattle.mu_node.specs.Watch.{StandsForWatch}
-use Rattle.mu_pace.specs.Collecting.{LeaderKeeps}
+use Rattle.mu_pace.specs.Collecting.{LeaderKeepsBy}
 use Rattle.mu_pace.specs.Counters.{AtEachStep}
 
 -- its parts but the leader stand for these events, with what is said of the replayer, and there is
@@ -70,7 +71,7 @@ pub record HoldsNode (Paces : Lead → Type 0) (c : Config) (r : ℕ) (mine : Li
   pub listed : AtEachStep (IsListed node.zeal c r) mine
   pub leads : leads_at node.lead.place ≡ true → may ≡ true
   pub paces : Paces node.lead
-  pub led : AtEachStep (LeaderKeeps c r) mine
+  pub led : AtEachStep (LeaderKeepsBy (is_eager node.zeal) c r) mine
 
 -- the node stands for the events
 abbrev pub StandsForNode : Config → ℕ → List Event → Node → Type 0
@@ -87,3 +88,8 @@ HasHeard c r mine node =
 abbrev pub HasPlanned : Config → ℕ → List Event → Node → Type 0
 HasPlanned c r mine node =
     HoldsNode (HasPlannedPaces c r mine) c r mine (handed c r mine) (may_lead c r mine) node
+
+-- the same once its leader left its leadership, to ask again
+abbrev pub IsGone : Config → ℕ → List Event → Node → Type 0
+IsGone c r mine node =
+    HoldsNode (HasGone c r mine) c r mine (handed_before c r mine) (may_lead_before c r mine) node

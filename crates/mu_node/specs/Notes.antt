@@ -15,6 +15,7 @@ use Rattle.mu_model.specs.Stretches.{is_odd}
 use Rattle.mu_lead.specs.declared.lead.Lead.{Lead}
 use Rattle.mu_lead.specs.declared.note.Note.{Note}
 use Rattle.mu_lead.specs.declared.place.Place.{Place}
+use Rattle.mu_lead.specs.Again.{TellsAstray}
 use Rattle.mu_lead.specs.Going.{begins_at, going_after}
 use Rattle.mu_lead.specs.Journal.{due_after, place_after, tables_at}
 use Rattle.mu_lead.specs.Lasting.{tables_of}
@@ -26,7 +27,7 @@ use Rattle.mu_lead.specs.Standing.{known_told}
 use Rattle.mu_node.specs.declared.turn.Turn.{Turn}
 use Rattle.mu_node.specs.declared.zeal.Zeal.{Zeal}
 use Rattle.mu_node.specs.Cycle.{IsMade}
-use Rattle.mu_node.specs.Due.{lead_due}
+use Rattle.mu_node.specs.Due.{asks_out_of_turn, lead_due}
 
 -- what the leader notes of the verb, answered so, at this place and with these tables
 abbrev pub note_at : Config → ℕ → List Event → Tables → Place → Verb → Answer → Note
@@ -94,22 +95,30 @@ pub record SaysTook (c : Config) (r : ℕ) (mine : List Event) (leads : Bool) (d
 -- the note of a turn that made this event: nothing in a background turn; in one of the leader what
 -- it noted when it was told which leader the scores name if nothing was due, else what the answer
 -- meant, which names an entry exactly if the put made it known, and each other cause exactly if the
--- leader's contract says so, at the place of the listing that the journal has
-pub record TellsNote (c : Config) (r : ℕ) (mine : List Event) (lead : Lead) (answer : Answer)
-    (note : Note) : Type 0 where
+-- leader's contract says so, at the place of the listing that the journal has; but if it asks again
+-- out of turn, the region that has gone astray
+pub record TellsNote (zeal : Zeal) (c : Config) (r : ℕ) (mine : List Event) (lead : Lead)
+    (answer : Answer) (note : Note) : Type 0 where
   pub background : is_odd (length mine) ≡ false → note ≡ Note.Working
   pub idle :
-      is_odd (length mine) ≡ true → due_after c r mine ≡ None → note ≡ heed_note c r mine lead
+      asks_out_of_turn zeal c r mine ≡ false → is_odd (length mine) ≡ true
+      → due_after c r mine ≡ None → note ≡ heed_note c r mine lead
   pub taken :
-      (verb : Verb) → is_odd (length mine) ≡ true → due_after c r mine ≡ Some verb
+      (verb : Verb) → asks_out_of_turn zeal c r mine ≡ false → is_odd (length mine) ≡ true
+      → due_after c r mine ≡ Some verb
       → known c r (record { by = r; verb = verb; answer = answer } ∷ mine)
       ≡ grown (known_told c r mine r verb answer) (value_committed note)
   pub says :
-      (verb : Verb) → is_odd (length mine) ≡ true → due_after c r mine ≡ Some verb
+      (verb : Verb) → asks_out_of_turn zeal c r mine ≡ false → is_odd (length mine) ≡ true
+      → due_after c r mine ≡ Some verb
       → Says c r mine (tables_at c r mine).up (place_after c r mine) verb answer note
   pub noted :
-      (verb : Verb) → is_odd (length mine) ≡ true → due_after c r mine ≡ Some verb
+      (verb : Verb) → asks_out_of_turn zeal c r mine ≡ false → is_odd (length mine) ≡ true
+      → due_after c r mine ≡ Some verb
       → note ≡ note_at c r mine (tables_at c r mine) (place_after c r mine) verb answer
+  pub again :
+      asks_out_of_turn zeal c r mine ≡ true → is_odd (length mine) ≡ true
+      → TellsAstray c r mine note
 
 -- a step of r, plain or eager: its event comes to the part, it is the verb that was due or a beat,
 -- and the note tells of it
@@ -119,7 +128,7 @@ pub record HasMade (zeal : Zeal) (c : Config) (r : ℕ) (mine now : List Event) 
   pub answer : Answer
   pub part : now ≡ (record { by = r; verb = verb; answer = answer }) ∷ mine
   pub made : IsMade zeal c r mine verb
-  pub tells : TellsNote c r mine lead answer note
+  pub tells : TellsNote zeal c r mine lead answer note
 
 -- the same of a turn that made a step
 abbrev pub TellsTurn : Zeal → Config → ℕ → List Event → List Event → Lead → Turn → Type 0

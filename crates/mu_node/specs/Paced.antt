@@ -5,6 +5,8 @@ use Rattle.mu_model.specs.declared.config.Config.{Config}
 use Rattle.mu_model.specs.declared.event.Event.{Event}
 use Rattle.mu_model.specs.Steps.{is_named}
 use Rattle.mu_model.specs.Stretches.{is_odd}
+use Rattle.std.specs.declared.option.Option.{Option}
+use Rattle.mu_lead.specs.Standing.{At}
 use Rattle.mu_lead.specs.declared.lead.Lead.{Lead}
 use Rattle.mu_lead.specs.declared.place.Place.{Place}
 use Rattle.mu_lead.specs.Causes.{CausesAt}
@@ -43,3 +45,15 @@ PacesTold false c r mine lead = HasPaces c r mine lead
 abbrev pub HasPlannedPaces : Config → ℕ → List Event → Lead → Type 0
 HasPlannedPaces c r mine lead =
     PacesTold (is_odd (length mine) && not (is_named c r mine)) c r mine lead
+
+-- the leader left its leadership, to ask again: each count had the room of the place before, which
+-- is that of the journal; and it begins again
+pub record HasGone (c : Config) (r : ℕ) (mine : List Event) (lead : Lead) : Type 0 where
+  pub before : Place
+  pub number : ℕ
+  pub up : List ℕ
+  pub reach : List (Option ℕ)
+  pub written : List ℕ
+  pub at : At c r number mine up reach written before
+  pub paces : PacesAt c r mine written before
+  pub left : HasLeft c r mine lead

@@ -1,5 +1,5 @@
 -- turn, result: what a turn of a replica does, and what it leaves.
-use Rattle.std.specs.Prelude.{List, None, Some, map, ℕ, ◌∷◌, ◌≡◌}
+use Rattle.std.specs.Prelude.{Bool, List, None, Some, map, ℕ, ◌∷◌, ◌≡◌}
 use Rattle.std.specs.declared.option.Option.{Option}
 use Rattle.kv_store.specs.Commands.{Request}
 use Rattle.kv_store.specs.Tables.{replies}
@@ -9,7 +9,7 @@ use Rattle.mu_model.specs.declared.event.Event.{Event}
 use Rattle.mu_model.specs.declared.event.Verb.{Verb}
 use Rattle.mu_model.specs.declared.script.End.{End}
 use Rattle.mu_model.specs.declared.script.Script.{Script}
-use Rattle.mu_model.specs.Diligence.{IsDiligent}
+use Rattle.mu_model.specs.Diligence.{IsDiligentBy}
 use Rattle.mu_model.specs.Ends.{EndsBy}
 use Rattle.mu_model.specs.Knowledge.{applied, commits}
 use Rattle.mu_port.specs.Telling.{Tells}
@@ -46,10 +46,11 @@ IsTurn c script r mine now before after (Turn.Ended end) =
 
 -- what a replica leaves is what the definitions give of its events, which are diligent; its replies
 -- are those of the store to the commands that the rows of what it applied spell
-pub record IsResult (c : Config) (r : ℕ) (mine : List Event) (result : NodeResult) : Type 0 where
+pub record IsResult (again : Bool) (c : Config) (r : ℕ) (mine : List Event)
+    (result : NodeResult) : Type 0 where
   pub log : result.log ≡ applied c r mine
   pub commits : map pair_of result.commits ≡ commits c r mine
   pub replies :
       (commands : List Request) → AreSpelled c commands
       → result.replies ≡ replies (groups_of c commands (applied c r mine))
-  pub diligent : IsDiligent c r mine
+  pub diligent : IsDiligentBy again c r mine

@@ -4,6 +4,7 @@
 //! which the replica may make by its own events; if none is due, it beats.
 #![tactic(auto)]
 
+mod again;
 mod answers;
 mod cycle;
 mod ending;

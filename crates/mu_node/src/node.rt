@@ -4,10 +4,11 @@ ghost use Rattle.mu_model.specs.declared.config.Config.{Config};
 ghost use Rattle.mu_model.specs.declared.event.Event.{Event as SomeEvent};
 ghost use Rattle.mu_model.specs.declared.script.Script.{Script};
 ghost use Rattle.mu_model.specs.Contents.{IsConfig, row_count};
-ghost use Rattle.mu_model.specs.Diligence.{GrantsInTime, IsDiligent, ReadsInTime, Replays, TellsHeads};
+ghost use Rattle.mu_model.specs.Diligence.{GrantsInTime, IsDiligentBy, ReadsInTime, Replays, TellsHeads};
 ghost use Rattle.mu_model.specs.Ends.{outrun};
 ghost use Rattle.mu_model.specs.Parts.{IsPossible};
 ghost use Rattle.mu_model.specs.Room.{reserve};
+ghost use Rattle.mu_node.specs.Due.{asks_out_of_turn, is_eager};
 ghost use Rattle.mu_node.specs.Journal.{IsListed};
 ghost use Rattle.mu_node.specs.Node.{StandsForNode};
 ghost use Rattle.mu_node.specs.Notes.{HasMade, MovesGoing, MovesTurn, TellsTurn};
@@ -27,7 +28,7 @@ use mu_grant::Grants;
 use mu_input::Job;
 use mu_knowledge::{Commit, first_values};
 use mu_lead::{Lead, Note};
-use mu_model::{End, NoMemory, Sequence, Stop, positions_in};
+use mu_model::{End, NoMemory, Sequence, Stop, Verb, positions_in};
 use mu_port::Port;
 use std::alloc::Global;
 
@@ -152,7 +153,8 @@ impl Node {
             (P.part port.new) }
         ensures listed { AtEachStep (IsListed self.new.zeal (P.config port.new)
             (P.number port.new)) (P.part port.new) }
-        ensures diligent { IsDiligent (P.config port.new) (P.number port.new) (P.part port.new) }
+        ensures diligent { IsDiligentBy (is_eager self.new.zeal) (P.config port.new)
+            (P.number port.new) (P.part port.new) }
         ensures advances { AdvancesInTime (P.config port.new) (P.number port.new)
             (P.part port.new) }
     {
@@ -163,7 +165,7 @@ impl Node {
         }
     }
 
-    /// One step: what is due, else a beat.
+    /// One step: the first ask if the replica asks again, out of turn; else what is due, or a beat.
     fn step<P: Port>(&mut self, port: &mut P, id: u8) -> Note
         ghost mine: { List SomeEvent }
         requires mine { P.part port.old ≡ mine }
@@ -188,9 +190,16 @@ impl Node {
         ensures going { MovesGoing (P.config port.old) (P.number port.old) (P.part port.old)
             self.old.lead self.new.lead result }
     {
-        let plan = self.plan();
-        let answer = port.step(plan.verb);
-        self.took(plan, id, answer)
+        if self.asks_out_of_turn() {
+            let note = self.leave_leadership();
+            let answer = port.step(Verb::Ask(0));
+            self.took_again(id, answer);
+            note
+        } else {
+            let plan = self.plan();
+            let answer = port.step(plan.verb);
+            self.took(plan, id, answer)
+        }
     }
 
     /// What the replica leaves. Takes no memory.
@@ -199,7 +208,8 @@ impl Node {
             × IsPossible c r mine × StandsForNode c r mine self }
         ensures is { (c : Config) → (r : ℕ) → (mine : List SomeEvent) → IsConfig c
             → IsPossible c r mine
-            → StandsForNode c r mine self → IsResult c r mine result }
+            → StandsForNode c r mine self
+            → IsResult (is_eager self.zeal) c r mine result }
         ensures end { (c : Config) → (script : Script) → (r : ℕ) → (mine : List SomeEvent)
             → script.stops ≡ self.stops.items → IsConfig c → IsPossible c r mine
             → StandsForNode c r mine self → TellsEnd c script r mine result.end }

@@ -44,7 +44,7 @@ pub(crate) struct Plan {
 
 /// Whether the turn after this many steps is one of the leader: turns are counted from 0, and these
 /// are the odd ones.
-fn is_turn_of_leader(steps: u32) -> bool
+pub(crate) fn is_turn_of_leader(steps: u32) -> bool
     ensures { result ≡ is_odd steps }
 {
     steps % 2 == 1
@@ -270,7 +270,7 @@ impl Node {
     }
 
     /// Tells the leader which leader the scores name, before a step of its own.
-    fn heed(&mut self) -> Note
+    pub(crate) fn heed(&mut self) -> Note
         ghost mine: { List SomeEvent }
         requires stands { StandsForNode self.old.follow.config self.old.id mine self.old }
         ensures stands { HasHeard self.old.follow.config self.old.id mine self.new }
@@ -297,7 +297,7 @@ impl Node {
     /// known is told next. Most of all events are words of rows and beats: with their verbs written
     /// out the compiler sees that nothing else takes them, and keeps them in registers.
     #[inline(always)]
-    fn note(&mut self, by: u8, verb: Verb, answer: Answer)
+    pub(crate) fn note(&mut self, by: u8, verb: Verb, answer: Answer)
         requires config { IsConfig self.old.follow.config }
         ensures stands { (mine : List SomeEvent)
             → IsPossible self.old.follow.config by

@@ -1,10 +1,11 @@
-//! What a node does in the turns of its leader in which nothing is due.
+//! How eager a node is.
 
-/// What a node does in a turn of its leader in which the leader has nothing due.
+/// What a node does beyond its listing and its cycle.
 #[derive(Clone, Copy, Debug, PartialEq, Eq)]
 pub enum Zeal {
-    /// It beats.
+    /// Nothing: if no step is due, it beats.
     Plain,
-    /// If it follows, it reads on in what it lacks; else it beats.
+    /// If no step is due, it writes ahead what it offers next if it leads, and reads on in what it
+    /// lacks if it follows. If it leads and a region has gone astray, it asks again.
     Eager,
 }

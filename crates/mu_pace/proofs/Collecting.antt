@@ -14,7 +14,7 @@ longer : (test : Event → Bool) (n m : ℕ) (now : List Event) → n ≤ m → 
 longer test n m now l h = omega arith
 
 pub parts_keep_pace : PartsKeepPace
-parts_keep_pace c r past e rounds grants leader replayer = record {
+parts_keep_pace again c r past e rounds grants leader replayer = record {
   heartbeat_pace = record {
     beat = rounds_keep_pace.lately (cycle c) rounds.beat.0 is_beat (e ∷ past) rounds.beat.1.0 rounds.beat.1.1;
     beats = λ q l d. (let k = rounds.beats q l d in rounds_keep_pace.lately (cycle c) k.0 (is_beat_read q) (e ∷ past) k.1.0 k.1.1);

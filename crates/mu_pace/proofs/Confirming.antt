@@ -11,7 +11,7 @@ use Rattle.mu_model.specs.Steps.{has_min, is_any_fencing, is_min, is_named, name
 use Rattle.mu_model.specs.Stretches.{IsStretch, each_step, is_replication}
 use Rattle.mu_model.proofs.Basics.{event_by, none_some}
 use Rattle.mu_pace.specs.Counters.{AtEachMoment, AtEachStep, IsInTime}
-use Rattle.mu_pace.specs.Keeping.{ConfirmsInTime, HasCause}
+use Rattle.mu_pace.specs.Keeping.{ConfirmsInTime, HasCauseBy}
 use Rattle.mu_pace.specs.Paces.{AsksHaveCause, ConfirmedBeginInTime}
 use Rattle.mu_pace.specs.Watches.{confirming, is_confirming, turns_away}
 use Rattle.mu_pace.proofs.Counting.{allowed_here, remains, shorter, steps_before}
@@ -23,8 +23,8 @@ step_of : (P : List Event → Event → Type 0) (past older : List Event) (e : E
 step_of P past older e h s = (steps_before P s.newer (e ∷ older) (subst (AtEachStep P) s.is h)).1
 
 pub asks_have_cause : AsksHaveCause
-asks_have_cause c r past h =
-    record { named = λ p e older s a. (step_of (HasCause c r) past older e h s).named p a; anew = λ e older s a. (step_of (HasCause c r) past older e h s).anew a }
+asks_have_cause again c r past h =
+    record { named = λ p e older s a. (step_of (HasCauseBy again c r) past older e h s).named p a; anew = λ e older s a. (step_of (HasCauseBy again c r) past older e h s).anew a }
 
 -- the count of a confirmed leadership is in time at each moment
 in_time : (c : Config) (r : ℕ) (past : List Event) → AtEachStep (ConfirmsInTime c r) past → AtEachMoment (IsInTime (confirming c r)) past

@@ -8,11 +8,11 @@ use Rattle.mu_model.specs.declared.config.Config.{Config}
 use Rattle.mu_model.specs.declared.event.Event.{Event}
 use Rattle.mu_model.specs.Bounds.{cycle}
 use Rattle.mu_model.specs.Steps.{is_ask_read, is_beat, is_beat_read, is_head_of}
-use Rattle.mu_pace.specs.Collecting.{LeaderKeeps}
+use Rattle.mu_pace.specs.Collecting.{LeaderKeepsBy}
 use Rattle.mu_model.proofs.Basics.{none_some, same_some}
 use Rattle.mu_pace.specs.Counters.{AtEachMoment, AtEachStep, IsInTime, Watch, allowed_while}
 use Rattle.mu_pace.specs.Cycles.{KeepsBeside, LeadersAdvance, MachinesAreDiligent, RoundsReadInTime, RoundsTellHeads}
-use Rattle.mu_pace.specs.Keeping.{IsDiligentAtEachMoment}
+use Rattle.mu_pace.specs.Keeping.{IsDiligentAtEachMomentBy}
 use Rattle.mu_pace.specs.Watches.{advancing}
 use Rattle.mu_pace.specs.Rounds.{IsClosedAt, IsMadeAt, IsMadeOnlyAt}
 use Rattle.mu_pace.proofs.Collecting.{parts_keep_pace}
@@ -48,20 +48,20 @@ rounds_tell_heads c r past rounds raised =
     heads_told c r past raised
     (λ q low other. (let k = rounds.heads q low other in recent ((c.replicas - 1) * cycle c) k.0 (c.replicas * cycle c) (is_head_of q) past k.1.0 (mul-le-mul_right (cycle c) (omega arith)) k.1.1))
 
-each_moment : (c : Config) (r : ℕ) (past : List Event) → AtEachStep (KeepsBeside c r) past → AtEachStep (LeaderKeeps c r) past → IsDiligentAtEachMoment c r past
-each_moment c r [] beside leader = tt
-each_moment c r (e ∷ past) beside leader = (each_moment c r past beside.0 leader.0, let kept = beside.1 in parts_keep_pace c r past e kept.rounds kept.grants leader.1 kept.replayer)
+each_moment : (again : Bool) (c : Config) (r : ℕ) (past : List Event) → AtEachStep (KeepsBeside c r) past → AtEachStep (LeaderKeepsBy again c r) past → IsDiligentAtEachMomentBy again c r past
+each_moment again c r [] beside leader = tt
+each_moment again c r (e ∷ past) beside leader = (each_moment again c r past beside.0 leader.0, let kept = beside.1 in parts_keep_pace again c r past e kept.rounds kept.grants leader.1 kept.replayer)
 
 pub machines_are_diligent : MachinesAreDiligent
-machines_are_diligent c r past beside leader = kept_pace_is_diligent c r past (each_moment c r past beside leader)
+machines_are_diligent again c r past beside leader = kept_pace_is_diligent again c r past (each_moment again c r past beside leader)
 
 -- what a leader keeps holds its count of advances at each moment
-pub advancing_moments : (c : Config) (r : ℕ) (past : List Event) → AtEachStep (LeaderKeeps c r) past → AtEachMoment (IsInTime (advancing c r)) past
-advancing_moments c r [] kept = λ left is. absurd (none_some left is)
-advancing_moments c r (e ∷ past) kept = (advancing_moments c r past kept.0, kept.1.places.advancing)
+pub advancing_moments : (again : Bool) (c : Config) (r : ℕ) (past : List Event) → AtEachStep (LeaderKeepsBy again c r) past → AtEachMoment (IsInTime (advancing c r)) past
+advancing_moments again c r [] kept = λ left is. absurd (none_some left is)
+advancing_moments again c r (e ∷ past) kept = (advancing_moments again c r past kept.0, kept.1.places.advancing)
 
 pub leaders_advance : LeadersAdvance
-leaders_advance c r past kept = advances_come c r past (advancing_moments c r past kept)
+leaders_advance again c r past kept = advances_come c r past (advancing_moments again c r past kept)
 
 -- a count that each round closes is in time at each moment
 pub closed_moments : (n k : ℕ) (w : Watch) (past : List Event) → k < n → ((now : List Event) (allowed : ℕ) → w.allows now ≡ Some allowed → n ≤ allowed) → IsClosedAt n k w past → AtEachMoment (IsInTime w) past

@@ -1,12 +1,12 @@
 -- keeps all: what each machine of a node keeps, and that the whole journal keeps it.
-use Rattle.std.specs.Prelude.{List, ℕ, ◌*◌, ◌-◌, ◌<◌, ◌∷◌, ◌≢◌}
+use Rattle.std.specs.Prelude.{Bool, List, false, ℕ, ◌*◌, ◌-◌, ◌<◌, ◌∷◌, ◌≢◌}
 use Rattle.mu_model.specs.declared.config.Config.{Config}
 use Rattle.mu_model.specs.declared.event.Event.{Event}
 use Rattle.mu_model.specs.Bounds.{cycle}
 use Rattle.mu_model.specs.Diligence.{GrantsInTime}
 use Rattle.mu_model.specs.Steps.{is_ask_read, is_beat, is_beat_read, is_head_of}
 use Rattle.mu_pace.specs.Counters.{IsInTime}
-use Rattle.mu_pace.specs.Keeping.{AsksLately, ConfirmsInTime, HasCause, KeepsPace, ReplaysInTime}
+use Rattle.mu_pace.specs.Keeping.{AsksLately, ConfirmsInTime, HasCauseBy, KeepsPaceBy, ReplaysInTime}
 use Rattle.mu_pace.specs.Placed.{AreInTime}
 use Rattle.mu_pace.specs.Rounds.{IsMadeAt, IsMadeOnlyAt}
 use Rattle.mu_pace.specs.Watches.{explaining, joining, raising, raising_head}
@@ -28,15 +28,19 @@ pub record KeepsRounds (c : Config) (r : ℕ) (now : List Event) : Type 0 where
       × ((k < (c.replicas - 1) * cycle c)
       × IsMadeAt ((c.replicas - 1) * cycle c) k (is_head_of q) now)
 
--- what the leader keeps with the event
-pub record LeaderKeeps (c : Config) (r : ℕ) (past : List Event) (e : Event) : Type 0 where
-  pub asks : AsksLately c r past e
-  pub cause : HasCause c r past e
-  pub confirmation : ConfirmsInTime c r past e
-  pub places : AreInTime c r (e ∷ past)
-  pub evidence : (p : ℕ) → IsInTime (explaining c r p) (e ∷ past)
-  pub raises : (p : ℕ) → p < c.replicas → IsInTime (raising c r p) (e ∷ past)
-  pub joins : (p : ℕ) → p < c.replicas → IsInTime (joining c r p) (e ∷ past)
+-- what the leader keeps with the event, which asks again if it may
+pub record LeaderKeepsBy (again : Bool) (c : Config) (r : ℕ) (past : List Event) (e : Event) : Type 0
+  where
+    pub asks : AsksLately c r past e
+    pub cause : HasCauseBy again c r past e
+    pub confirmation : ConfirmsInTime c r past e
+    pub places : AreInTime c r (e ∷ past)
+    pub evidence : (p : ℕ) → IsInTime (explaining c r p) (e ∷ past)
+    pub raises : (p : ℕ) → p < c.replicas → IsInTime (raising c r p) (e ∷ past)
+    pub joins : (p : ℕ) → p < c.replicas → IsInTime (joining c r p) (e ∷ past)
+
+abbrev pub LeaderKeeps : Config → ℕ → List Event → Event → Type 0
+LeaderKeeps c r past e = LeaderKeepsBy false c r past e
 
 -- what the replayer keeps with it
 pub record ReplayerKeeps (c : Config) (r : ℕ) (past : List Event) (e : Event) : Type 0 where
@@ -46,6 +50,6 @@ pub record ReplayerKeeps (c : Config) (r : ℕ) (past : List Event) (e : Event) 
 -- what the host, the cycle, the leader and the replayer keep is every pace
 abbrev pub PartsKeepPace : Type 0
 PartsKeepPace =
-    (c : Config) (r : ℕ) (past : List Event) (e : Event) → KeepsRounds c r (e ∷ past)
-    → GrantsInTime c r (e ∷ past) → LeaderKeeps c r past e → ReplayerKeeps c r past e
-    → KeepsPace c r past e
+    (again : Bool) (c : Config) (r : ℕ) (past : List Event) (e : Event)
+    → KeepsRounds c r (e ∷ past) → GrantsInTime c r (e ∷ past)
+    → LeaderKeepsBy again c r past e → ReplayerKeeps c r past e → KeepsPaceBy again c r past e

@@ -1,11 +1,11 @@
 -- keeps beside: what the cycle, the host and the replayer keep with each event; and what reads at
 -- places of their own come to in stretches.
-use Rattle.std.specs.Prelude.{List, ◌∷◌, ℕ}
+use Rattle.std.specs.Prelude.{Bool, List, ◌∷◌, ℕ}
 use Rattle.mu_model.specs.declared.config.Config.{Config}
 use Rattle.mu_model.specs.declared.event.Event.{Event}
-use Rattle.mu_model.specs.Diligence.{GrantsInTime, IsDiligent, ReadsInTime, TellsHeads}
+use Rattle.mu_model.specs.Diligence.{GrantsInTime, IsDiligentBy, ReadsInTime, TellsHeads}
 use Rattle.mu_pace.specs.Blocking.{AdvancesInTime}
-use Rattle.mu_pace.specs.Collecting.{KeepsRounds, LeaderKeeps, ReplayerKeeps}
+use Rattle.mu_pace.specs.Collecting.{KeepsRounds, LeaderKeepsBy, ReplayerKeeps}
 use Rattle.mu_pace.specs.Counters.{AtEachMoment, AtEachStep, IsInTime}
 use Rattle.mu_pace.specs.Watches.{raising_head}
 
@@ -29,11 +29,11 @@ pub record KeepsBeside (c : Config) (r : ℕ) (past : List Event) (e : Event) : 
 -- a journal in which each event keeps this, and what the leader keeps, is diligent
 abbrev pub MachinesAreDiligent : Type 0
 MachinesAreDiligent =
-    (c : Config) (r : ℕ) (past : List Event) → AtEachStep (KeepsBeside c r) past
-    → AtEachStep (LeaderKeeps c r) past → IsDiligent c r past
+    (again : Bool) (c : Config) (r : ℕ) (past : List Event) → AtEachStep (KeepsBeside c r) past
+    → AtEachStep (LeaderKeepsBy again c r) past → IsDiligentBy again c r past
 
 -- a journal in which each event keeps what the leader keeps advances in time
 abbrev pub LeadersAdvance : Type 0
 LeadersAdvance =
-    (c : Config) (r : ℕ) (past : List Event) → AtEachStep (LeaderKeeps c r) past
-    → AdvancesInTime c r past
+    (again : Bool) (c : Config) (r : ℕ) (past : List Event)
+    → AtEachStep (LeaderKeepsBy again c r) past → AdvancesInTime c r past

@@ -1,11 +1,11 @@
 -- keeps pace, diligent at each moment: what one event has to keep, with a field for each pace; and
 -- that each event of a journal does.
-use Rattle.std.specs.Prelude.{Bool, List, None, [], length, true, ℕ, ◌*◌, ◌+◌, ◌<◌, ◌∷◌, ◌≡◌, ◌≢◌, ◌≤◌}
+use Rattle.std.specs.Prelude.{Bool, List, None, [], false, length, true, ℕ, ◌*◌, ◌+◌, ◌<◌, ◌∷◌, ◌≡◌, ◌≢◌, ◌≤◌}
 use Rattle.mu_agree.specs.Paces.{asks_or_rests, steps_since}
 use Rattle.mu_model.specs.declared.config.Config.{Config}
 use Rattle.mu_model.specs.declared.event.Event.{Event}
 use Rattle.mu_model.specs.Bounds.{cycle}
-use Rattle.mu_model.specs.Diligence.{may_ask_anew}
+use Rattle.mu_model.specs.Diligence.{may_begin}
 use Rattle.mu_model.specs.Histories.{has, since}
 use Rattle.mu_model.specs.Leaderships.{begins_leadership}
 use Rattle.mu_model.specs.Steps.{is_ask_read, is_asking, is_beat, is_beat_read, is_fencing, is_head_of, is_named}
@@ -36,9 +36,13 @@ pub record AsksLately (c : Config) (r : ℕ) (past : List Event) (e : Event) : T
       → steps_since (asks_or_rests c r (is_fencing p)) (e ∷ past) < 17 * c.replicas + 1
 
 -- ask discipline: r asks only if it is named, and asks again only with cause
-pub record HasCause (c : Config) (r : ℕ) (past : List Event) (e : Event) : Type 0 where
-  pub named : (p : ℕ) → is_asking p e ≡ true → is_named c r past ≡ true
-  pub anew : is_asking 0 e ≡ true → may_ask_anew c r past ≡ true
+pub record HasCauseBy (again : Bool) (c : Config) (r : ℕ) (past : List Event) (e : Event) : Type 0
+  where
+    pub named : (p : ℕ) → is_asking p e ≡ true → is_named c r past ≡ true
+    pub anew : is_asking 0 e ≡ true → may_begin again c r past ≡ true
+
+abbrev pub HasCause : Config → ℕ → List Event → Event → Type 0
+HasCause c r past e = HasCauseBy false c r past e
 
 -- confirmation: the `Min` is in time, and no leadership begins while another waits for its own
 pub record ConfirmsInTime (c : Config) (r : ℕ) (past : List Event) (e : Event) : Type 0 where
@@ -56,23 +60,31 @@ pub record HeadsInTime (c : Config) (r : ℕ) (past : List Event) (e : Event) : 
   pub reads :
       (q : ℕ) → q < c.replicas → q ≢ r → CameLately (is_head_of q) (c.replicas * cycle c) (e ∷ past)
 
--- the event keeps every pace of r's journal
-pub record KeepsPace (c : Config) (r : ℕ) (past : List Event) (e : Event) : Type 0 where
-  pub heartbeat_pace : ReadsLately c r past e
-  pub grant_pace : (w : ℕ) → IsInTime (granting c r w) (e ∷ past)
-  pub election_pace : AsksLately c r past e
-  pub progress_bound : IsInTime (progressing c r) (e ∷ past)
-  pub evidence_after_a_miss : (p : ℕ) → IsInTime (explaining c r p) (e ∷ past)
-  pub ask_discipline : HasCause c r past e
-  pub confirmation : ConfirmsInTime c r past e
-  pub raised_fuos : (p : ℕ) → p < c.replicas → IsInTime (raising c r p) (e ∷ past)
-  pub asking_after : (p : ℕ) → p < c.replicas → IsInTime (asking_after c r p) (e ∷ past)
-  pub joining : (p : ℕ) → p < c.replicas → IsInTime (joining c r p) (e ∷ past)
-  pub bringing_up : (p : ℕ) → p < c.replicas → IsInTime (bringing_up c r p) (e ∷ past)
-  pub replayer_pace : ReplaysInTime c r past e
-  pub head_pace : HeadsInTime c r past e
+-- the event keeps every pace of r's journal, and asks again if it may
+pub record KeepsPaceBy (again : Bool) (c : Config) (r : ℕ) (past : List Event) (e : Event) : Type 0
+  where
+    pub heartbeat_pace : ReadsLately c r past e
+    pub grant_pace : (w : ℕ) → IsInTime (granting c r w) (e ∷ past)
+    pub election_pace : AsksLately c r past e
+    pub progress_bound : IsInTime (progressing c r) (e ∷ past)
+    pub evidence_after_a_miss : (p : ℕ) → IsInTime (explaining c r p) (e ∷ past)
+    pub ask_discipline : HasCauseBy again c r past e
+    pub confirmation : ConfirmsInTime c r past e
+    pub raised_fuos : (p : ℕ) → p < c.replicas → IsInTime (raising c r p) (e ∷ past)
+    pub asking_after : (p : ℕ) → p < c.replicas → IsInTime (asking_after c r p) (e ∷ past)
+    pub joining : (p : ℕ) → p < c.replicas → IsInTime (joining c r p) (e ∷ past)
+    pub bringing_up : (p : ℕ) → p < c.replicas → IsInTime (bringing_up c r p) (e ∷ past)
+    pub replayer_pace : ReplaysInTime c r past e
+    pub head_pace : HeadsInTime c r past e
+
+abbrev pub KeepsPace : Config → ℕ → List Event → Event → Type 0
+KeepsPace c r past e = KeepsPaceBy false c r past e
 
 -- each event of the journal keeps every pace
+abbrev pub IsDiligentAtEachMomentBy : Bool → Config → ℕ → List Event → Type 0
+IsDiligentAtEachMomentBy again c r [] = Unit {0}
+IsDiligentAtEachMomentBy again c r (e ∷ past) =
+    IsDiligentAtEachMomentBy again c r past × KeepsPaceBy again c r past e
+
 abbrev pub IsDiligentAtEachMoment : Config → ℕ → List Event → Type 0
-IsDiligentAtEachMoment c r [] = Unit {0}
-IsDiligentAtEachMoment c r (e ∷ past) = IsDiligentAtEachMoment c r past × KeepsPace c r past e
+IsDiligentAtEachMoment c r past = IsDiligentAtEachMomentBy false c r past

@@ -1,15 +1,15 @@
 -- paces in time: the laws that lead from each moment to each stretch: a journal that keeps its
 -- paces at each moment is diligent.
-use Rattle.std.specs.Prelude.{List, ℕ, ◌<◌, ◌≢◌, ◌*◌}
+use Rattle.std.specs.Prelude.{Bool, List, ℕ, ◌<◌, ◌≢◌, ◌*◌}
 use Rattle.mu_agree.specs.Paces.{IsRecent}
 use Rattle.mu_model.specs.declared.config.Config.{Config}
 use Rattle.mu_model.specs.declared.event.Event.{Event}
 use Rattle.mu_model.specs.Bounds.{cycle}
-use Rattle.mu_model.specs.Diligence.{AsksAfterOthers, AsksWithCause, BeginsInTime, BringsUpInTime, CommitsInTime, GrantsInTime, IsDiligent, JoinsInTime, LooksIntoMisses, RaisesInTime, Replays, TellsHeads}
+use Rattle.mu_model.specs.Diligence.{AsksAfterOthers, AsksWithCauseBy, BeginsInTime, BringsUpInTime, CommitsInTime, GrantsInTime, IsDiligentBy, JoinsInTime, LooksIntoMisses, RaisesInTime, Replays, TellsHeads}
 use Rattle.mu_model.specs.Steps.{is_head_of}
 use Rattle.mu_pace.specs.Blocking.{AdvancesInTime}
 use Rattle.mu_pace.specs.Counters.{AtEachMoment, AtEachStep, IsInTime}
-use Rattle.mu_pace.specs.Keeping.{ConfirmsInTime, HasCause, IsDiligentAtEachMoment}
+use Rattle.mu_pace.specs.Keeping.{ConfirmsInTime, HasCauseBy, IsDiligentAtEachMomentBy}
 use Rattle.mu_pace.specs.Watches.{advancing, asking_after, bringing_up, explaining, granting, joining, progressing, raising, raising_head, reading_own, replaying}
 
 -- grants that are in time at each moment come within a round
@@ -45,8 +45,8 @@ MissesAreExplained =
 -- a journal whose asks each had a cause asks with cause
 abbrev pub AsksHaveCause : Type 0
 AsksHaveCause =
-    (c : Config) (r : ℕ) (past : List Event) → AtEachStep (HasCause c r) past
-    → AsksWithCause c r past
+    (again : Bool) (c : Config) (r : ℕ) (past : List Event) → AtEachStep (HasCauseBy again c r) past
+    → AsksWithCauseBy again c r past
 
 -- a confirmed leadership begins in time
 abbrev pub ConfirmedBeginInTime : Type 0
@@ -98,4 +98,5 @@ HeadsAreTold =
 -- a journal in which each event keeps every pace is diligent
 abbrev pub KeptPaceIsDiligent : Type 0
 KeptPaceIsDiligent =
-    (c : Config) (r : ℕ) (past : List Event) → IsDiligentAtEachMoment c r past → IsDiligent c r past
+    (again : Bool) (c : Config) (r : ℕ) (past : List Event)
+    → IsDiligentAtEachMomentBy again c r past → IsDiligentBy again c r past

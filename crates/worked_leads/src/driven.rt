@@ -286,6 +286,23 @@ impl Driven {
         self.turn_after(memory)
     }
 
+    /// Lets the leader leave its leadership if it asks again, and answers what it notes then.
+    pub fn leave<M: Memory>(&mut self, memory: &M) -> Option<Note>
+        ghost past: { List SomeEvent }
+        requires past { history (M.events memory.now) ≡ past }
+        requires drives { Drives past self.old }
+        ensures drives { Drives (history (M.events memory.now)) self.new }
+        ensures config { self.new.lead.config ≡ self.old.lead.config }
+    {
+        let _legal = memory.events();
+        self.heed();
+        if self.lead.asks_again(self.lead.failed) {
+            Some(self.lead.leave())
+        } else {
+            None
+        }
+    }
+
     /// Whether a step that isn't the leader's may be made: of another replica, or of the host or
     /// the scores of its own.
     fn may(&self, by: u8, verb: &Verb) -> bool

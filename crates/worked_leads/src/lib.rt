@@ -2,6 +2,8 @@
 //! steps are made by hand, and its verbs and notes are compared with those from outside.
 #![tactic(auto)]
 
+#[cfg(test)]
+mod again;
 mod driven;
 #[cfg(test)]
 mod lists;

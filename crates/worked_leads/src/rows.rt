@@ -49,6 +49,7 @@ fn is_as_told<M: Memory>(driven: &mut Driven, memory: &mut M, step: &Step) -> bo
             driven.turn(memory) == (Note::Working, Some(Led { verb, answer, note }))
         }
         Step::Rest(note) => driven.turn(memory) == (note, None),
+        Step::Again(note) => driven.leave(memory) == note,
         Step::Aside(by, verb, answer) => driven.aside(memory, by, verb) == Some(answer),
     }
 }

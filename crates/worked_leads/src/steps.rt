@@ -12,6 +12,8 @@ pub(crate) enum Step {
     Due(Verb, Answer, Note),
     /// Nothing is due, and the leader noted so when it was told which leader the scores name.
     Rest(Note),
+    /// The leader asks again, and notes so as it leaves its leadership; or it doesn't ask again.
+    Again(Option<Note>),
     /// A replica makes a step that isn't the leader's, and is answered so.
     Aside(u8, Verb, Answer),
 }

@@ -1,3 +1,5 @@
+use Rattle.std.proofs.Common.{ap, ◌∙◌}
+use Rattle.std.specs.Prelude.{is_some}
 use Rattle.mu_leadership.proofs.Within.{reads_within}
 use Rattle.mu_leadership.proofs.leadership.Leadership.take_other.Goals as goal
 
@@ -10,5 +12,5 @@ returns c c' mine few possible held = record {
   number = c.number_after-self.ensures mine held.number;
   read = c.greatest_minimum_after-self.ensures mine held.read;
   put = c.greatest_number_after-self.ensures mine held.put;
-  notes = c.take_at_regions.ensures c' mine possible held.notes;
+  notes = c.take_at_regions.ensures c' mine possible (c.is_some-numbered.ensures ∙ ap is_some held.number) held.notes;
 }

@@ -9,6 +9,8 @@ use Rattle.mu_lead.specs.Journal.{tables_beside}
 use Rattle.mu_lead.specs.Lasting.{tables_of}
 use Rattle.mu_lead.specs.Resigning.{CountsAt}
 use Rattle.mu_lead.specs.Standing.{StandsFor}
+use Rattle.mu_node.specs.Due.{is_eager}
+use Rattle.mu_pace.specs.Collecting.{LeaderKeepsBy}
 use Rattle.mu_node.specs.Due.{written_row}
 use Rattle.mu_node.proofs.Writing.{is_written, unwritten}
 use Rattle.mu_node.specs.Node.{StandsForLead}
@@ -41,7 +43,7 @@ returns-in-None-clause-stands c mine beside ahead idle follows possible held =
       listed = subst (λ z. AtEachStep (IsListed z k r) (event_by r c.args.verb c.args.answer ∷ mine)) (sym c.note.ensures.zeal) (held.listed, follows.listed);
       leads = λ leads. leads_on k r mine (event_by r c.args.verb c.args.answer) (held.leads (subst (λ l. leads_at l.place ≡ true) c.note.ensures.lead leads));
       paces = subst (λ l. HasPaces k r (event_by r c.args.verb c.args.answer ∷ mine) l) (sym c.note.ensures.lead) paces;
-      led = (held.led, kept_other k r mine lead c.args.verb c.args.answer beside stays paces);
+      led = subst (λ z. AtEachStep (LeaderKeepsBy (is_eager z) k r) (event_by r c.args.verb c.args.answer ∷ mine)) (sym c.note.ensures.zeal) (held.led, kept_other (is_eager c.args.self.now.zeal) k r mine lead c.args.verb c.args.answer beside stays paces);
     }
 
 pub returns-in-Some-clause-stands : goal.returns-in-Some-clause-stands
@@ -81,5 +83,5 @@ returns-in-Some-clause-stands c mine beside ahead idle follows possible held =
       listed = subst (λ z. AtEachStep (IsListed z k r) (event_by r verb c.args.answer ∷ mine)) (sym c.note.ensures.zeal) (held.listed, follows.listed);
       leads = λ leads. leads_on k r mine (event_by r verb c.args.answer) (held.leads (sym (ap leads_at place) ∙ leads));
       paces = paces;
-      led = (held.led, kept_other k r mine next verb c.args.answer (subst (λ p. is_beside (leads_at p) verb ≡ true) (sym place) beside) stays paces);
+      led = subst (λ z. AtEachStep (LeaderKeepsBy (is_eager z) k r) (event_by r verb c.args.answer ∷ mine)) (sym c.note.ensures.zeal) (held.led, kept_other (is_eager c.args.self.now.zeal) k r mine next verb c.args.answer (subst (λ p. is_beside (leads_at p) verb ≡ true) (sym place) beside) stays paces);
     }

@@ -1,33 +1,166 @@
-use Rattle.std.proofs.Common.{◌≡◌, ◌∙◌, ◌<◌, ap, arith, false, length, refl, subst, sym, true, None, List, ℕ}
-use Rattle.std.specs.Prelude.{is_some}
+use Rattle.std.proofs.Common.{Bool, List, None, Some, ap, arith, false, inl, length, refl, subst, sym, true, true≢false, ℕ, ◌&&◌, ◌<◌, ◌∙◌, ◌∷◌, ◌≡◌}
+use Rattle.mu_model.specs.declared.event.Verb.{Verb}
+use Rattle.mu_model.specs.Again.{asks_again}
+use Rattle.mu_model.specs.Contents.{IsConfig}
+use Rattle.mu_model.specs.Ends.{outrun}
+use Rattle.mu_model.specs.Parts.{IsPossible}
+use Rattle.mu_model.specs.Steps.{is_named}
+use Rattle.mu_follow.specs.declared.follow.Follow.{Follow}
+use Rattle.mu_node.specs.Due.{FitsLead, asks_out_of_turn, idle_due, is_eager, lead_due, turn_due, verb_or_beat}
+use Rattle.mu_node.specs.Journal.{FollowsTurn}
+use Rattle.mu_node.specs.Node.{HasPlanned, IsGone, StandsForNode}
+use Rattle.mu_node.specs.Cycle.{IsBackgroundDue, IsCycleDue, IsMade}
+use Rattle.mu_node.specs.Notes.{MovesGoing, SaysTook, TellsNote, TellsTook}
+use Rattle.mu_node.proofs.AskedAgain.{asks_parts, follows_asked, made_asked, moves_asked, tells_asked}
+use Rattle.mu_node.proofs.Moving.{event_by, moved, possible_own, to_own, to_port}
+use Rattle.std.specs.Prelude.{if◌then◌else◌, is_some}
 use Rattle.std.specs.declared.option.Option.{Option}
 use Rattle.std.proofs.lemmas.Bool.{and_parts}
 use Rattle.mu_model.specs.declared.config.Config.{Config}
 use Rattle.mu_model.specs.declared.event.Answer.{Answer}
 use Rattle.mu_model.specs.declared.event.Event.{Event}
-use Rattle.mu_model.specs.declared.event.Verb.{Verb}
 use Rattle.mu_model.specs.Allowed.{Allowed}
-use Rattle.mu_model.specs.Contents.{IsConfig}
-use Rattle.mu_model.specs.Ends.{outrun}
-use Rattle.mu_model.specs.Parts.{IsPossible}
 use Rattle.mu_model.specs.Stretches.{is_odd}
 use Rattle.mu_lead.specs.Beside.{leads_at}
 use Rattle.mu_node.specs.declared.node.Node.{Node}
-use Rattle.mu_node.specs.Cycle.{IsBackgroundDue, IsCycleDue, IsMade}
 use Rattle.mu_node.specs.Plans.{due_of}
-use Rattle.mu_node.specs.Due.{FitsLead, idle_due, lead_due, turn_due, verb_or_beat}
 use Rattle.mu_follow.specs.CatchingUp.{or_else}
-use Rattle.mu_lead.specs.Journal.{tables_at}
+use Rattle.mu_lead.specs.Journal.{due_after, tables_at}
 use Rattle.mu_lead.specs.Listing.{Tables}
-use Rattle.mu_node.specs.Journal.{FollowsTurn}
 use Rattle.mu_node.specs.Paced.{PacesAt}
-use Rattle.mu_node.specs.Node.{HasPlanned, StandsForNode}
-use Rattle.mu_node.specs.Notes.{MovesGoing, SaysTook, TellsNote, TellsTook}
 use Rattle.mu_node.proofs.Leading.{even_may}
-use Rattle.mu_node.proofs.Moving.{event_by, moved, possible_own, to_own, to_port}
 use Rattle.mu_node.proofs.Pacing.{due_listed}
 use Rattle.mu_node.proofs.Turning.{IsTurnDue, going_moves, made_follows, note_told, replays}
 use Rattle.mu_node.proofs.node.Node.step.Goals as goal
+
+pub asks_out_of_turn-requires : goal.asks_out_of_turn-requires
+asks_out_of_turn-requires g c =
+    let node = c.args.self.now in
+    let held = c.requires.1.1.1.1.1.1.0 in
+    to_own (λ x i l. StandsForNode x i l node) (g.P.Port.config c.args.port.now) node.follow.config (g.P.Port.number c.args.port.now) node.id (g.P.Port.part c.args.port.now) g.mine held.beside.follow.config held.beside.id c.requires.1.0 held
+
+left_false : (x y : Bool) → (x && y) ≡ false → y ≡ true → x ≡ false
+left_false true y none on = absurd (true≢false (sym on ∙ none))
+left_false false y none on = refl
+
+pub leave_leadership-note-requires : goal.leave_leadership-note-requires
+leave_leadership-note-requires g c =
+    let k = g.P.Port.config c.args.port.now in
+    let r = g.P.Port.number c.args.port.now in
+    let node = c.args.self.now in
+    let held = c.requires.1.1.1.1.1.1.0 in
+    let own = held.beside.follow.config in
+    let id = held.beside.id in
+    let asks = (and_parts (asks_out_of_turn node.zeal node.follow.config node.id g.mine) (is_odd (length g.mine)) (sym c.asks_out_of_turn.ensures ∙ c.if-asks_out_of_turn.true)).0 in
+    let parts = asks_parts node.zeal node.follow.config node.id g.mine asks in
+    (to_own (λ x i l. StandsForNode x i l node) k node.follow.config r node.id (g.P.Port.part c.args.port.now) g.mine own id c.requires.1.0 held, (parts.1.0, parts.1.1))
+
+pub step-answer-requires : goal.step-answer-requires
+step-answer-requires g c =
+    let held = c.requires.1.1.1.1.1.1.0 in
+    let inside = held.beside.follow.inside in
+    record { budget = c.requires.1.1.1.1.1.0; replica = inside; may = (omega (arith, inside), inl refl) }
+
+pub took_again-requires : goal.took_again-requires
+took_again-requires g c =
+    let k = g.P.Port.config c.args.port.now in
+    let r = g.P.Port.number c.args.port.now in
+    let node = c.args.self.now in
+    let new = c.leave_leadership-note.new.self in
+    let held = c.requires.1.1.1.1.1.1.0 in
+    let own = held.beside.follow.config in
+    let id = held.beside.id in
+    let config = ap (λ (f : Follow). f.config) c.leave_leadership-note.ensures.follow in
+    let same = c.leave_leadership-note.ensures.id in
+    let asks = asks_parts node.zeal node.follow.config node.id g.mine (and_parts (asks_out_of_turn node.zeal node.follow.config node.id g.mine) (is_odd (length g.mine)) (sym c.asks_out_of_turn.ensures ∙ c.if-asks_out_of_turn.true)).0 in (
+      c.requires.1.1.0 ∙ sym (same ∙ id),
+      (
+        subst (λ x. IsConfig x) (sym (config ∙ own)) c.requires.1.1.1.0,
+        (
+          to_own (λ x i l. IsGone x i l new) node.follow.config new.follow.config node.id new.id g.mine g.mine config same refl c.leave_leadership-note.ensures.gone,
+          (
+            c.leave_leadership-note.ensures.heeded,
+            (
+              (and_parts (asks_out_of_turn node.zeal node.follow.config node.id g.mine) (is_odd (length g.mine)) (sym c.asks_out_of_turn.ensures ∙ c.if-asks_out_of_turn.true)).1,
+              (
+                to_own (λ x i l. is_named x i l ≡ true) node.follow.config new.follow.config node.id new.id g.mine g.mine config same refl asks.1.0,
+                (to_own (λ x i l. asks_again x i l ≡ true) node.follow.config new.follow.config node.id new.id g.mine g.mine config same refl asks.1.1, ap is_eager c.leave_leadership-note.ensures.zeal ∙ asks.0),
+              ),
+            ),
+          ),
+        ),
+      ),
+    )
+
+pub returns-then-asks_out_of_turn-clause-stands : goal.returns-then-asks_out_of_turn-clause-stands
+returns-then-asks_out_of_turn-clause-stands g c =
+    let old = c.args.port.now in
+    let now = c.step-answer.new.self in
+    let k = g.P.Port.config old in
+    let r = g.P.Port.number old in
+    let node = c.args.self.now in
+    let new = c.leave_leadership-note.new.self in
+    let held = c.requires.1.1.1.1.1.1.0 in
+    let own = held.beside.follow.config in
+    let id = held.beside.id in
+    let config = ap (λ (f : Follow). f.config) c.leave_leadership-note.ensures.follow in
+    let answer = c.step-answer.result in
+    let going = to_own (λ x i l. outrun x i l ≡ None) k node.follow.config r node.id (g.P.Port.part old) g.mine own id c.requires.1.0 c.requires.1.1.1.1.1.1.1 in
+    let stands = to_own (λ x i l. StandsForNode x i l node) k node.follow.config r node.id (g.P.Port.part old) g.mine own id c.requires.1.0 held in
+    let asks = (and_parts (asks_out_of_turn node.zeal node.follow.config node.id g.mine) (is_odd (length g.mine)) (sym c.asks_out_of_turn.ensures ∙ c.if-asks_out_of_turn.true)).0 in
+    let follows = to_own (λ x i l. FollowsTurn new.zeal x i l (event_by i (Verb.Ask 0) answer)) node.follow.config new.follow.config node.id c.args.id g.mine g.mine config (c.requires.1.1.0 ∙ sym id) refl
+    (subst (λ z. FollowsTurn z node.follow.config node.id g.mine (event_by node.id (Verb.Ask 0) answer)) (sym c.leave_leadership-note.ensures.zeal) (follows_asked node.follow.config node.id g.mine node answer (and_parts (asks_out_of_turn node.zeal node.follow.config node.id g.mine) (is_odd (length g.mine)) (sym c.asks_out_of_turn.ensures ∙ c.if-asks_out_of_turn.true)).1 going stands asks)) in
+    moved k (g.P.Port.config now) new.follow.config r (g.P.Port.number now) c.args.id (g.P.Port.part old) g.mine (g.P.Port.part now) (Verb.Ask 0) (Verb.Ask 0) answer c.took_again.new.self
+    (g.met.P.Port.same_config old now c.step-answer.ensures.same) (g.met.P.Port.same_number old now c.step-answer.ensures.same)
+    (config ∙ own) c.requires.1.1.0 c.requires.1.0 refl c.step-answer.ensures.part c.step-answer.ensures.possible (c.took_again.ensures.stands follows)
+
+pub returns-then-asks_out_of_turn-clause-made : goal.returns-then-asks_out_of_turn-clause-made
+returns-then-asks_out_of_turn-clause-made g c =
+    let old = c.args.port.now in
+    let now = c.step-answer.new.self in
+    let k = g.P.Port.config old in
+    let r = g.P.Port.number old in
+    let mine = g.P.Port.part old in
+    let node = c.args.self.now in
+    let held = c.requires.1.1.1.1.1.1.0 in
+    let own = held.beside.follow.config in
+    let id = held.beside.id in
+    let answer = c.step-answer.result in
+    let odd = (and_parts (asks_out_of_turn node.zeal node.follow.config node.id g.mine) (is_odd (length g.mine)) (sym c.asks_out_of_turn.ensures ∙ c.if-asks_out_of_turn.true)).1 in
+    let asks = (and_parts (asks_out_of_turn node.zeal node.follow.config node.id g.mine) (is_odd (length g.mine)) (sym c.asks_out_of_turn.ensures ∙ c.if-asks_out_of_turn.true)).0 in
+    record {
+      verb = Verb.Ask 0;
+      answer = answer;
+      part = c.step-answer.ensures.part;
+      made = to_port (λ x i l. IsMade node.zeal x i l (Verb.Ask 0)) k node.follow.config r node.id mine g.mine own id c.requires.1.0 (made_asked node.zeal node.follow.config node.id g.mine odd asks);
+      tells = to_port (λ x i l. TellsNote node.zeal x i l node.lead answer c.leave_leadership-note.result) k node.follow.config r node.id mine g.mine own id c.requires.1.0 (tells_asked node.zeal node.follow.config node.id g.mine node.lead answer c.leave_leadership-note.result odd asks c.leave_leadership-note.ensures.told);
+    }
+
+pub returns-then-asks_out_of_turn-clause-going : goal.returns-then-asks_out_of_turn-clause-going
+returns-then-asks_out_of_turn-clause-going g c =
+    let old = c.args.port.now in
+    let now = c.step-answer.new.self in
+    let k = g.P.Port.config old in
+    let r = g.P.Port.number old in
+    let mine = g.P.Port.part old in
+    let node = c.args.self.now in
+    let new = c.leave_leadership-note.new.self in
+    let next = c.took_again.new.self.lead in
+    let held = c.requires.1.1.1.1.1.1.0 in
+    let own = held.beside.follow.config in
+    let id = held.beside.id in
+    let config = ap (λ (f : Follow). f.config) c.leave_leadership-note.ensures.follow in
+    let same = c.requires.1.1.0 ∙ sym id in
+    let answer = c.step-answer.result in
+    let odd = (and_parts (asks_out_of_turn node.zeal node.follow.config node.id g.mine) (is_odd (length g.mine)) (sym c.asks_out_of_turn.ensures ∙ c.if-asks_out_of_turn.true)).1 in
+    let asks = asks_parts node.zeal node.follow.config node.id g.mine (and_parts (asks_out_of_turn node.zeal node.follow.config node.id g.mine) (is_odd (length g.mine)) (sym c.asks_out_of_turn.ensures ∙ c.if-asks_out_of_turn.true)).0 in
+    let stands = to_own (λ x i l. StandsForNode x i l node) k node.follow.config r node.id mine g.mine own id c.requires.1.0 held in
+    let possible = possible_own k (g.P.Port.config now) node.follow.config r (g.P.Port.number now) node.id mine g.mine (g.P.Port.part now) (Verb.Ask 0) (Verb.Ask 0) answer
+    (g.met.P.Port.same_config old now c.step-answer.ensures.same) (g.met.P.Port.same_number old now c.step-answer.ensures.same)
+    own id c.requires.1.0 refl c.step-answer.ensures.part c.step-answer.ensures.possible in
+    let goes = to_own (λ x i l. IsPossible x i (event_by i (Verb.Ask 0) answer ∷ l) → next.under_way ≡ true) new.follow.config node.follow.config c.args.id node.id g.mine g.mine (sym config) (sym same) refl c.took_again.ensures.going in
+    to_port (λ x i l. MovesGoing x i l node.lead next c.leave_leadership-note.result) k node.follow.config r node.id mine g.mine own id c.requires.1.0
+    (moves_asked node.follow.config node.id g.mine node.lead next c.leave_leadership-note.result odd asks.1.0 stands.paces.listed (goes possible) c.leave_leadership-note.ensures.told)
 
 pub plan-plan-requires : goal.plan-plan-requires
 plan-plan-requires g c =
@@ -48,8 +181,8 @@ plan-plan-requires g c =
       ),
     )
 
-pub step-answer-requires : goal.step-answer-requires
-step-answer-requires g c =
+pub step-answer-requires-else-asks_out_of_turn : goal.step-answer-requires-else-asks_out_of_turn
+step-answer-requires-else-asks_out_of_turn g c =
     let k = g.P.Port.config c.args.port.now in
     let r = g.P.Port.number c.args.port.now in
     let mine = g.P.Port.part c.args.port.now in
@@ -76,14 +209,16 @@ took-requires g c =
     )
 
 -- in a turn of the leader it is what the journal has due
-turn_listed : (c : Config) (r : ℕ) (mine : List Event) (old : Node) (due : Option Verb) → StandsForNode c r mine old → IsTurnDue old.zeal c r mine old.lead due → is_odd (length mine) ≡ true → due ≡ turn_due old.zeal c r mine
-turn_listed c r mine old due stands led odd = led odd ∙ ap (λ o. or_else o (idle_due old.zeal c r mine)) (due_listed c r mine old.lead stands.lead stands.paces.listed)
+turn_listed : (c : Config) (r : ℕ) (mine : List Event) (old : Node) (due : Option Verb) → StandsForNode c r mine old → IsTurnDue old.zeal c r mine old.lead due → (is_odd (length mine) ≡ true → asks_out_of_turn old.zeal c r mine ≡ false) → is_odd (length mine) ≡ true → due ≡ turn_due old.zeal c r mine
+turn_listed c r mine old due stands led calm odd =
+    led odd ∙ ap (λ o. or_else o (idle_due old.zeal c r mine)) (due_listed c r mine old.lead stands.lead stands.paces.listed)
+    ∙ sym (ap (λ t. if t then Some (Verb.Ask 0) else or_else (due_after c r mine) (idle_due old.zeal c r mine)) (calm odd))
 
 -- what is due follows the turn
 follows_of : (c : Config) (r : ℕ) (mine : List Event) (old planned : Node) (due : Option Verb) (answer : Answer) → IsConfig c → IsPossible c r mine → length mine < c.budget → outrun c r mine ≡ None → StandsForNode c r mine old → HasPlanned c r mine planned
     → IsTurnDue old.zeal c r mine old.lead due → (is_odd (length mine) ≡ false → IsCycleDue old.zeal c r mine (leads_at old.lead.place) due)
-    → FollowsTurn old.zeal c r mine (event_by r (verb_or_beat due) answer)
-follows_of c r mine old planned due answer good possible short going stands held led cycle = record {
+    → (is_odd (length mine) ≡ true → asks_out_of_turn old.zeal c r mine ≡ false) → FollowsTurn old.zeal c r mine (event_by r (verb_or_beat due) answer)
+follows_of c r mine old planned due answer good possible short going stands held led cycle calm = record {
   cycle = made_follows old.zeal c r mine old.lead (leads_at old.lead.place) due answer led cycle (replays c r mine (leads_at old.lead.place) good possible held.beside.follow.inside short (omega (arith, held.handed, held.beside.follow.progress.handed)));
   made = record {
     own = refl;
@@ -100,12 +235,12 @@ follows_of c r mine old planned due answer good possible short going stands held
 }
   where
     listed : is_odd (length mine) ≡ true → verb_or_beat due ≡ verb_or_beat (turn_due old.zeal c r mine)
-    listed odd = ap verb_or_beat (turn_listed c r mine old due stands led odd)
+    listed odd = ap verb_or_beat (turn_listed c r mine old due stands led calm odd)
 
-pub returns-clause-stands : goal.returns-clause-stands
-returns-clause-stands g c =
+pub returns-else-asks_out_of_turn-clause-stands : goal.returns-else-asks_out_of_turn-clause-stands
+returns-else-asks_out_of_turn-clause-stands g c =
     let old = c.args.port.now in
-    let now = c.step-answer.new.self in
+    let now = c.step-answer-else-asks_out_of_turn.new.self in
     let plan = c.plan-plan.ensures in
     let node = c.args.self.now in
     let new = c.plan-plan.new.self in
@@ -115,20 +250,21 @@ returns-clause-stands g c =
     let good = subst (λ x. IsConfig x) (sym own) c.requires.1.1.1.0 in
     let possible = to_own IsPossible (g.P.Port.config old) node.follow.config (g.P.Port.number old) node.id (g.P.Port.part old) g.mine own id c.requires.1.0 c.requires.1.1.1.1.0 in
     let short = to_own (λ x i l. length l < x.budget) (g.P.Port.config old) node.follow.config (g.P.Port.number old) node.id (g.P.Port.part old) g.mine own id c.requires.1.0 c.requires.1.1.1.1.1.0 in
+    let calm : is_odd (length g.mine) ≡ true → asks_out_of_turn node.zeal node.follow.config node.id g.mine ≡ false = left_false (asks_out_of_turn node.zeal node.follow.config node.id g.mine) (is_odd (length g.mine)) (sym c.asks_out_of_turn.ensures ∙ c.if-asks_out_of_turn.false) in
     let due = due_of c.plan-plan.result in
-    let answer = c.step-answer.result in
+    let answer = c.step-answer-else-asks_out_of_turn.result in
     let going = to_own (λ x i l. outrun x i l ≡ None) (g.P.Port.config old) node.follow.config (g.P.Port.number old) node.id (g.P.Port.part old) g.mine own id c.requires.1.0 c.requires.1.1.1.1.1.1.1 in
     let stands = to_own (λ x i l. StandsForNode x i l node) (g.P.Port.config old) node.follow.config (g.P.Port.number old) node.id (g.P.Port.part old) g.mine own id c.requires.1.0 held in
     let follows = to_own (λ x i l. FollowsTurn new.zeal x i l (event_by i (verb_or_beat due) answer)) node.follow.config new.follow.config node.id c.args.id g.mine g.mine plan.config (c.requires.1.1.0 ∙ sym id) refl
-    (subst (λ z. FollowsTurn z node.follow.config node.id g.mine (event_by node.id (verb_or_beat due) answer)) (sym plan.zeal) (follows_of node.follow.config node.id g.mine node new due answer good possible short going stands plan.planned plan.led plan.cycle)) in
+    (subst (λ z. FollowsTurn z node.follow.config node.id g.mine (event_by node.id (verb_or_beat due) answer)) (sym plan.zeal) (follows_of node.follow.config node.id g.mine node new due answer good possible short going stands plan.planned plan.led plan.cycle calm)) in
     moved (g.P.Port.config old) (g.P.Port.config now) new.follow.config (g.P.Port.number old) (g.P.Port.number now) c.args.id (g.P.Port.part old) g.mine (g.P.Port.part now) c.plan-plan.result.verb (verb_or_beat due) answer c.took.new.self
-    (g.met.P.Port.same_config old now c.step-answer.ensures.same) (g.met.P.Port.same_number old now c.step-answer.ensures.same)
-    (plan.config ∙ own) c.requires.1.1.0 c.requires.1.0 c.plan-plan.ensures.made c.step-answer.ensures.part c.step-answer.ensures.possible (c.took.ensures.stands follows)
+    (g.met.P.Port.same_config old now c.step-answer-else-asks_out_of_turn.ensures.same) (g.met.P.Port.same_number old now c.step-answer-else-asks_out_of_turn.ensures.same)
+    (plan.config ∙ own) c.requires.1.1.0 c.requires.1.0 c.plan-plan.ensures.made c.step-answer-else-asks_out_of_turn.ensures.part c.step-answer-else-asks_out_of_turn.ensures.possible (c.took.ensures.stands follows)
 
-pub returns-clause-made : goal.returns-clause-made
-returns-clause-made g c =
+pub returns-else-asks_out_of_turn-clause-made : goal.returns-else-asks_out_of_turn-clause-made
+returns-else-asks_out_of_turn-clause-made g c =
     let old = c.args.port.now in
-    let now = c.step-answer.new.self in
+    let now = c.step-answer-else-asks_out_of_turn.new.self in
     let k = g.P.Port.config old in
     let r = g.P.Port.number old in
     let mine = g.P.Port.part old in
@@ -139,26 +275,27 @@ returns-clause-made g c =
     let own = held.beside.follow.config in
     let id = held.beside.id in
     let due = due_of c.plan-plan.result in
-    let answer = c.step-answer.result in
+    let answer = c.step-answer-else-asks_out_of_turn.result in
     let possible = possible_own k (g.P.Port.config now) node.follow.config r (g.P.Port.number now) node.id mine g.mine (g.P.Port.part now) c.plan-plan.result.verb (verb_or_beat due) answer
-    (g.met.P.Port.same_config old now c.step-answer.ensures.same) (g.met.P.Port.same_number old now c.step-answer.ensures.same)
-    own id c.requires.1.0 c.plan-plan.ensures.made c.step-answer.ensures.part c.step-answer.ensures.possible in
+    (g.met.P.Port.same_config old now c.step-answer-else-asks_out_of_turn.ensures.same) (g.met.P.Port.same_number old now c.step-answer-else-asks_out_of_turn.ensures.same)
+    own id c.requires.1.0 c.plan-plan.ensures.made c.step-answer-else-asks_out_of_turn.ensures.part c.step-answer-else-asks_out_of_turn.ensures.possible in
     let took = to_own (λ x i l. TellsTook x i l c.plan-plan.result.leads due c.plan-plan.result.heeded answer c.took.result) new.follow.config node.follow.config c.args.id node.id g.mine g.mine (sym plan.config) (id ∙ sym c.requires.1.1.0) refl c.took.ensures.note in
     let says = to_own (λ x i l. SaysTook x i l c.plan-plan.result.leads due c.plan-plan.result.heeded new.lead c.took.new.self.lead answer c.took.result) new.follow.config node.follow.config c.args.id node.id g.mine g.mine (sym plan.config) (id ∙ sym c.requires.1.1.0) refl c.took.ensures.says in
     let stands = to_own (λ x i l. StandsForNode x i l node) k node.follow.config r node.id mine g.mine own id c.requires.1.0 held in
+    let calm : is_odd (length g.mine) ≡ true → asks_out_of_turn node.zeal node.follow.config node.id g.mine ≡ false = left_false (asks_out_of_turn node.zeal node.follow.config node.id g.mine) (is_odd (length g.mine)) (sym c.asks_out_of_turn.ensures ∙ c.if-asks_out_of_turn.false) in
     let listed = stands.paces.listed in
     record {
       verb = c.plan-plan.result.verb;
       answer = answer;
-      part = c.step-answer.ensures.part;
+      part = c.step-answer-else-asks_out_of_turn.ensures.part;
       made = to_port (λ x i l. IsMade node.zeal x i l c.plan-plan.result.verb) k node.follow.config r node.id mine g.mine own id c.requires.1.0
-          (subst (λ v. IsMade node.zeal node.follow.config node.id g.mine v) (sym c.plan-plan.ensures.made) (record { replication = λ odd. ap verb_or_beat (turn_listed node.follow.config node.id g.mine node due stands plan.led odd); background = λ even. ((plan.cycle even).first, subst (λ l. IsBackgroundDue node.follow.config node.id g.mine l (plan.cycle even).first) (ap leads_at listed.place) (plan.cycle even).background, ap verb_or_beat (plan.cycle even).whole) }));
-      tells = to_port (λ x i l. TellsNote x i l node.lead answer c.took.result) k node.follow.config r node.id mine g.mine own id c.requires.1.0
-          (note_told node.zeal node.follow.config node.id g.mine node.lead new.lead c.took.new.self.lead c.plan-plan.result.leads due c.plan-plan.result.heeded answer c.took.result plan.leads plan.led plan.heeded possible took plan.told says stands.lead listed);
+          (subst (λ v. IsMade node.zeal node.follow.config node.id g.mine v) (sym c.plan-plan.ensures.made) (record { replication = λ odd. ap verb_or_beat (turn_listed node.follow.config node.id g.mine node due stands plan.led calm odd); background = λ even. ((plan.cycle even).first, subst (λ l. IsBackgroundDue node.follow.config node.id g.mine l (plan.cycle even).first) (ap leads_at listed.place) (plan.cycle even).background, ap verb_or_beat (plan.cycle even).whole) }));
+      tells = to_port (λ x i l. TellsNote node.zeal x i l node.lead answer c.took.result) k node.follow.config r node.id mine g.mine own id c.requires.1.0
+          (note_told node.zeal node.follow.config node.id g.mine node.lead new.lead c.took.new.self.lead c.plan-plan.result.leads due c.plan-plan.result.heeded answer c.took.result plan.leads plan.led plan.heeded possible took plan.told says stands.lead listed calm);
     }
 
-pub returns-clause-going : goal.returns-clause-going
-returns-clause-going g c =
+pub returns-else-asks_out_of_turn-clause-going : goal.returns-else-asks_out_of_turn-clause-going
+returns-else-asks_out_of_turn-clause-going g c =
     let old = c.args.port.now in
     let plan = c.plan-plan.ensures in
     let node = c.args.self.now in
@@ -167,7 +304,7 @@ returns-clause-going g c =
     let own = held.beside.follow.config in
     let id = held.beside.id in
     let due = due_of c.plan-plan.result in
-    let answer = c.step-answer.result in
+    let answer = c.step-answer-else-asks_out_of_turn.result in
     let next = c.took.new.self.lead in
     let says = to_own (λ x i l. SaysTook x i l c.plan-plan.result.leads due c.plan-plan.result.heeded new.lead next answer c.took.result) new.follow.config node.follow.config c.args.id node.id g.mine g.mine (sym plan.config) (id ∙ sym c.requires.1.1.0) refl c.took.ensures.says in
     to_port (λ x i l. MovesGoing x i l node.lead next c.took.result) (g.P.Port.config old) node.follow.config (g.P.Port.number old) node.id (g.P.Port.part old) g.mine own id c.requires.1.0

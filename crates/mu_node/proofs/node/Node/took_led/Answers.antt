@@ -10,6 +10,8 @@ use Rattle.mu_lead.specs.Going.{begins_at, going_after}
 use Rattle.mu_lead.specs.Notes.{value_committed}
 use Rattle.mu_lead.specs.Saying.{Says}
 use Rattle.mu_lead.specs.Standing.{known_told}
+use Rattle.mu_node.specs.Due.{is_eager}
+use Rattle.mu_pace.specs.Collecting.{LeaderKeepsBy}
 use Rattle.mu_node.specs.Due.{lead_due}
 use Rattle.mu_node.specs.Node.{StandsForLead}
 use Rattle.mu_node.specs.Paced.{HasPaces, HasPlannedPaces}
@@ -73,7 +75,7 @@ returns-clause-stands g c follows possible =
       listed = subst (λ z. AtEachStep (IsListed z k r) (event_by r verb c.args.answer ∷ mine)) (sym (c.learn.ensures.zeal ∙ c.note.ensures.zeal)) (held.listed, follows.listed);
       leads = λ leads. due_leads_on k r mine c.args.self.now.lead verb (event_by r verb c.args.answer) c.requires.1.1.0;
       paces = subst (λ l. HasPaces k r (event_by r verb c.args.answer ∷ mine) l) (sym c.learn.ensures.lead) paces;
-      led = (held.led, kept_led k r mine old c.take-note.new.self verb c.args.answer due lead before taken paces);
+      led = subst (λ z. AtEachStep (LeaderKeepsBy (is_eager z) k r) (event_by r verb c.args.answer ∷ mine)) (sym (c.learn.ensures.zeal ∙ c.note.ensures.zeal)) (held.led, kept_led (is_eager c.args.self.now.zeal) k r mine old c.take-note.new.self verb c.args.answer due lead before taken paces);
     }
 
 pub returns-clause-note : goal.returns-clause-note

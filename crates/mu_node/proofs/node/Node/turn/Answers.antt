@@ -1,5 +1,6 @@
 use Rattle.std.proofs.Common.{[], refl, subst}
 use Rattle.mu_model.specs.declared.script.Script.{Script}
+use Rattle.mu_node.specs.Due.{is_eager}
 use Rattle.mu_node.specs.Turns.{TellsEnd}
 use Rattle.mu_grant.proofs.Rounds.{cycles}
 use Rattle.mu_node.proofs.Diligent.{journal_is_diligent}
@@ -131,7 +132,7 @@ returns-in-Some-clause-advances g c =
     let k = g.P.Port.config c.args.port.now in
     let r = g.P.Port.number c.args.port.now in
     let mine = g.P.Port.part c.args.port.now in
-    leaders_advance k r mine c.requires.stands.led
+    leaders_advance (is_eager c.args.self.now.zeal) k r mine c.requires.stands.led
 
 pub returns-in-None-clause-advances : goal.returns-in-None-clause-advances
 returns-in-None-clause-advances g c =
@@ -139,7 +140,7 @@ returns-in-None-clause-advances g c =
     let k = g.P.Port.config now in
     let r = g.P.Port.number now in
     let mine = g.P.Port.part now in
-    leaders_advance k r mine c.step.ensures.stands.led
+    leaders_advance (is_eager c.step.new.self.zeal) k r mine c.step.ensures.stands.led
 
 pub returns-in-Some-clause-listed : goal.returns-in-Some-clause-listed
 returns-in-Some-clause-listed g c = c.requires.stands.listed

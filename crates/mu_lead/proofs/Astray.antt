@@ -1,0 +1,111 @@
+-- Regions that have gone astray: the first one, what was seen of it, and how often.
+use Rattle.std.proofs.Common.{Bool, List, None, Some, ap, arith, false, inl, inr, refl, subst, suc, sym, true, true≢false, zero, ℕ, ◌&&◌, ◌+◌, ◌<◌, ◌∙◌, ◌∷◌, ◌≡◌, ◌≤◌}
+use Rattle.std.specs.Prelude.{[], if◌then◌else◌, is_some, nat_le, nat_lt, not}
+use Rattle.std.specs.declared.option.Option.{Option}
+use Rattle.std.proofs.lemmas.Bool.{and_parts, cases_eq, leb-true, lt-ltb, ltb-true}
+use Rattle.mu_model.specs.declared.config.Config.{Config}
+use Rattle.mu_model.specs.declared.event.Event.{Event}
+use Rattle.mu_model.specs.declared.event.Fence.{Fence}
+use Rattle.mu_model.specs.Again.{asks_again, foreign_row, is_astray, is_foreign, is_numbered, one_more, row_with}
+use Rattle.mu_model.specs.Histories.{count_below, newer_or, newest}
+use Rattle.mu_model.specs.Leaderships.{begins_leadership, fence_seen, is_member, proposal_number}
+use Rattle.mu_model.specs.Scores.{is_failed}
+use Rattle.mu_agree.proofs.Counting.{some_below}
+use Rattle.mu_knowledge.specs.Offers.{IsFirst}
+use Rattle.mu_lead.specs.Again.{AsksAreApart, fences_numbered}
+
+-- if none below n passes, none counts
+none_counts : (n : ℕ) (test : ℕ → Bool) → IsFirst test 0 n None → nat_lt 0 (count_below n test) ≡ false
+none_counts n test none = go (nat_lt 0 (count_below n test)) refl
+  where
+    go : (t : Bool) → nat_lt 0 (count_below n test) ≡ t → t ≡ false
+    go false is = refl
+    go true is = let m = some_below n test (ltb-true 0 (count_below n test) is) in absurd (true≢false (sym m.passes ∙ none m.who (omega arith) m.below))
+
+-- one that passes counts
+one_counts : (n q : ℕ) (test : ℕ → Bool) → q < n → test q ≡ true → 0 < count_below n test
+one_counts zero q test low passes = absurd (omega (arith, low))
+one_counts (suc n) q test low passes = elim (cases_eq q n) [
+  | inl same ↦ here (test n) (subst (λ k. test k ≡ true) same passes)
+  | inr other ↦ there (test n) (one_counts n q test (omega (arith, low, other)) passes)
+]
+  where
+    here : (t : Bool) → t ≡ true → 0 < (if t then count_below n test + 1 else count_below n test)
+    here true is = omega arith
+    here false is = absurd (true≢false (sym is))
+
+    there : (t : Bool) → 0 < count_below n test → 0 < (if t then count_below n test + 1 else count_below n test)
+    there true some = omega arith
+    there false some = some
+
+-- there is a first one exactly if some count
+pub first_counts : (n : ℕ) (test : ℕ → Bool) (first : Option ℕ) → IsFirst test 0 n first → is_some first ≡ nat_lt 0 (count_below n test)
+first_counts n test None none = sym (none_counts n test none)
+first_counts n test (Some q) first = sym (lt-ltb 0 (count_below n test) (one_counts n q test first.1 first.2))
+
+-- who asks again has a region that is astray
+some_astray : (c : Config) (r : ℕ) (mine : List Event) → asks_again c r mine ≡ true → nat_lt 0 (count_below c.replicas (λ p. is_astray r mine p)) ≡ true
+some_astray c r mine asks = (and_parts (is_numbered r mine) (nat_lt 0 (count_below c.replicas (λ p. is_astray r mine p))) asks).1
+
+pub never_none : (c : Config) (r : ℕ) (mine : List Event) → asks_again c r mine ≡ true → IsFirst (λ p. is_astray r mine p) 0 c.replicas None → ⊥
+never_none c r mine asks none = true≢false (sym (some_astray c r mine asks) ∙ none_counts c.replicas (λ p. is_astray r mine p) none)
+
+-- its row is long
+long_row : (r p : ℕ) (mine : List Event) → is_astray r mine p ≡ true → 16 ≤ foreign_row r p mine
+long_row r p mine astray =
+    let rest = (and_parts (not (is_member r p mine)) (not (is_failed r p mine) && nat_le 16 (foreign_row r p mine)) astray).1 in
+    leb-true 16 (foreign_row r p mine) (and_parts (not (is_failed r p mine)) (nat_le 16 (foreign_row r p mine)) rest).1
+
+-- a fence of p was seen
+abbrev Saw : ℕ → ℕ → List Event → Type 0
+Saw r p mine = (f : Fence) × (newest (λ e. fence_seen r p e.by e.verb e.answer) mine ≡ Some f)
+
+seen_of_row : (r p : ℕ) (mine : List Event) → 0 < foreign_row r p mine → Saw r p mine
+seen_of_row r p [] row = absurd (omega (arith, row))
+seen_of_row r p (e ∷ past) row = go (begins_leadership r e) row (seen_of_row r p past)
+  where
+    told : (o : Option Fence) → 0 < row_with r (is_some (proposal_number r past)) o (foreign_row r p past) → (0 < foreign_row r p past → Saw r p past) → (f : Fence) × (newer_or o (newest (λ e. fence_seen r p e.by e.verb e.answer) past) ≡ Some f)
+    told None row before = before row
+    told (Some f) row before = (f, refl)
+
+    go : (t : Bool) → 0 < (if t then 0 else row_with r (is_some (proposal_number r past)) (fence_seen r p e.by e.verb e.answer) (foreign_row r p past)) → (0 < foreign_row r p past → Saw r p past)
+        → (f : Fence) × (newer_or (fence_seen r p e.by e.verb e.answer) (newest (λ e. fence_seen r p e.by e.verb e.answer) past) ≡ Some f)
+    go true row before = absurd (omega (arith, row))
+    go false row before = told (fence_seen r p e.by e.verb e.answer) row before
+
+pub never_unseen : (r p : ℕ) (mine : List Event) → is_astray r mine p ≡ true → newest (λ e. fence_seen r p e.by e.verb e.answer) mine ≡ None → ⊥
+never_unseen r p mine astray none =
+    let long = long_row r p mine astray in
+    let seen = seen_of_row r p mine (omega (arith, long)) in
+    true≢false (sym (ap is_some seen.1) ∙ ap is_some none)
+
+-- and no row is longer than the fences that were seen under the number
+row_few : (r p : ℕ) (mine : List Event) → foreign_row r p mine ≤ fences_numbered r p mine
+row_few r p [] = omega arith
+row_few r p (e ∷ past) = go (begins_leadership r e) (row_few r p past)
+  where
+    step : (t : Bool) → foreign_row r p past ≤ fences_numbered r p past → (if t then foreign_row r p past + 1 else foreign_row r p past) ≤ fences_numbered r p past + 1
+    step true few = omega (arith, few)
+    step false few = omega (arith, few)
+
+    risen : (t : Bool) → foreign_row r p past ≤ fences_numbered r p past → (if t then one_more (foreign_row r p past) else 0) ≤ fences_numbered r p past + 1
+    risen true few = step (nat_lt (foreign_row r p past) 16) few
+    risen false few = omega arith
+
+    more : (numbered : Bool) (o : Option Fence) → foreign_row r p past ≤ fences_numbered r p past → row_with r numbered o (foreign_row r p past) ≤ (if numbered && is_some o then fences_numbered r p past + 1 else fences_numbered r p past)
+    more true None few = few
+    more false None few = few
+    more true (Some f) few = risen (is_foreign r f) few
+    more false (Some f) few = few
+
+    go : (t : Bool) → foreign_row r p past ≤ fences_numbered r p past → (if t then 0 else row_with r (is_some (proposal_number r past)) (fence_seen r p e.by e.verb e.answer) (foreign_row r p past))
+        ≤ (if t then 0 else (if is_some (proposal_number r past) && is_some (fence_seen r p e.by e.verb e.answer) then fences_numbered r p past + 1 else fences_numbered r p past))
+    go true few = omega arith
+    go false few = more (is_some (proposal_number r past)) (fence_seen r p e.by e.verb e.answer) few
+
+pub asks_are_apart : AsksAreApart
+asks_are_apart c r mine asks =
+    let m = some_below c.replicas (λ p. is_astray r mine p) (ltb-true 0 (count_below c.replicas (λ p. is_astray r mine p)) (some_astray c r mine asks)) in
+    let long = long_row r m.who mine m.passes in
+    let few = row_few r m.who mine in
+    (m.who, m.below, omega (arith, long, few))

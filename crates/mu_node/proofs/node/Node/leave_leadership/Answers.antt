@@ -1,0 +1,55 @@
+use Rattle.std.proofs.Common.{ap, not, refl, subst, sym, true≢false, true, ◌≡◌, ◌∙◌}
+use Rattle.std.specs.Prelude.{not}
+use Rattle.mu_follow.specs.Follow.{StandsForFollow}
+use Rattle.mu_model.specs.Again.{asks_again}
+use Rattle.mu_lead.specs.Again.{TellsAstray}
+use Rattle.mu_lead.specs.Beside.{leads_at}
+use Rattle.mu_lead.specs.Standing.{At}
+use Rattle.mu_node.specs.Paced.{HasPaces, PacesTold}
+use Rattle.mu_node.proofs.Leads.{beside_lead}
+use Rattle.mu_node.proofs.Moving.{to_own}
+use Rattle.mu_node.proofs.Pacing.{of_node}
+use Rattle.mu_node.proofs.node.Node.leave_leadership.Goals as goal
+
+pub returns-clause-gone : goal.returns-clause-gone
+returns-clause-gone g c =
+    let node = c.args.self.now in
+    let new = c.heed.new.self in
+    let held = c.heed.ensures.stands in
+    let lead = new.lead in
+    let left = c.leave.ensures.left in
+    let paces : HasPaces node.follow.config node.id g.mine lead = subst (λ t. PacesTold (not t) node.follow.config node.id g.mine lead) c.requires.1.0 held.paces in
+    record {
+      beside = beside_lead (StandsForFollow node.follow.config node.id g.mine) node.follow.config node.id g.mine new c.leave.new.self held.beside;
+      lead = record { config = left.config ∙ held.lead.config; id = left.id ∙ held.lead.id; stands = c.leave.ensures.stands };
+      handed = held.handed;
+      answers = held.answers;
+      cycle = held.cycle;
+      made = held.made;
+      listed = held.listed;
+      leads = λ leads. absurd (true≢false (sym leads ∙ ap leads_at left.place));
+      paces = record {
+        before = lead.place;
+        number = lead.number;
+        up = lead.up;
+        reach = lead.reach;
+        written = lead.written.items;
+        at = of_node (λ k i. At k i lead.number g.mine lead.up lead.reach lead.written.items lead.place) node.follow.config node.id lead held.lead.config held.lead.id held.lead.stands.at;
+        paces = paces.paces;
+        left = record { place = left.place; tables = left.tables ∙ paces.listed.tables };
+      };
+      led = held.led;
+    }
+
+pub leave-requires : goal.leave-requires
+leave-requires g c =
+    let node = c.args.self.now in
+    let held = c.heed.ensures.stands in
+    (held.lead.stands, (c.heed.ensures.heeded, to_own (λ k i l. asks_again k i l ≡ true) node.follow.config c.heed.new.self.lead.config node.id c.heed.new.self.lead.id g.mine g.mine held.lead.config held.lead.id refl c.requires.1.1))
+
+pub returns-clause-told : goal.returns-clause-told
+returns-clause-told g c =
+    let node = c.args.self.now in
+    let lead = c.heed.new.self.lead in
+    let held = c.heed.ensures.stands in
+    to_own (λ k i l. TellsAstray k i l c.leave.result) lead.config node.follow.config lead.id node.id g.mine g.mine (sym held.lead.config) (sym held.lead.id) refl c.leave.ensures.told
