@@ -152,7 +152,7 @@ confirmed_still c a e past same none =
     ∙ ap (λ k. is_some (noted_grant a a past) && nat_le (majority_of c.replicas) k)
     (count_same c.replicas (λ p. is_some (noted_grant a p (e ∷ past))) (λ p. is_some (noted_grant a p past)) (λ p. ap is_some (noted_still a p e past same none)))
 
-unconfirmed : (c : Config) (a : ℕ) (e : Event) (past : List Event) → begins_leadership a e ≡ true → is_confirmed c a (e ∷ past) ≡ false
+pub unconfirmed : (c : Config) (a : ℕ) (e : Event) (past : List Event) → begins_leadership a e ≡ true → is_confirmed c a (e ∷ past) ≡ false
 unconfirmed c a e past begins = ap (λ t. is_some (grant_for a (newest (λ f. fence_seen a a f.by f.verb f.answer) (cond t [] (e ∷ leadership a past)))) && nat_le (majority_of c.replicas) (count_below c.replicas (λ p. is_some (noted_grant a p (e ∷ past))))) begins
 
 some_left : (n : ℕ) (o : Option ℕ) → (left : ℕ) × (fewer (Some n) o ≡ Some left)
@@ -165,19 +165,18 @@ still_left None false x = (x + 0, refl)
 still_left (Some n) true x = (min n (x + 0 - 1), refl)
 still_left (Some n) false x = (min n (x + 0), refl)
 
--- no minimum was read, and from some moment on a named itself
+-- from some moment on no minimum was read, and a named itself
 abbrev pub HasNoMin : Config → ℕ → ℕ → List Event → Type 0
-HasNoMin c a start now = (has_min a now ≡ false) × From start (λ now. is_named c a now ≡ true) now
+HasNoMin c a start now = start ≤ length now → (has_min a now ≡ false) × (is_named c a now ≡ true)
 
 -- the last moment of a stretch is one
 quiet_last : (c : Config) (a start : ℕ) (newer older : List Event) → start ≤ length older → AtEachMoment (HasNoMin c a start) (newer ++ older) → (has_min a (newer ++ older) ≡ false) × (is_named c a (newer ++ older) ≡ true)
 quiet_last c a start newer older late none =
-    let here = last_moment (HasNoMin c a start) (newer ++ older) none in
     let long = length-append newer older in
-    (here.0, here.1 (omega (arith, long, late)))
+    last_moment (HasNoMin c a start) (newer ++ older) none (omega (arith, long, late))
 
 -- while it is confirmed a count is open
-waits_for : (c : Config) (a start : ℕ) (newer older : List Event) → start ≤ length older → AtEachMoment (HasNoMin c a start) (newer ++ older) → has_begun a older ≡ true → is_confirmed c a older ≡ false → is_confirmed c a (newer ++ older) ≡ true → (left : ℕ) × (steps_left (confirming c a) (newer ++ older) ≡ Some left)
+pub waits_for : (c : Config) (a start : ℕ) (newer older : List Event) → start ≤ length older → AtEachMoment (HasNoMin c a start) (newer ++ older) → has_begun a older ≡ true → is_confirmed c a older ≡ false → is_confirmed c a (newer ++ older) ≡ true → (left : ℕ) × (steps_left (confirming c a) (newer ++ older) ≡ Some left)
 waits_for c a start [] older late none begun not_yet is = absurd (true≢false (sym is ∙ not_yet))
 waits_for c a start (e ∷ newer) older late none begun not_yet is = go (begins_leadership a e) refl (is_any_fencing e) refl (λ still. waits_for c a start newer older late none.0 begun not_yet still)
   where
@@ -203,7 +202,7 @@ waits_for c a start (e ∷ newer) older late none begun not_yet is = go (begins_
         begun_still = ap (λ t. cond t true (has_begun a past)) same ∙ begun_now
 
         read : (t : Bool) → is_min e ≡ t → t ≡ false
-        read true h = absurd (true≢false (sym (and_from (has_begun a (e ∷ past)) (has is_min (leadership a (e ∷ past))) begun_still (ap (λ t. has is_min (cond t [] (e ∷ leadership a past))) same ∙ ap (λ t. cond t true (has is_min (leadership a past))) h)) ∙ none.1.0))
+        read true h = absurd (true≢false (sym (and_from (has_begun a (e ∷ past)) (has is_min (leadership a (e ∷ past))) begun_still (ap (λ t. has is_min (cond t [] (e ∷ leadership a past))) same ∙ ap (λ t. cond t true (has is_min (leadership a past))) h)) ∙ (none.1 (let long = length-append newer older in omega (arith, long, late))).0))
         read false h = refl
 
     stays : (t n m f u : Bool) → n ≡ true → m ≡ false → f ≡ false → (t && (not n || (m || (f && u)))) ≡ false
@@ -418,6 +417,6 @@ begins_in_time c live a past lone lacks none = elim (cases_lt (length (part a pa
       let named = from_each 0 (λ now. is_named c a now ≡ true) (part a past) lone.named in
       let waits = has_to_ask_all c a 0 (part a past) named lacks none in
       let l = lone.inside in
-      absurd (asks_fail c live a 0 (granting_steps c) past lone.inside lone.lives lone.majority (omega arith) lone.led (both_moments (λ now. has_min a now ≡ false) (From 0 (λ now. is_named c a now ≡ true)) (HasNoMin c a 0) (λ now m n. (m, n)) (part a past) none named)
+      absurd (asks_fail c live a 0 (granting_steps c) past lone.inside lone.lives lone.majority (omega arith) lone.led (both_moments (λ now. has_min a now ≡ false) (From 0 (λ now. is_named c a now ≡ true)) (HasNoMin c a 0) (λ now m n late. (m, n late)) (part a past) none named)
       (λ newer between oldest first is long asks own. alone_confirms c live a past newer between oldest first lone waits is long asks own) (two_asks c 0 (granting_steps c) (part a past) (λ p newer window older is long late low. asks_there c 0 a p (part a past) newer window older lone.asks is long late low waits) many (omega arith) (omega (arith, l))))
 ]

@@ -26,7 +26,7 @@ use Rattle.mu_pace.specs.Watches.{earns, leaves, limit, limit_now, progressing}
 use Rattle.mu_pace.proofs.Counting.{goes_on, last_moment, opened}
 use Rattle.mu_pace.proofs.Growing.{earned, stays_less}
 use Rattle.mu_pace.proofs.Leading.{commit_known}
-use Rattle.mu_alive.specs.Calm.{CalmLeadersCommit, IsCalm, IsCalmStep}
+use Rattle.mu_alive.specs.Calm.{CalmLeadersCommit, IsCalm, calm_steps}
 
 -- no more numbers below n pass than there are
 pub count_few : (n : ℕ) (f : ℕ → Bool) → count_below n f ≤ n
@@ -140,7 +140,21 @@ learnt c r (e ∷ window) older =
     let l = learns c r e.by e.verb e.answer (window ++ older) in
     omega (arith, ih, a, b, l)
 
-calm_stays : (c : Config) (r : ℕ) (window older : List Event) → IsCalm c r window older → stays r window ≡ true
+-- a calm step, or one that is a calm step but that another is named before it in the background
+pub record IsCalmTurn (c : Config) (r : ℕ) (past : List Event) (e : Event) : Type 0 where
+  pub same : begins_leadership r e ≡ false
+  pub named : is_replication past e ≡ true → is_named c r past ≡ true
+  pub leads_on : is_over_after r past e ≡ false
+  pub has_room : is_lagging c r past e ≡ false
+  pub lacks : knows_all c r past ≡ false
+  pub going : is_some (outrun c r (e ∷ past)) ≡ false
+  pub inside : (p i b v : ℕ) → e.verb ≡ Verb.PutSlot p i b v → p < c.replicas
+
+abbrev pub AreCalmTurns : Config → ℕ → List Event → List Event → Type 0
+AreCalmTurns c r [] older = Unit {0}
+AreCalmTurns c r (e ∷ window) older = AreCalmTurns c r window older × IsCalmTurn c r (window ++ older) e
+
+calm_stays : (c : Config) (r : ℕ) (window older : List Event) → AreCalmTurns c r window older → stays r window ≡ true
 calm_stays c r [] older calm = refl
 calm_stays c r (e ∷ window) older calm = go (begins_leadership r e) calm.1.same (calm_stays c r window older calm.0)
   where
@@ -153,7 +167,7 @@ abbrev pub PutsInside : Config → List Event → Type 0
 PutsInside c [] = Unit {0}
 PutsInside c (e ∷ window) = PutsInside c window × ((p i b v : ℕ) → e.verb ≡ Verb.PutSlot p i b v → p < c.replicas)
 
-calm_puts : (c : Config) (r : ℕ) (window older : List Event) → IsCalm c r window older → PutsInside c window
+calm_puts : (c : Config) (r : ℕ) (window older : List Event) → AreCalmTurns c r window older → PutsInside c window
 calm_puts c r [] older calm = tt
 calm_puts c r (e ∷ window) older calm = (calm_puts c r window older calm.0, calm.1.inside)
 
@@ -186,15 +200,15 @@ paid_few c r most window older same inside fits =
     sums m k x z l y all nm n most a b d e f g = omega (arith, a, b, d, e, f, g)
 
 -- a calm step closes the progress bound exactly if it commits in a turn of replication
-closing : (b n o l k x t m : Bool) → b ≡ false → n ≡ true → o ≡ false → l ≡ false → k ≡ false → x ≡ false → (b || (t && (not n || (m || (o || (l || (k || x))))))) ≡ (t && m)
-closing b n o l k x t m hb hn ho hl hk hx = rw (hb, hn, ho, hl, hk, hx) (go t m)
+closing : (b n o l k x t m : Bool) → b ≡ false → (t ≡ true → n ≡ true) → o ≡ false → l ≡ false → k ≡ false → x ≡ false → (b || (t && (not n || (m || (o || (l || (k || x))))))) ≡ (t && m)
+closing b n o l k x true m hb hn ho hl hk hx = rw (hb, hn refl, ho, hl, hk, hx) (go m)
   where
-    go : (t m : Bool) → (t && (m || false)) ≡ (t && m)
-    go true true = refl
-    go true false = refl
-    go false m = refl
+    go : (m : Bool) → (m || false) ≡ m
+    go true = refl
+    go false = refl
+closing b n o l k x false m hb hn ho hl hk hx = rw hb refl
 
-closes_at : (c : Config) (r : ℕ) (past : List Event) (e : Event) → IsCalmStep c r past e → leaves c r (is_progress c r) past e ≡ (is_replication past e && commits_more c r past e)
+closes_at : (c : Config) (r : ℕ) (past : List Event) (e : Event) → IsCalmTurn c r past e → leaves c r (is_progress c r) past e ≡ (is_replication past e && commits_more c r past e)
 closes_at c r past e calm = closing (begins_leadership r e) (is_named c r past) (is_over_after r past e) (is_lagging c r past e) (knows_all c r past) (is_some (outrun c r (e ∷ past))) (is_replication past e) (commits_more c r past e) calm.same calm.named calm.leads_on calm.has_room calm.lacks calm.going
 
 pub limit_fits : (c : Config) (r : ℕ) (now : List Event) → limit_now c r now ≤ limit c c.replicas
@@ -225,7 +239,7 @@ less true false k left left' b m p q within on = omega (arith, within, on)
 less false true k left left' b m p q within on = let next : b * (m + 1 + 1) ≡ b * (m + 1) + b = omega arith in omega (arith, within, on, next)
 less false false k left left' b m p q within on = omega (arith, within, on)
 
-tally : (c : Config) (r : ℕ) (first : Event) (window older : List Event) → AtEachMoment (IsInTime (progressing c r)) (window ++ first ∷ older) → is_milestone c r older first ≡ true → IsCalm c r window (first ∷ older) → Tally c r window (first ∷ older)
+tally : (c : Config) (r : ℕ) (first : Event) (window older : List Event) → AtEachMoment (IsInTime (progressing c r)) (window ++ first ∷ older) → is_milestone c r older first ≡ true → AreCalmTurns c r window (first ∷ older) → Tally c r window (first ∷ older)
 tally c r first [] older held milestone calm =
     let o = opened (progressing c r) (limit_now c r (first ∷ older)) (first ∷ older) (rw milestone refl) in
     let few = o.few in let fits = limit_fits c r (first ∷ older) in
@@ -273,8 +287,8 @@ all_spent k left b m l y p x n most known_then known_now copies_now members_then
     let e : b * (m + 1 + l) ≡ b * (m + 1) + b * l = omega arith in
     omega (arith, within, some, earns, copied, few, pairs, all, a, d, e)
 
-pub calm_commits : CalmLeadersCommit
-calm_commits c r most first window older held milestone calm fits =
+pub quiet_commits : (c : Config) (r most : ℕ) (first : Event) (window older : List Event) → AtEachMoment (IsInTime (progressing c r)) (window ++ first ∷ older) → is_milestone c r older first ≡ true → AreCalmTurns c r window (first ∷ older) → length (known c r (window ++ first ∷ older)) ≤ most → replications window (first ∷ older) < calm_steps c most
+quiet_commits c r most first window older held milestone calm fits =
     let t = tally c r first window older held milestone calm in
     let some = last_moment (IsInTime (progressing c r)) (window ++ first ∷ older) held t.left t.is in
     let e = earned c r window (first ∷ older) (calm_stays c r window (first ∷ older) calm) in
@@ -285,3 +299,10 @@ calm_commits c r most first window older held milestone calm fits =
     (paid (earns c r) window (first ∷ older)) (c.replicas * most) c.replicas most (length (known c r (first ∷ older))) (length (known c r (window ++ first ∷ older))) (copies c r most c.replicas (window ++ first ∷ older))
     (members c r (first ∷ older)) (members c r (window ++ first ∷ older)) (copied c r window (first ∷ older))
     (omega arith) t.within some e refl (count_few c.replicas (λ p. is_member r p (window ++ first ∷ older))) l fits (omega (arith, y)) few
+
+calm_turns : (c : Config) (r : ℕ) (window older : List Event) → IsCalm c r window older → AreCalmTurns c r window older
+calm_turns c r [] older calm = tt
+calm_turns c r (e ∷ window) older calm = (calm_turns c r window older calm.0, (let k = calm.1 in record { same = k.same; named = λ _. k.named; leads_on = k.leads_on; has_room = k.has_room; lacks = k.lacks; going = k.going; inside = k.inside }))
+
+pub calm_commits : CalmLeadersCommit
+calm_commits c r most first window older held milestone calm fits = quiet_commits c r most first window older held milestone (calm_turns c r window (first ∷ older) calm) fits

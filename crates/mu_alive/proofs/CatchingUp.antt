@@ -133,7 +133,7 @@ commits c live a start k left m gains at first n base newer older s = go (knows_
             failed = moments_before (HoldsFailed c live a start) above (e ∷ (below ++ (n ++ base))) (subst (AtEachMoment (HoldsFailed c live a start)) (mine ∙ ap (λ z. z ++ (n ++ base)) is ∙ append_assoc above (e ∷ below) (n ++ base)) t.then.there.free.failed)
 
     closed : Closed (advancing c a) v (n ++ base)
-    closed = closes_by c a (advancing c a) at v n base (λ u o. omega arith) (λ u o. omega arith) (subst (AtEachMoment (IsInTime (advancing c a))) mine (advancing_moments c a (part a moment) t.then.there.last.led)) s.stands.advancing s.stands.below t.enough
+    closed = closes_by c a (advancing c a) at v n base (λ u o. omega arith) (λ u o. omega arith) (subst (AtEachMoment (IsInTime (advancing c a))) mine (advancing_moments false c a (part a moment) t.then.there.last.led)) s.stands.advancing s.stands.below t.enough
 
     go : (l : Bool) → knows_all c a (part a moment) ≡ l → HasEach c a (newer ++ older)
     go true knows = ends c live a start k m gains at (2 * limit c c.replicas) rest n base newer older s.waits t s.room (omega arith) (s.gained a s.waits.last.inside s.waits.last.lives) s.rows knows

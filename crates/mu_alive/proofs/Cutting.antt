@@ -1,6 +1,7 @@
 -- Cutting lists of events, and finding events in them.
-use Rattle.std.proofs.Common.{◌≡◌, ℕ, ◌+◌, ◌≤◌, ◌==◌, Bool, true, false, cond, List, [], ◌∷◌, ◌++◌, refl, sym, ◌∙◌, ap, arith, eqb-true, true≢false}
+use Rattle.std.proofs.Common.{◌≡◌, ℕ, ◌+◌, ◌≤◌, ◌==◌, Bool, true, false, cond, List, [], ◌∷◌, ◌++◌, refl, sym, ◌∙◌, ap, arith, eqb-true, subst, true≢false}
 use Rattle.mu_model.specs.declared.event.Event.{Event}
+use Rattle.mu_pace.specs.Counters.{AtEachMoment}
 use Rattle.mu_model.specs.Histories.{has, how_many, part}
 
 -- the newest event that passes
@@ -65,3 +66,12 @@ more_pass test (e ∷ newer) older = go (test e) (more_pass test newer older)
     go : (t : Bool) → how_many test older ≤ how_many test (newer ++ older) → how_many test older ≤ cond t (how_many test (newer ++ older) + 1) (how_many test (newer ++ older))
     go true l = omega (arith, l)
     go false l = l
+
+-- what holds of the part at each beginning of the events holds at each moment of the part
+pub moments_of : (a : ℕ) (P : List Event → Type 0) (past : List Event) → ((newer older : List Event) → past ≡ newer ++ older → P (part a older)) → AtEachMoment P (part a past)
+moments_of a P [] all = all [] [] refl
+moments_of a P (e ∷ past) all = go (e.by == a) refl (moments_of a P past (λ newer older is. all (e ∷ newer) older (ap (λ l. e ∷ l) is)))
+  where
+    go : (t : Bool) → (e.by == a) ≡ t → AtEachMoment P (part a past) → AtEachMoment P (cond t (e ∷ part a past) (part a past))
+    go true own rest = (rest, subst P (ap (λ t. cond t (e ∷ part a past) (part a past)) own) (all [] (e ∷ past) refl))
+    go false other rest = rest

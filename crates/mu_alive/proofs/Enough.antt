@@ -28,7 +28,7 @@ use Rattle.mu_agree.proofs.Knowing.{known_stays}
 use Rattle.mu_agree.proofs.Legal.{legal_older}
 use Rattle.mu_agree.proofs.Members.{over-part}
 use Rattle.mu_agree.proofs.Possible.{parts_shorten_law}
-use Rattle.mu_pace.specs.Collecting.{LeaderKeeps}
+use Rattle.mu_pace.specs.Collecting.{LeaderKeeps, LeaderKeepsBy}
 use Rattle.mu_pace.specs.Counters.{AtEachMoment, AtEachStep, IsInTime}
 use Rattle.mu_pace.specs.Watches.{progressing}
 use Rattle.mu_pace.proofs.Counting.{last_moment, moments_before, steps_before, both_moments}
@@ -126,7 +126,7 @@ pub record IsFine (c : Config) (a : ℕ) (now : List Event) : Type 0 where
   pub going : outrun c a now ≡ None
   pub lacks : knows_all c a now ≡ false
 
-possible_moments : (c : Config) (a : ℕ) (past : List Event) → IsLegalHistory c past → AtEachMoment (IsPossible c a) (part a past)
+pub possible_moments : (c : Config) (a : ℕ) (past : List Event) → IsLegalHistory c past → AtEachMoment (IsPossible c a) (part a past)
 possible_moments c a [] legal = part_is_possible c a [] legal
 possible_moments c a (e ∷ past) legal = go (e.by == a) (possible_moments c a past legal.0) (part_is_possible c a (e ∷ past) legal)
   where
@@ -142,7 +142,7 @@ lone_on c a (e ∷ past) legal alone = go (e.by == a) (lone_on c a past legal.0 
     go true ih here = (ih, here)
     go false ih here = ih
 
-going_moments : (c : Config) (a : ℕ) (mine : List Event) → outrun c a mine ≡ None → AtEachMoment (λ now. outrun c a now ≡ None) mine
+pub going_moments : (c : Config) (a : ℕ) (mine : List Event) → outrun c a mine ≡ None → AtEachMoment (λ now. outrun c a now ≡ None) mine
 going_moments c a [] none = none
 going_moments c a (e ∷ mine) none = (going_moments c a mine (outrun_before c a (e ∷ []) mine none), none)
 
@@ -186,7 +186,7 @@ never_lacks : (c : Config) (limit : ℕ) (o : Option ℕ) → limit < c.ring →
 never_lacks c limit None low = refl
 never_lacks c limit (Some h) low = lt-leb (h + c.ring) limit (omega (arith, low))
 
-not_lagging : (c : Config) (a : ℕ) (past : List Event) (e : Event) → length (known c a past) + reserve c < c.ring → is_lagging c a past e ≡ false
+pub not_lagging : (c : Config) (a : ℕ) (past : List Event) (e : Event) → length (known c a past) + reserve c < c.ring → is_lagging c a past e ≡ false
 not_lagging c a past e low =
     roomy c.replicas (λ q. not (marked c q (known c a past)) && lacks_room c (length (known c a past) + reserve c) (head_read a q e.by e.verb e.answer))
     (λ q. go (not (marked c q (known c a past))) (lacks_room c (length (known c a past) + reserve c) (head_read a q e.by e.verb e.answer)) (never_lacks c (length (known c a past) + reserve c) (head_read a q e.by e.verb e.answer) low))
@@ -249,9 +249,9 @@ calm_on c a (e ∷ newer) base good large fine kept is =
       min_on a e past same ih.1,
     )
 
-pub progress_moments : (c : Config) (a : ℕ) (mine : List Event) → AtEachStep (LeaderKeeps c a) mine → AtEachMoment (IsInTime (progressing c a)) mine
-progress_moments c a [] kept = λ left is. absurd (none_some left is)
-progress_moments c a (e ∷ mine) kept = (progress_moments c a mine kept.0, kept.1.places.progressing)
+pub progress_moments : (again : Bool) (c : Config) (a : ℕ) (mine : List Event) → AtEachStep (LeaderKeepsBy again c a) mine → AtEachMoment (IsInTime (progressing c a)) mine
+progress_moments again c a [] kept = λ left is. absurd (none_some left is)
+progress_moments again c a (e ∷ mine) kept = (progress_moments again c a mine kept.0, kept.1.places.progressing)
 
 pub first_is_milestone : (c : Config) (a : ℕ) (first : Event) (older : List Event) → is_min first ≡ true → has_begun a older ≡ true → has_min a older ≡ false → is_milestone c a older first ≡ true
 first_is_milestone c a first older is begun none =
@@ -271,7 +271,7 @@ few_after c a mine good large all led leads m =
     let kept = subst (AtEachStep (LeaderKeeps c a)) m.is led in
     let calm = calm_on c a m.newer (m.first ∷ m.older) good large fine (subst (AtEachStep (Leads c a)) m.is leads) (min_now a m.first m.older m.min m.begun) in
     let last = last_moment (IsFine c a) (m.newer ++ m.first ∷ m.older) fine in
-    let few = calm_commits c a (row_count c + reserve c) m.first m.newer m.older (progress_moments c a (m.newer ++ m.first ∷ m.older) kept) (first_is_milestone c a m.first m.older m.min m.begun (last_moment (λ now. has_min a now ≡ false) m.older m.none)) calm.0 (known_fits c a (m.newer ++ m.first ∷ m.older) good last.possible) in
+    let few = calm_commits c a (row_count c + reserve c) m.first m.newer m.older (progress_moments false c a (m.newer ++ m.first ∷ m.older) kept) (first_is_milestone c a m.first m.older m.min m.begun (last_moment (λ now. has_min a now ≡ false) m.older m.none)) calm.0 (known_fits c a (m.newer ++ m.first ∷ m.older) good last.possible) in
     let half = at_least_halves m.newer (m.first ∷ m.older) in
     omega (arith, few, half)
 

@@ -97,10 +97,10 @@ points_failed r q (e ∷ past) low = go (beat_read r q e.by e.verb e.answer) low
     go (Some x) low ih = dead (points_after (score r q past).0 (not (x == last_read r q past))) (score r q past).1 low
 
 -- the event is a read of the count of q by r
-abbrev reads_own : ℕ → ℕ → Event → Bool
+abbrev pub reads_own : ℕ → ℕ → Event → Bool
 reads_own r q e = is_beat_read q e && (e.by == r)
 
-own_reads : (r q : ℕ) (past : List Event) → how_many (reads_own r q) past ≡ how_many (is_beat_read q) (part r past)
+pub own_reads : (r q : ℕ) (past : List Event) → how_many (reads_own r q) past ≡ how_many (is_beat_read q) (part r past)
 own_reads r q [] = refl
 own_reads r q (e ∷ past) = go (is_beat_read q e) refl (e.by == r) (own_reads r q past)
   where
@@ -139,7 +139,7 @@ score_falls c r q (e ∷ newer) older legal none seen =
     counted true n = refl
     counted false n = omega arith
 
-many_reads : (c : Config) (q r k : ℕ) (mine top window older : List Event) → ReadsInTime c r mine → mine ≡ top ++ (window ++ older) → q < c.replicas → q ≢ r → k * cycle c ≤ length window → k ≤ how_many (is_beat_read q) window
+pub many_reads : (c : Config) (q r k : ℕ) (mine top window older : List Event) → ReadsInTime c r mine → mine ≡ top ++ (window ++ older) → q < c.replicas → q ≢ r → k * cycle c ≤ length window → k ≤ how_many (is_beat_read q) window
 many_reads c q r zero mine top window older reads is low other long = omega arith
 many_reads c q r (suc k) mine top window older reads is low other long =
     let next : suc k * cycle c ≡ k * cycle c + cycle c = omega arith in

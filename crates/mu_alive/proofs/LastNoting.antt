@@ -15,7 +15,7 @@ use Rattle.mu_model.specs.Steps.{is_asking_verb}
 use Rattle.mu_agree.proofs.Legal.{event_after, legal_onward}
 use Rattle.mu_alive.specs.Turns.{AreInTurn}
 use Rattle.mu_alive.proofs.Noting.{reads_fence}
-use Rattle.mu_alive.proofs.TurnOwners.{IsHighest, OwnedTop, no_grant, owned_top, seen_again}
+use Rattle.mu_alive.proofs.TurnOwners.{IsHighest, StaysOpen, no_grant, stays_open, seen_again}
 use Rattle.mu_alive.proofs.Turns.{not_begun}
 
 -- a owns p, and once it read its fence in the leadership it notes a grant
@@ -23,7 +23,7 @@ pub record NotesSome (owner note : Option ℕ) (a : ℕ) (read : Bool) : Type 0 
   pub owns : owner ≡ Some a
   pub noted : read ≡ true → is_some note ≡ true
 
-abbrev NotesIt : ℕ → ℕ → List Event → Type 0
+abbrev pub NotesIt : ℕ → ℕ → List Event → Type 0
 NotesIt a p past = NotesSome (fence_owner p past) (noted_grant a p past) a (has (reads_fence a p) (leadership a past))
 
 abbrev pub NotesOwn : ℕ → ℕ → List Event → Type 0
@@ -34,17 +34,17 @@ note_ask : (c : Config) (a p by q : ℕ) (past : List Event) → NotesIt a p pas
 note_ask c a p by q past n true h = record { owns = n.owns; noted = λ none. absurd (true≢false (sym none)) }
 note_ask c a p by q past n false h = record { owns = n.owns; noted = n.noted }
 
-note_fence : (c : Config) (a p by q : ℕ) (past : List Event) → OwnedTop a p past → NotesIt a p past → (t : Bool) → (by == a) ≡ t → (u : Bool) → (q == p) ≡ u → NotesIt a p (event_after c past by (Verb.Fence q) ∷ past)
+note_fence : (c : Config) (a p by q : ℕ) (past : List Event) → StaysOpen a p past → NotesIt a p past → (t : Bool) → (by == a) ≡ t → (u : Bool) → (q == p) ≡ u → NotesIt a p (event_after c past by (Verb.Fence q) ∷ past)
 note_fence c a p by q past top n true ht true hu = rw (ht, hu) (record { owns = n.owns; noted = λ _. subst (λ x. is_some (grant_for a (Some (fence x past))) ≡ true) (sym (eqb-true q p hu)) (ap is_some (seen_again a p past top n.owns)) })
 note_fence c a p by q past top n true ht false hu = rw (ht, hu) (record { owns = n.owns; noted = n.noted })
 note_fence c a p by q past top n false ht true hu = rw (ht, hu) (record { owns = n.owns; noted = n.noted })
 note_fence c a p by q past top n false ht false hu = rw (ht, hu) (record { owns = n.owns; noted = n.noted })
 
-note_grant : (c : Config) (a p by w : ℕ) (past : List Event) → OwnedTop a p past → Needs c by (part by past) (Verb.Grant w) → NotesIt a p past → (t : Bool) → (by == p) ≡ t → NotesIt a p (event_after c past by (Verb.Grant w) ∷ past)
+note_grant : (c : Config) (a p by w : ℕ) (past : List Event) → StaysOpen a p past → Needs c by (part by past) (Verb.Grant w) → NotesIt a p past → (t : Bool) → (by == p) ≡ t → NotesIt a p (event_after c past by (Verb.Grant w) ∷ past)
 note_grant c a p by w past top may n true h = absurd (no_grant c a p by w past top may h n.owns)
 note_grant c a p by w past top may n false h = rw h n
 
-note_step : (c : Config) (a p by : ℕ) (v : Verb) (past : List Event) → OwnedTop a p past → Needs c by (part by past) v → NotesIt a p past → NotesIt a p (event_after c past by v ∷ past)
+pub note_step : (c : Config) (a p by : ℕ) (v : Verb) (past : List Event) → StaysOpen a p past → Needs c by (part by past) v → NotesIt a p past → NotesIt a p (event_after c past by v ∷ past)
 note_step c a p by (Verb.Ask q) past top may n = note_ask c a p by q past n (is_first_ask a by (Verb.Ask q)) refl
 note_step c a p by (Verb.Fence q) past top may n = note_fence c a p by q past top n (by == a) refl (q == p) refl
 note_step c a p by (Verb.Grant w) past top may n = note_grant c a p by w past top may n (by == p) refl
@@ -60,4 +60,4 @@ notes_own c a p newer older first asks own owns =
     legal_onward c (NotesOwn a p) (first ∷ older) (note_first a p first.by first.verb first.answer older asks own owns)
     (λ past by v legal may n turns high.
     let before : IsHighest a past = (λ w above. not_begun w (event_after c past by v) past (high w above)) in
-    note_step c a p by v past (owned_top c a p past legal turns.0 before) may.may (n turns.0 before)) newer
+    note_step c a p by v past (stays_open c a p past legal turns.0 before) may.may (n turns.0 before)) newer

@@ -39,7 +39,7 @@ use Rattle.mu_alive.proofs.Moments.{AsksEach, From, at_least_halves, each_before
 use Rattle.mu_alive.proofs.Spreading.{AppliesMeanwhile, Governs, all_raised, each_notes, moments_more, spreads}
 use Rattle.mu_alive.proofs.Started.{Started, numbered_there, numbered_with, one_leads, some_asked}
 use Rattle.mu_alive.proofs.TurnFences.{lead_on_moments}
-use Rattle.mu_alive.proofs.TurnOwners.{owned_top, seen_again}
+use Rattle.mu_alive.proofs.TurnOwners.{stays_open, seen_again}
 use Rattle.mu_alive.proofs.Turns.{begun-part, min_begun, put_reads}
 use Rattle.mu_pace.proofs.Pasts.{begun_on, min_now}
 use Rattle.mu_pace.specs.Watches.{puts_number}
@@ -175,7 +175,7 @@ governs c live a start newer older good last asks begun late = record {
             let whole : newer ++ older ≡ above ++ (below ++ older) = ap (λ x. x ++ older) cuts ∙ append_assoc above below older in
             let there = last_before c live a start above (below ++ older) (subst (LeadsLast c live a start) whole last) in
             let more = ap length (filter-append (λ e. e.by == a) below older) ∙ length-append (part a below) (part a older) in
-            ap is_some (seen_again a p (below ++ older) (owned_top c a p (below ++ older) there.legal there.turns there.highest)
+            ap is_some (seen_again a p (below ++ older) (stays_open c a p (below ++ older) there.legal there.turns there.highest)
             (owned c live a start p (below ++ older) there (λ front rest is. asks (above ++ front) rest (whole ∙ ap (λ l. above ++ l) is ∙ sym (append_assoc above front rest))) low lives (omega (arith, more, late))))
 
 -- so once it knows every command, all that keep up with it have applied all and

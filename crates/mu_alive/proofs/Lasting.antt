@@ -161,7 +161,7 @@ last_begins c live a start past good last each none = elim (cases_lt (length (pa
       let named = late_named c a start (part a past) last.named in
       let l = last.inside in
       absurd (asks_fail c live a start (start + last_granting_steps c a) past last.inside last.lives last.majority (omega arith) last.led
-      (both_moments (λ now. has_min a now ≡ false) (From start (λ now. is_named c a now ≡ true)) (HasNoMin c a start) (λ now m n. (m, n)) (part a past) none named)
+      (both_moments (λ now. has_min a now ≡ false) (From start (λ now. is_named c a now ≡ true)) (HasNoMin c a start) (λ now m n late. (m, n late)) (part a past) none named)
       (λ newer between oldest first is long asks own. last_confirms c live a start past newer between oldest first good last each is long asks own)
       (two_asks c start (start + last_granting_steps c a) (part a past) each many (omega arith) (omega (arith, l))))
 ]

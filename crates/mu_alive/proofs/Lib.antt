@@ -1,15 +1,22 @@
+pub mod Again
 mod Alone
+mod Anew
 pub mod Applying
+mod Astray
 pub mod Beginning
 mod Bringing
 mod Calm
 mod Catching
 mod CatchingUp
+mod Clearing
 pub mod Cutting
 mod Ending
+mod Enduring
 pub mod Enough
 pub mod Failing
+pub mod Fair
 pub mod Fetching
+pub mod Finding
 pub mod Finishing
 mod Following
 mod Gaining
@@ -20,14 +27,18 @@ mod KnowsMost
 pub mod Lagging
 mod LastNoting
 pub mod LastRaising
+mod LastAsks
 mod Lasting
 mod Moments
 mod Noting
 mod Opening
 mod OwnNumbers
 mod Reaching
+pub mod Resuming
 mod Rising
+mod SeenAsks
 mod Settled
+pub mod Settling
 mod Since
 pub mod Spreading
 mod Stands

@@ -65,7 +65,7 @@ pub notes_owned : (c : Config) (a p : ℕ) (newer older : List Event) (first : E
 notes_owned c a p newer older first asks own owns = legal_onward c (NotesOwned a p) (first ∷ older) (notes_first a p first.by first.verb first.answer older asks own owns) (λ past by v legal may n. notes_step c a p by v past legal may n) newer
 
 -- reads of fences in the part are a's own
-some_read : (a p : ℕ) (past : List Event) → 1 ≤ how_many (is_fencing p) (part a past) → has (reads_fence a p) past ≡ true
+pub some_read : (a p : ℕ) (past : List Event) → 1 ≤ how_many (is_fencing p) (part a past) → has (reads_fence a p) past ≡ true
 some_read a p [] some = absurd (omega (arith, some))
 some_read a p (e ∷ past) some = go (is_fencing p e) refl (e.by == a) refl some (some_read a p past)
   where

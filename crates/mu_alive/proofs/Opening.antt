@@ -214,7 +214,7 @@ commits_next c live a k x left base newer older good fits lone lacks o heads kne
 
     short : (w above : List Event) → part a newer ≡ above ++ w → each_step (λ past e. not ((progressing c a).closes past e)) w (part a older) ≡ true → replications w (part a older) < limit c c.replicas + paid (earns c a) (w ++ o.window) (o.mid ++ base)
     short w above cuts unclosed =
-        let held : AtEachMoment (IsInTime (progressing c a)) (w ++ part a older) = moments_before (IsInTime (progressing c a)) above (w ++ part a older) (subst (AtEachMoment (IsInTime (progressing c a))) (mine ∙ ap (λ l. l ++ part a older) cuts ∙ append_assoc above w (part a older)) (progress_moments c a (part a (newer ++ older)) lone.led)) in
+        let held : AtEachMoment (IsInTime (progressing c a)) (w ++ part a older) = moments_before (IsInTime (progressing c a)) above (w ++ part a older) (subst (AtEachMoment (IsInTime (progressing c a))) (mine ∙ ap (λ l. l ++ part a older) cuts ∙ append_assoc above w (part a older)) (progress_moments false c a (part a (newer ++ older)) lone.led)) in
         let both = each_both (λ past e. not ((progressing c a).closes past e)) w o.window (o.mid ++ base) (subst (λ l. each_step (λ past e. not ((progressing c a).closes past e)) w l ≡ true) o.is unclosed) o.unclosed in
         let whole : w ++ part a older ≡ (w ++ o.window) ++ (o.mid ++ base) = ap (λ l. w ++ l) o.is ∙ sym (append_assoc w o.window (o.mid ++ base)) in
         let less = shorter (progressing c a) o.amount (w ++ part a older) (w ++ o.window) (o.mid ++ base) held (record { newer = []; is = whole }) o.allows both in

@@ -1,5 +1,5 @@
 -- So its leaderships never end.
-use Rattle.std.proofs.Common.{◌≡◌, ℕ, ◌+◌, ◌%◌, ◌<◌, ◌≤◌, Bool, true, false, cond, ◌&&◌, ◌==◌, List, [], ◌∷◌, refl, sym, ◌∙◌, ap, arith, Some, None, subst, eqb-true, true≢false}
+use Rattle.std.proofs.Common.{◌≡◌, ℕ, ◌%◌, ◌<◌, ◌≤◌, Bool, true, false, cond, ◌&&◌, ◌==◌, List, [], ◌∷◌, refl, sym, ◌∙◌, ap, arith, Some, None, subst, eqb-true, true≢false}
 use Rattle.std.specs.declared.option.Option.{Option}
 use Rattle.std.specs.Prelude.{is_some}
 use Rattle.std.proofs.lemmas.Bool.{and_parts}
@@ -25,7 +25,7 @@ use Rattle.mu_agree.proofs.Members.{joined_under-part, over-part}
 use Rattle.mu_pace.specs.Counters.{AtEachMoment}
 use Rattle.mu_alive.specs.Turns.{AreInTurn, IsInTurn, TurnsLeadOn}
 use Rattle.mu_alive.proofs.Alone.{not_above, still_on, GoesOn, over_ask, over_enter, over_put_min, over_put_slot}
-use Rattle.mu_alive.proofs.TurnOwners.{IsHighest, NotesStanding, OwnedTop, no_grant, notes_standing, owned_top, seen_again, top_induction}
+use Rattle.mu_alive.proofs.TurnOwners.{IsHighest, NotesStanding, StaysOpen, no_grant, notes_standing, stays_open, seen_again, top_induction}
 use Rattle.mu_alive.proofs.Turns.{turn_induction}
 use Rattle.mu_alive.proofs.TurnNumbers.{are_first, own_number, region_low}
 
@@ -42,7 +42,7 @@ opens_ask : (c : Config) (r p by q : ℕ) (past : List Event) → OpensHeld r p 
 opens_ask c r p by q past s true h = rw h (λ t e. cc)
 opens_ask c r p by q past s false h = rw h s
 
-opens_fence : (c : Config) (r p by q : ℕ) (past : List Event) → OwnedTop r p past → OpensHeld r p past → (t : Bool) → (by == r) ≡ t → (u : Bool) → (q == p) ≡ u → OpensHeld r p (event_after c past by (Verb.Fence q) ∷ past)
+opens_fence : (c : Config) (r p by q : ℕ) (past : List Event) → StaysOpen r p past → OpensHeld r p past → (t : Bool) → (by == r) ≡ t → (u : Bool) → (q == p) ≡ u → OpensHeld r p (event_after c past by (Verb.Fence q) ∷ past)
 opens_fence c r p by q past top s true ht true hu =
     rw (ht, hu) (λ t e f. let k = s t e f in record { owns = k.owns; undrained = k.undrained; noted = subst (λ x. grant_for r (Some (fence x past)) ≡ Some (fence_grant p past)) (sym (eqb-true q p hu)) (seen_again r p past top k.owns) })
 opens_fence c r p by q past top s true ht false hu = rw (ht, hu) s
@@ -56,18 +56,18 @@ opens_put_slot : (c : Config) (r p by q i b v : ℕ) (past : List Event) → Ope
 opens_put_slot c r p by q i b v past s true h = rw h (λ t e f. absurd (no_target t e f))
 opens_put_slot c r p by q i b v past s false h = rw h s
 
-opens_drain : (c : Config) (r p by : ℕ) (past : List Event) → OwnedTop r p past → Needs c by (part by past) Verb.Drain → OpensHeld r p past → (t : Bool) → (by == p) ≡ t → OpensHeld r p (event_after c past by Verb.Drain ∷ past)
+opens_drain : (c : Config) (r p by : ℕ) (past : List Event) → StaysOpen r p past → Needs c by (part by past) Verb.Drain → OpensHeld r p past → (t : Bool) → (by == p) ≡ t → OpensHeld r p (event_after c past by Verb.Drain ∷ past)
 opens_drain c r p by past top may s true h = λ t e f.
     let k = s t e f in
     let drains = sym (must_drain-part p past) ∙ (subst (λ x. Needs c x (part x past) Verb.Drain) (eqb-true by p h) may).0 in
-    absurd (true≢false (sym (and_parts (fence_closing p past) (names_target (last_close p past)) drains).0 ∙ (top k.owns).0))
+    absurd (true≢false (sym (and_parts (fence_closing p past) (names_target (last_close p past)) drains).0 ∙ top k.owns))
 opens_drain c r p by past top may s false h = rw h s
 
-opens_grant : (c : Config) (r p by q : ℕ) (past : List Event) → OwnedTop r p past → Needs c by (part by past) (Verb.Grant q) → OpensHeld r p past → (t : Bool) → (by == p) ≡ t → OpensHeld r p (event_after c past by (Verb.Grant q) ∷ past)
+opens_grant : (c : Config) (r p by q : ℕ) (past : List Event) → StaysOpen r p past → Needs c by (part by past) (Verb.Grant q) → OpensHeld r p past → (t : Bool) → (by == p) ≡ t → OpensHeld r p (event_after c past by (Verb.Grant q) ∷ past)
 opens_grant c r p by q past top may s true h = λ t e f. absurd (no_grant c r p by q past top may h (s t e f).owns)
 opens_grant c r p by q past top may s false h = rw h s
 
-opens_enter : (r p by q : ℕ) (t : Target) (past : List Event) → NotesStanding r p past → OpensHeld r p past
+pub opens_enter : (r p by q : ℕ) (t : Target) (past : List Event) → NotesStanding r p past → OpensHeld r p past
     → (answer : Answer) → entered_or_lost (noted_grant by q past) (fence q past) ≡ answer → (x : Bool) → (by == r) ≡ x → (y : Bool) → (q == p) ≡ y
     → OpensHeld r p (record { by = by; verb = Verb.Enter q t; answer = answer } ∷ past)
 opens_enter r p by q t past n s Answer.Entered e true hx true hy =
@@ -82,7 +82,7 @@ opens_enter r p by q t past n s answer e true hx true hy = rw (hx, hy) (λ t' e'
 opens_enter r p by q t past n s answer e true hx false hy = rw (hx, hy) s
 opens_enter r p by q t past n s answer e false hx y hy = rw hx s
 
-opens_step : (c : Config) (r p by : ℕ) (v : Verb) (past : List Event) → OwnedTop r p past → NotesStanding r p past → Needs c by (part by past) v → OpensHeld r p past → OpensHeld r p (event_after c past by v ∷ past)
+pub opens_step : (c : Config) (r p by : ℕ) (v : Verb) (past : List Event) → StaysOpen r p past → NotesStanding r p past → Needs c by (part by past) v → OpensHeld r p past → OpensHeld r p (event_after c past by v ∷ past)
 opens_step c r p by (Verb.Ask q) past top n may s = opens_ask c r p by q past s (is_first_ask r by (Verb.Ask q)) refl
 opens_step c r p by (Verb.Fence q) past top n may s = opens_fence c r p by q past top s (by == r) refl (q == p) refl
 opens_step c r p by (Verb.Enter q t) past top n may s = opens_enter r p by q t past n s (entered_or_lost (noted_grant by q past) (fence q past)) refl (by == r) refl (q == p) refl
@@ -93,7 +93,7 @@ opens_step c r p by (Verb.Grant q) past top n may s = opens_grant c r p by q pas
 opens_step c r p by v past top n may s = s
 
 pub opens_held : (c : Config) (r p : ℕ) (past : List Event) → IsLegalHistory c past → AreInTurn past → IsHighest r past → OpensHeld r p past
-opens_held c r p = top_induction c r (OpensHeld r p) (λ t e. cc) (λ past by v legal turns turn high may s. opens_step c r p by v past (owned_top c r p past legal turns high) (notes_standing c r p past legal turns high) may.may s)
+opens_held c r p = top_induction c r (OpensHeld r p) (λ t e. cc) (λ past by v legal turns turn high may s. opens_step c r p by v past (stays_open c r p past legal turns high) (notes_standing c r p past legal turns high) may.may s)
 
 -- a member grants to r, and r notes it
 pub record HoldsMember (r : ℕ) (joined : Option ℕ) (owner : Option ℕ) (note : Option ℕ) (grant : ℕ) : Type 0 where
@@ -108,13 +108,13 @@ members_ask : (c : Config) (r p by q : ℕ) (past : List Event) → MembersHeld 
 members_ask c r p by q past s true h = rw h (λ o e. cc)
 members_ask c r p by q past s false h = rw h s
 
-members_fence : (c : Config) (r p by q : ℕ) (past : List Event) → OwnedTop r p past → MembersHeld r p past → (t : Bool) → (by == r) ≡ t → (u : Bool) → (q == p) ≡ u → MembersHeld r p (event_after c past by (Verb.Fence q) ∷ past)
+members_fence : (c : Config) (r p by q : ℕ) (past : List Event) → StaysOpen r p past → MembersHeld r p past → (t : Bool) → (by == r) ≡ t → (u : Bool) → (q == p) ≡ u → MembersHeld r p (event_after c past by (Verb.Fence q) ∷ past)
 members_fence c r p by q past top s true ht true hu =
     rw (ht, hu) (λ j e. let k = s j e in record { one = k.one; owns = k.owns; noted = subst (λ x. grant_for r (Some (fence x past)) ≡ Some (fence_grant p past)) (sym (eqb-true q p hu)) (seen_again r p past top k.owns) })
 members_fence c r p by q past top s true ht false hu = rw (ht, hu) s
 members_fence c r p by q past top s false ht u hu = rw ht s
 
-members_grant : (c : Config) (r p by q : ℕ) (past : List Event) → OwnedTop r p past → Needs c by (part by past) (Verb.Grant q) → MembersHeld r p past → (t : Bool) → (by == p) ≡ t → MembersHeld r p (event_after c past by (Verb.Grant q) ∷ past)
+members_grant : (c : Config) (r p by q : ℕ) (past : List Event) → StaysOpen r p past → Needs c by (part by past) (Verb.Grant q) → MembersHeld r p past → (t : Bool) → (by == p) ≡ t → MembersHeld r p (event_after c past by (Verb.Grant q) ∷ past)
 members_grant c r p by q past top may s true h = λ o e. absurd (no_grant c r p by q past top may h (s o e).owns)
 members_grant c r p by q past top may s false h = rw h s
 
@@ -138,7 +138,7 @@ members_put c r p by q b past opens may s Answer.Done true hx false hy = rw (hx,
 members_put c r p by q b past opens may s Answer.Done false hx y hy = rw hx s
 members_put c r p by q b past opens may s answer x hx y hy = s
 
-members_step : (c : Config) (r p by : ℕ) (v : Verb) (past : List Event) → OwnedTop r p past → OpensHeld r p past → Needs c by (part by past) v → MembersHeld r p past → MembersHeld r p (event_after c past by v ∷ past)
+pub members_step : (c : Config) (r p by : ℕ) (v : Verb) (past : List Event) → StaysOpen r p past → OpensHeld r p past → Needs c by (part by past) v → MembersHeld r p past → MembersHeld r p (event_after c past by v ∷ past)
 members_step c r p by (Verb.Ask q) past top opens may s = members_ask c r p by q past s (is_first_ask r by (Verb.Ask q)) refl
 members_step c r p by (Verb.Fence q) past top opens may s = members_fence c r p by q past top s (by == r) refl (q == p) refl
 members_step c r p by (Verb.PutMin q b) past top opens may s = members_put c r p by q b past opens may s (put_answer (drained by q past)) (by == r) refl (q == p) refl
@@ -146,39 +146,44 @@ members_step c r p by (Verb.Grant q) past top opens may s = members_grant c r p 
 members_step c r p by v past top opens may s = s
 
 pub members_held : (c : Config) (r p : ℕ) (past : List Event) → IsLegalHistory c past → AreInTurn past → IsHighest r past → MembersHeld r p past
-members_held c r p = top_induction c r (MembersHeld r p) (λ o e. cc) (λ past by v legal turns turn high may s. members_step c r p by v past (owned_top c r p past legal turns high) (opens_held c r p past legal turns high) may.may s)
+members_held c r p = top_induction c r (MembersHeld r p) (λ o e. cc) (λ past by v legal turns turn high may s. members_step c r p by v past (stays_open c r p past legal turns high) (opens_held c r p past legal turns high) may.may s)
 
 -- so a leadership never ends: its events come while nobody above has asked
 none_both : (x y : Bool) → (x ≡ true → y ≡ false) → (x && y) ≡ false
 none_both true y h = h refl
 none_both false y h = refl
 
-unchanged : (r p : ℕ) (past : List Event) (j : Option (Option ℕ)) → OwnedTop r p past → ((o : Option ℕ) → j ≡ Some o → HoldsMember r o (fence_owner p past) (noted_grant r p past) (fence_grant p past)) → is_changed j (fence p past) ≡ false
+unchanged : (r p : ℕ) (past : List Event) (j : Option (Option ℕ)) → (is_some (noted_grant r p past) ≡ true → fence_closing p past ≡ false) → ((o : Option ℕ) → j ≡ Some o → HoldsMember r o (fence_owner p past) (noted_grant r p past) (fence_grant p past)) → is_changed j (fence p past) ≡ false
 unchanged r p past None top s = refl
 unchanged r p past (Some x) top s =
     let k = s x refl in
-    same x (fence_closing p past) k.one (top k.owns).0
+    same x (fence_closing p past) k.one (top (ap is_some k.noted))
   where
     same : (x : Option ℕ) (t : Bool) → x ≡ Some (fence_grant p past) → t ≡ false → is_changed (Some x) (record { owner = fence_owner p past; grant = fence_grant p past; closing = t; target = fence_target p past }) ≡ false
     same x t hx ht = rw (hx, ht, same_number (fence_grant p past)) refl
 
--- what holds when r makes an event
-record AtTurn (c : Config) (r : ℕ) (past : List Event) : Type 0 where
-  top : (p : ℕ) → OwnedTop r p past
-  notes : (p : ℕ) → NotesStanding r p past
-  opens : (p : ℕ) → OpensHeld r p past
-  members : (p : ℕ) → MembersHeld r p past
-  low : (p : ℕ) → region_min p past ≤ 8 + r
-  number : (b : ℕ) → proposal_number r past ≡ Some b → b ≡ 8 + r
+-- what holds when r makes an event: a region whose grant it noted isn't closing, and has no minimum above its number
+pub record AtTurn (c : Config) (r : ℕ) (past : List Event) : Type 0 where
+  pub top : (p : ℕ) → is_some (noted_grant r p past) ≡ true → fence_closing p past ≡ false
+  pub notes : (p : ℕ) → NotesStanding r p past
+  pub opens : (p : ℕ) → OpensHeld r p past
+  pub members : (p : ℕ) → MembersHeld r p past
+  pub within : (p b : ℕ) → is_some (noted_grant r p past) ≡ true → proposal_number r past ≡ Some b → region_min p past ≤ b
+
+noted_open : (r p : ℕ) (past : List Event) → StaysOpen r p past → NotesStanding r p past → is_some (noted_grant r p past) ≡ true → fence_closing p past ≡ false
+noted_open r p past top notes some = go (noted_grant r p past) refl some
+  where
+    go : (o : Option ℕ) → noted_grant r p past ≡ o → is_some o ≡ true → fence_closing p past ≡ false
+    go None is none = absurd (true≢false (sym none))
+    go (Some g) is _ = top (notes g is).1
 
 at_turn : (c : Config) (r by : ℕ) (v : Verb) (past : List Event) → c.replicas < 8 → IsLegalHistory c past → AreInTurn past → IsInTurn past (event_after c past by v) → (by == r) ≡ true → AtTurn c r past
 at_turn c r by v past few legal turns turn own = record {
-  top = λ p. owned_top c r p past legal turns high;
+  top = λ p. noted_open r p past (stays_open c r p past legal turns high) (notes_standing c r p past legal turns high);
   notes = λ p. notes_standing c r p past legal turns high;
   opens = λ p. opens_held c r p past legal turns high;
   members = λ p. members_held c r p past legal turns high;
-  low = λ p. region_low c r p past few legal turns high;
-  number = own_number r past (are_first c past few legal turns);
+  within = λ p b _ is. (let low = region_low c r p past few legal turns high in let number = own_number r past (are_first c past few legal turns) b is in omega (arith, low, number));
 }
   where
     high : IsHighest r past
@@ -198,26 +203,26 @@ enters c r p (Target.Place x) past at may = go (grant_at_joining r p past) refl 
     go None is some = absurd (true≢false (sym some))
     go (Some o) is some = let k = at.members p o is in (k.noted, k.owns)
 
-not_lost : (r p : ℕ) (past : List Event) (n : Option ℕ) → OwnedTop r p past → n ≡ Some (fence_grant p past) → fence_owner p past ≡ Some r → entered_or_lost n (fence p past) ≡ Answer.Entered
-not_lost r p past n top noted owns = is n (fence_closing p past) noted (top owns).0
+not_lost : (r p : ℕ) (past : List Event) (n : Option ℕ) → (is_some (noted_grant r p past) ≡ true → fence_closing p past ≡ false) → n ≡ Some (fence_grant p past) → noted_grant r p past ≡ Some (fence_grant p past) → entered_or_lost n (fence p past) ≡ Answer.Entered
+not_lost r p past n top noted here = is n (fence_closing p past) noted (top (ap is_some here))
   where
     is : (n : Option ℕ) (t : Bool) → n ≡ Some (fence_grant p past) → t ≡ false → entered_or_lost n (record { owner = fence_owner p past; grant = fence_grant p past; closing = t; target = fence_target p past }) ≡ Answer.Entered
     is n t hn ht = rw (hn, ht, same_number (fence_grant p past)) refl
 
-over_step : (c : Config) (r by : ℕ) (v : Verb) (past : List Event) → ((by == r) ≡ true → AtTurn c r past) → Needs c by (part by past) v → GoesOn r past → GoesOn r (event_after c past by v ∷ past)
+pub over_step : (c : Config) (r by : ℕ) (v : Verb) (past : List Event) → ((by == r) ≡ true → AtTurn c r past) → Needs c by (part by past) v → GoesOn r past → GoesOn r (event_after c past by v ∷ past)
 over_step c r by (Verb.Ask q) past at may s = over_ask c r by q past s (is_first_ask r by (Verb.Ask q)) refl
 over_step c r by (Verb.Fence q) past at may s =
     still_on ((by == r) && is_changed (grant_at_joining r q past) (fence q past)) (is_over r past)
     (none_both (by == r) (is_changed (grant_at_joining r q past) (fence q past)) (λ own. unchanged r q past (grant_at_joining r q past) ((at own).top q) ((at own).members q))) s
 over_step c r by (Verb.Min q) past at may s =
     still_on ((by == r) && is_above (proposal_number r past) (region_min q past)) (is_over r past)
-    (none_both (by == r) (is_above (proposal_number r past) (region_min q past)) (λ own. not_above (proposal_number r past) (region_min q past) (λ b e. let l = (at own).low q in let n = (at own).number b e in omega (arith, l, n)))) s
+    (none_both (by == r) (is_above (proposal_number r past) (region_min q past)) (λ own. not_above (proposal_number r past) (region_min q past) (λ b e. (at own).within q b (subst (λ o. is_some o ≡ true) (noted-part r q past) (subst (λ z. Needs c z (part z past) (Verb.Min q)) (eqb-true by r own) may).1) e))) s
 over_step c r by (Verb.Enter q t) past at may s =
     over_enter r by q t past s
     (λ h.
     let at_r = subst (λ z. Needs c z (part z past) (Verb.Enter q t)) (eqb-true by r h) may in
     let k = enters c r q t past (at h) at_r.1 in
-    not_lost r q past (noted_grant by q past) ((at h).top q) (ap (λ z. noted_grant z q past) (eqb-true by r h) ∙ k.0) k.1)
+    not_lost r q past (noted_grant by q past) ((at h).top q) (ap (λ z. noted_grant z q past) (eqb-true by r h) ∙ k.0) k.0)
     (entered_or_lost (noted_grant by q past) (fence q past)) refl (by == r) refl
 over_step c r by (Verb.PutMin q b) past at may s =
     over_put_min c r by q b past s (drained by q past)

@@ -26,7 +26,7 @@ use Rattle.mu_alive.proofs.Alone.{owner-part, seen-part}
 use Rattle.mu_alive.proofs.Beginning.{cut_at, grants_before, reads_before}
 use Rattle.mu_alive.proofs.Calm.{count_adds, count_few}
 use Rattle.mu_alive.proofs.Cutting.{Located, located, met, more_pass}
-use Rattle.mu_alive.proofs.TurnOwners.{IsHighest, OwnedTop, Waits, no_grant, owned_top, served-part, top_induction, waiter_begun, waits}
+use Rattle.mu_alive.proofs.TurnOwners.{IsHighest, StaysOpen, Waits, no_grant, stays_open, served-part, top_induction, waiter_begun, waits}
 use Rattle.mu_alive.proofs.Turns.{not_begun}
 use Rattle.mu_pace.proofs.Pasts.{has_later, begun_still, cut, reads_ask}
 use Rattle.mu_alive.proofs.Granting.{none_before}
@@ -44,7 +44,7 @@ highest_older r (e ∷ newer) older high = highest_older r newer older (λ w abo
 abbrev NeverGranted : ℕ → ℕ → List Event → Type 0
 NeverGranted r p past = (fence_owner p past ≡ Some r → ⊥) → (has (λ e. is_grant_to p r e.by e.verb) past ≡ false) × (served_as_owner p r past ≡ None)
 
-never_grant : (c : Config) (r p by q : ℕ) (past : List Event) → OwnedTop r p past → Needs c by (part by past) (Verb.Grant q) → NeverGranted r p past → NeverGranted r p (event_after c past by (Verb.Grant q) ∷ past)
+never_grant : (c : Config) (r p by q : ℕ) (past : List Event) → StaysOpen r p past → Needs c by (part by past) (Verb.Grant q) → NeverGranted r p past → NeverGranted r p (event_after c past by (Verb.Grant q) ∷ past)
 never_grant c r p by q past top may s = go (by == p) refl
   where
     go : (t : Bool) → (by == p) ≡ t → NeverGranted r p (event_after c past by (Verb.Grant q) ∷ past)
@@ -68,13 +68,13 @@ never_read c r p by q past s = λ other. let k = s other in (k.0, ap (λ o. newe
         go true false w h = refl
         go false u w h = refl
 
-never_step : (c : Config) (r p by : ℕ) (v : Verb) (past : List Event) → OwnedTop r p past → Needs c by (part by past) v → NeverGranted r p past → NeverGranted r p (event_after c past by v ∷ past)
+never_step : (c : Config) (r p by : ℕ) (v : Verb) (past : List Event) → StaysOpen r p past → Needs c by (part by past) v → NeverGranted r p past → NeverGranted r p (event_after c past by v ∷ past)
 never_step c r p by (Verb.Grant q) past top may s = never_grant c r p by q past top may s
 never_step c r p by (Verb.ReadAsk q) past top may s = never_read c r p by q past s
 never_step c r p by v past top may s = s
 
 never_granted : (c : Config) (r p : ℕ) (past : List Event) → IsLegalHistory c past → AreInTurn past → IsHighest r past → NeverGranted r p past
-never_granted c r p = top_induction c r (NeverGranted r p) (λ _. (refl, refl)) (λ past by v legal turns turn high may s. never_step c r p by v past (owned_top c r p past legal turns high) may.may s)
+never_granted c r p = top_induction c r (NeverGranted r p) (λ _. (refl, refl)) (λ past by v legal turns turn high may s. never_step c r p by v past (stays_open c r p past legal turns high) may.may s)
 
 never_served : (c : Config) (r p : ℕ) (past : List Event) → NeverGranted r p past → (fence_owner p past ≡ Some r → ⊥) → served p r past ≡ 0
 never_served c r p past never other =
@@ -87,9 +87,9 @@ owner_before c r p [] older legal turns high owns = owns
 owner_before c r p (e ∷ newer) older legal turns high owns =
     let before : IsHighest r (newer ++ older) = (λ w above. not_begun w e (newer ++ older) (high w above)) in
     let ih = owner_before c r p newer older legal.0 turns.0 before owns in
-    keeps e.by e.verb (owned_top c r p (newer ++ older) legal.0 turns.0 before) legal.1.allowed.may ih
+    keeps e.by e.verb (stays_open c r p (newer ++ older) legal.0 turns.0 before) legal.1.allowed.may ih
   where
-    keeps : (by : ℕ) (v : Verb) → OwnedTop r p (newer ++ older) → Needs c by (part by (newer ++ older)) v → fence_owner p (newer ++ older) ≡ Some r → newer_or (granted_by p by v) (fence_owner p (newer ++ older)) ≡ Some r
+    keeps : (by : ℕ) (v : Verb) → StaysOpen r p (newer ++ older) → Needs c by (part by (newer ++ older)) v → fence_owner p (newer ++ older) ≡ Some r → newer_or (granted_by p by v) (fence_owner p (newer ++ older)) ≡ Some r
     keeps by (Verb.Grant q) top may ih = go (by == p) refl
       where
         go : (t : Bool) → (by == p) ≡ t → newer_or (cond t (Some q) None) (fence_owner p (newer ++ older)) ≡ Some r

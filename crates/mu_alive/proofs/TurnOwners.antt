@@ -231,10 +231,17 @@ top_step c r p by v past legal turns turn high may s = s
 pub owned_top : (c : Config) (r p : ℕ) (past : List Event) → IsLegalHistory c past → AreInTurn past → IsHighest r past → OwnedTop r p past
 owned_top c r p = top_induction c r (OwnedTop r p) (λ is. cc) (λ past by v legal turns turn high may s. top_step c r p by v past legal turns turn high may.may s)
 
+-- so a region that r owns isn't closing
+abbrev pub StaysOpen : ℕ → ℕ → List Event → Type 0
+StaysOpen r p past = fence_owner p past ≡ Some r → fence_closing p past ≡ false
+
+pub stays_open : (c : Config) (r p : ℕ) (past : List Event) → IsLegalHistory c past → AreInTurn past → IsHighest r past → StaysOpen r p past
+stays_open c r p past legal turns high owns = (owned_top c r p past legal turns high owns).0
+
 -- a host that granted to r grants to nobody else
-pub no_grant : (c : Config) (r p by q : ℕ) (past : List Event) → OwnedTop r p past → Needs c by (part by past) (Verb.Grant q) → (by == p) ≡ true → fence_owner p past ≡ Some r → ⊥
+pub no_grant : (c : Config) (r p by q : ℕ) (past : List Event) → StaysOpen r p past → Needs c by (part by past) (Verb.Grant q) → (by == p) ≡ true → fence_owner p past ≡ Some r → ⊥
 no_grant c r p by q past top may h owns =
-    true≢false (sym (grant_needs c p q past (subst (λ x. Needs c x (part x past) (Verb.Grant q)) (eqb-true by p h) may)).0 ∙ (top owns).0)
+    true≢false (sym (grant_needs c p q past (subst (λ x. Needs c x (part x past) (Verb.Grant q)) (eqb-true by p h) may)).0 ∙ top owns)
 
 -- a grant that r noted is the one that stands
 abbrev pub NotesStanding : ℕ → ℕ → List Event → Type 0
@@ -256,22 +263,22 @@ notes_fence c r p by q past n true ht true hu = rw (ht, hu) (λ g e. notes_seen 
 notes_fence c r p by q past n true ht false hu = rw (ht, hu) n
 notes_fence c r p by q past n false ht u hu = rw ht n
 
-notes_grant : (c : Config) (r p by q : ℕ) (past : List Event) → OwnedTop r p past → Needs c by (part by past) (Verb.Grant q) → NotesStanding r p past → (t : Bool) → (by == p) ≡ t → NotesStanding r p (event_after c past by (Verb.Grant q) ∷ past)
+notes_grant : (c : Config) (r p by q : ℕ) (past : List Event) → StaysOpen r p past → Needs c by (part by past) (Verb.Grant q) → NotesStanding r p past → (t : Bool) → (by == p) ≡ t → NotesStanding r p (event_after c past by (Verb.Grant q) ∷ past)
 notes_grant c r p by q past top may n true h = λ g e. absurd (no_grant c r p by q past top may h (n g e).1)
 notes_grant c r p by q past top may n false h = rw h n
 
-notes_step : (c : Config) (r p by : ℕ) (v : Verb) (past : List Event) → OwnedTop r p past → Needs c by (part by past) v → NotesStanding r p past → NotesStanding r p (event_after c past by v ∷ past)
+pub notes_step : (c : Config) (r p by : ℕ) (v : Verb) (past : List Event) → StaysOpen r p past → Needs c by (part by past) v → NotesStanding r p past → NotesStanding r p (event_after c past by v ∷ past)
 notes_step c r p by (Verb.Ask q) past top may n = notes_ask c r p by q past n (is_first_ask r by (Verb.Ask q)) refl
 notes_step c r p by (Verb.Fence q) past top may n = notes_fence c r p by q past n (by == r) refl (q == p) refl
 notes_step c r p by (Verb.Grant q) past top may n = notes_grant c r p by q past top may n (by == p) refl
 notes_step c r p by v past top may n = n
 
 pub notes_standing : (c : Config) (r p : ℕ) (past : List Event) → IsLegalHistory c past → AreInTurn past → IsHighest r past → NotesStanding r p past
-notes_standing c r p = top_induction c r (NotesStanding r p) (λ g e. cc) (λ past by v legal turns turn high may n. notes_step c r p by v past (owned_top c r p past legal turns high) may.may n)
+notes_standing c r p = top_induction c r (NotesStanding r p) (λ g e. cc) (λ past by v legal turns turn high may n. notes_step c r p by v past (stays_open c r p past legal turns high) may.may n)
 
 -- a fence of a region that r owns notes the grant
-pub seen_again : (r p : ℕ) (past : List Event) → OwnedTop r p past → fence_owner p past ≡ Some r → grant_for r (Some (fence p past)) ≡ Some (fence_grant p past)
-seen_again r p past top owns = is (fence_closing p past) (fence_owner p past) (top owns).0 owns
+pub seen_again : (r p : ℕ) (past : List Event) → StaysOpen r p past → fence_owner p past ≡ Some r → grant_for r (Some (fence p past)) ≡ Some (fence_grant p past)
+seen_again r p past top owns = is (fence_closing p past) (fence_owner p past) (top owns) owns
   where
     is : (t : Bool) (owner : Option ℕ) → t ≡ false → owner ≡ Some r → cond (not t && owner_is r owner) (Some (fence_grant p past)) None ≡ Some (fence_grant p past)
     is t owner ht ho = rw (ht, ho, same_number r) refl

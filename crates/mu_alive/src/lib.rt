@@ -4,12 +4,16 @@
 ghost use Rattle.mu_alive.specs.Alone.{LoneAskersLead};
 ghost use Rattle.mu_alive.specs.Bringing.{FollowersAreBroughtUp};
 ghost use Rattle.mu_alive.specs.Calm.{CalmLeadersCommit};
+ghost use Rattle.mu_alive.specs.Clearing.{LeastIsGranted, LeastKeepsRegions, OldAsksAreServed};
 ghost use Rattle.mu_alive.specs.Enough.{LoneLeadersApplyAll, LoneLeadersKnowAll};
 ghost use Rattle.mu_alive.specs.Failing.{HeldFailedInTime};
+ghost use Rattle.mu_alive.specs.Fair.{EvenOnesKeepUp, FairOnesKeepUp, FastOnesAreFound, HeldAliveInTime};
 ghost use Rattle.mu_alive.specs.Finishing.{LastLeadersRaiseAll, LoneLeadersRaiseAll};
 ghost use Rattle.mu_alive.specs.Following.{FollowersCatchUp};
 ghost use Rattle.mu_alive.specs.Lagging.{LoneLeadersApplyAllInAnyRing, LoneLeadersRaiseAllInAnyRing};
 ghost use Rattle.mu_alive.specs.Last.{LastLeadersApplyAll, LastLeadersKnowAll};
+ghost use Rattle.mu_alive.specs.Resuming.{ResumedLeadersApplyAll, ResumedLeadersKnowAll};
+ghost use Rattle.mu_alive.specs.Settling.{LeastIsNamed, OnlyLeastAsks};
 ghost use Rattle.mu_alive.specs.Stopping.{LastLeadersApplyAllInAnyRing, LastLeadersRaiseAllInAnyRing};
 ghost use Rattle.mu_alive.specs.Turns.{HostsGrantInTurn, TurnsLeadOn};
 ghost use Rattle.mu_alive.specs.Unhindered.{UnhinderedCommit};
@@ -109,4 +113,60 @@ pub fn last_leaders_apply_all_in_any_ring()
 /// And all that keep up with it have applied all, and raised their heads to it.
 pub fn last_leaders_raise_all_in_any_ring()
     ensures { LastLeadersRaiseAllInAnyRing }
+{}
+
+/// Replicas that find the beats of one hold it alive in time, whatever the scores were.
+pub fn held_alive_in_time()
+    ensures { HeldAliveInTime }
+{}
+
+/// Those that hold the least of them alive name it in time, and from then on.
+pub fn least_is_named()
+    ensures { LeastIsNamed }
+{}
+
+/// And only that one asks then.
+pub fn only_least_asks()
+    ensures { OnlyLeastAsks }
+{}
+
+/// A host that goes on has served the asks of all others in time.
+pub fn old_asks_are_served()
+    ensures { OldAsksAreServed }
+{}
+
+/// From then on it doesn't close or grant on a region that the least owns.
+pub fn least_keeps_regions()
+    ensures { LeastKeepsRegions }
+{}
+
+/// And it grants its region to the least two rounds after that asked for it.
+pub fn least_is_granted()
+    ensures { LeastIsGranted }
+{}
+
+/// Replicas each of which takes a step in any few of one keep up with it at that ratio.
+pub fn fair_ones_keep_up()
+    ensures { FairOnesKeepUp }
+{}
+
+/// Replicas that keep step keep up.
+pub fn even_ones_keep_up()
+    ensures { EvenOnesKeepUp }
+{}
+
+/// The beats of one that keeps pace with the others are found.
+pub fn fast_ones_are_found()
+    ensures { FastOnesAreFound }
+{}
+
+/// After the last disturbance the least that goes on, with a majority that keeps up, knows every
+/// command in time, whether it may ask again or not.
+pub fn resumed_leaders_know_all()
+    ensures { ResumedLeadersKnowAll }
+{}
+
+/// And has applied every command in time, if it fetches the rows that others wrote.
+pub fn resumed_leaders_apply_all()
+    ensures { ResumedLeadersApplyAll }
 {}
