@@ -1,5 +1,5 @@
 -- What each replica leaves stands in the lists of an outcome, and the outcome is a run.
-use Rattle.std.proofs.Common.{◌≡◌, ◌∙◌, ℕ, suc, zero, ◌+◌, ◌<◌, ◌≤◌, true, List, [], ◌∷◌, ◌++◌, None, Some, ap, append-nil, arith, inl, inr, length, map, refl, subst, sym}
+use Rattle.std.proofs.Common.{Bool, ◌≡◌, ◌∙◌, ℕ, suc, zero, ◌+◌, ◌<◌, ◌≤◌, true, List, [], ◌∷◌, ◌++◌, None, Some, ap, append-nil, arith, inl, inr, length, map, refl, subst, sym}
 use Rattle.std.specs.declared.option.Option.{Option}
 use Rattle.std.specs.Prelude.{slice_index}
 use Rattle.std.specs.List.{slice_get}
@@ -31,17 +31,21 @@ use Rattle.mu_model.proofs.Parts.{part_is_possible}
 use Rattle.mu_knowledge.specs.declared.commit.Commit.{Commit}
 use Rattle.mu_knowledge.specs.Commits.{pair_of}
 use Rattle.mu_node.specs.declared.result.NodeResult.{NodeResult}
-use Rattle.mu_model.specs.Diligence.{IsDiligent}
+use Rattle.mu_node.specs.declared.zeal.Zeal.{Zeal}
+use Rattle.mu_model.specs.Diligence.{IsDiligentBy}
+use Rattle.mu_node.specs.Due.{is_eager}
 use Rattle.mu_node.specs.Turns.{IsResult, TellsEnd}
 use Rattle.mu_cluster.specs.declared.lists.Lists.{Lists}
 use Rattle.mu_outcome.specs.declared.outcome.Outcome.{Outcome}
 use Rattle.mu_cluster.specs.declared.rounds.Seat.{Seat}
 use Rattle.mu_outcome.specs.Entries.{commands_in, commands_of, longest}
 use Rattle.mu_cluster.specs.Lists.{Adds, AreOf, HasRoom, HoldsLists, Leaves}
-use Rattle.mu_cluster.specs.Paces.{AreDiligent}
+use Rattle.mu_cluster.specs.Paces.{AreDiligentBy, AreNodesOf}
+use Rattle.mu_node.specs.Journal.{IsListed}
+use Rattle.mu_pace.specs.Counters.{AtEachStep}
 use Rattle.mu_outcome.specs.Outcomes.{IsRun, journal_of, journals_of, or_empty}
 use Rattle.mu_outcome.specs.Runs.{IsRunOver}
-use Rattle.mu_cluster.specs.Rounds.{EndsNowhereBefore, MayTake, Played, Sits, part_of}
+use Rattle.mu_cluster.specs.Rounds.{EndsNowhereBefore, MayTake, PlayedBy, Sits, part_of}
 use Rattle.mu_outcome.specs.Turns.{ids_after, pace}
 
 -- an end that is told if there is one
@@ -55,9 +59,9 @@ commands_grouped job [] = refl
 commands_grouped job (v ∷ vs) = ap (λ l. commands_of job v ++ l) (commands_grouped job vs)
 
 -- longer lists still hold it
-leaves_front : (c : Config) (script : Script) (r : ℕ) (mine : List Event) (ls ms : List (List ℕ)) (cs ds : List (List Commit)) (rs ts : List (List Reply)) (es fs : List End)
-    → Leaves c script r mine ls cs rs es → Leaves c script r mine (ls ++ ms) (cs ++ ds) (rs ++ ts) (es ++ fs)
-leaves_front c script r mine ls ms cs ds rs ts es fs was = record {
+leaves_front : (again : Bool) (c : Config) (script : Script) (r : ℕ) (mine : List Event) (ls ms : List (List ℕ)) (cs ds : List (List Commit)) (rs ts : List (List Reply)) (es fs : List End)
+    → Leaves again c script r mine ls cs rs es → Leaves again c script r mine (ls ++ ms) (cs ++ ds) (rs ++ ts) (es ++ fs)
+leaves_front again c script r mine ls ms cs ds rs ts es fs was = record {
   log_at = get_front ls ms r (applied c r mine) was.log_at;
   made = was.made;
   made_at = get_front cs ds r was.made was.made_at;
@@ -72,16 +76,16 @@ leaves_front c script r mine ls ms cs ds rs ts es fs was = record {
 }
 
 -- the same of lists that are equal to these
-leaves_in : (c : Config) (script : Script) (r : ℕ) (mine : List Event) (ls ms : List (List ℕ)) (cs ds : List (List Commit)) (rs ts : List (List Reply)) (es fs : List End)
-    → ms ≡ ls → ds ≡ cs → ts ≡ rs → fs ≡ es → Leaves c script r mine ls cs rs es → Leaves c script r mine ms ds ts fs
-leaves_in c script r mine ls ms cs ds rs ts es fs b d t e was =
-    subst (λ x. Leaves c script r mine ms ds ts x) (sym e) (subst (λ x. Leaves c script r mine ms ds x es) (sym t)
-    (subst (λ x. Leaves c script r mine ms x rs es) (sym d) (subst (λ x. Leaves c script r mine x cs rs es) (sym b) was)))
+leaves_in : (again : Bool) (c : Config) (script : Script) (r : ℕ) (mine : List Event) (ls ms : List (List ℕ)) (cs ds : List (List Commit)) (rs ts : List (List Reply)) (es fs : List End)
+    → ms ≡ ls → ds ≡ cs → ts ≡ rs → fs ≡ es → Leaves again c script r mine ls cs rs es → Leaves again c script r mine ms ds ts fs
+leaves_in again c script r mine ls ms cs ds rs ts es fs b d t e was =
+    subst (λ x. Leaves again c script r mine ms ds ts x) (sym e) (subst (λ x. Leaves again c script r mine ms ds x es) (sym t)
+    (subst (λ x. Leaves again c script r mine ms x rs es) (sym d) (subst (λ x. Leaves again c script r mine x cs rs es) (sym b) was)))
 
 -- one more replica
-pub held_left : (c : Config) (script : Script) (events : List Event) (n : ℕ) (old new : Lists) (result : NodeResult) → HoldsLists c script events n old → Adds old new result → EndsNowhereBefore c script n (part_of n events)
-    → (end : End) × EndsBy c script n (part_of n events) end → IsResult c n (part_of n events) result → TellsEnd c script n (part_of n events) result.end → HoldsLists c script events (n + 1) new
-held_left c script events n old new result was adds before ends is told = record { room = room; each = each }
+pub held_left : (again : Bool) (c : Config) (script : Script) (events : List Event) (n : ℕ) (old new : Lists) (result : NodeResult) → HoldsLists again c script events n old → Adds old new result → EndsNowhereBefore c script n (part_of n events)
+    → (end : End) × EndsBy c script n (part_of n events) end → IsResult again c n (part_of n events) result → TellsEnd c script n (part_of n events) result.end → HoldsLists again c script events (n + 1) new
+held_left again c script events n old new result was adds before ends is told = record { room = room; each = each }
   where
     end : (e : End) × ((result.end ≡ Some e) × EndsBy c script n (part_of n events) e)
     end = end_told c script n (part_of n events) result.end told ends
@@ -97,7 +101,7 @@ held_left c script events n old new result was adds before ends is told = record
       ends = (ap length ends_are ∙ (length_push old.ends.items end.0 ∙ ap (λ m. m + 1) was.room.ends.0), (let a = was.room.ends.1 in let b = adds.ends.1 in omega (arith, a, b)));
     }
 
-    here : Leaves c script n (part_of n events) (old.logs.items ++ result.log ∷ []) (old.commits.items ++ result.commits ∷ []) (old.replies.items ++ result.replies ∷ []) (old.ends.items ++ end.0 ∷ [])
+    here : Leaves again c script n (part_of n events) (old.logs.items ++ result.log ∷ []) (old.commits.items ++ result.commits ∷ []) (old.replies.items ++ result.replies ∷ []) (old.ends.items ++ end.0 ∷ [])
     here = record {
       log_at = get_push_here old.logs.items n result.log (sym was.room.logs.0) ∙ ap (λ l. Some l) is.log;
       made = result.commits;
@@ -112,24 +116,24 @@ held_left c script events n old new result was adds before ends is told = record
       diligent = is.diligent;
     }
 
-    both : (r : ℕ) → Leaves c script r (part_of r events) (old.logs.items ++ result.log ∷ []) (old.commits.items ++ result.commits ∷ []) (old.replies.items ++ result.replies ∷ []) (old.ends.items ++ end.0 ∷ [])
-        → Leaves c script r (part_of r events) new.logs.items new.commits.items new.replies.items new.ends.items
+    both : (r : ℕ) → Leaves again c script r (part_of r events) (old.logs.items ++ result.log ∷ []) (old.commits.items ++ result.commits ∷ []) (old.replies.items ++ result.replies ∷ []) (old.ends.items ++ end.0 ∷ [])
+        → Leaves again c script r (part_of r events) new.logs.items new.commits.items new.replies.items new.ends.items
     both r leaves =
-        leaves_in c script r (part_of r events) (old.logs.items ++ result.log ∷ []) new.logs.items (old.commits.items ++ result.commits ∷ []) new.commits.items (old.replies.items ++ result.replies ∷ []) new.replies.items (old.ends.items ++ end.0 ∷ []) new.ends.items
+        leaves_in again c script r (part_of r events) (old.logs.items ++ result.log ∷ []) new.logs.items (old.commits.items ++ result.commits ∷ []) new.commits.items (old.replies.items ++ result.replies ∷ []) new.replies.items (old.ends.items ++ end.0 ∷ []) new.ends.items
         adds.logs.0 adds.commits.0 adds.replies.0 ends_are leaves
 
-    each : (r : ℕ) → r < n + 1 → Leaves c script r (part_of r events) new.logs.items new.commits.items new.replies.items new.ends.items
+    each : (r : ℕ) → r < n + 1 → Leaves again c script r (part_of r events) new.logs.items new.commits.items new.replies.items new.ends.items
     each r low = both r (elim (cases_lt r n) [
-      | inl below ↦ leaves_front c script r (part_of r events) old.logs.items (result.log ∷ []) old.commits.items (result.commits ∷ []) old.replies.items (result.replies ∷ []) old.ends.items (end.0 ∷ []) (was.each r below)
+      | inl below ↦ leaves_front again c script r (part_of r events) old.logs.items (result.log ∷ []) old.commits.items (result.commits ∷ []) old.replies.items (result.replies ∷ []) old.ends.items (end.0 ∷ []) (was.each r below)
       | inr above ↦
           let same : n ≡ r = omega (arith, low, above) in
-          subst (λ i. Leaves c script i (part_of i events) (old.logs.items ++ result.log ∷ []) (old.commits.items ++ result.commits ∷ []) (old.replies.items ++ result.replies ∷ []) (old.ends.items ++ end.0 ∷ [])) same here
+          subst (λ i. Leaves again c script i (part_of i events) (old.logs.items ++ result.log ∷ []) (old.commits.items ++ result.commits ∷ []) (old.replies.items ++ result.replies ∷ []) (old.ends.items ++ end.0 ∷ [])) same here
     ])
 
 -- the same if the replica sits in rounds
-pub held_next : (c : Config) (script : Script) (events : List Event) (n rounds : ℕ) (old new : Lists) (result : NodeResult) (seat : Seat) → HoldsLists c script events n old → Adds old new result
-    → Sits c script n (part_of n events) seat rounds → seat.ended ≡ true → IsResult c n (part_of n events) result → TellsEnd c script n (part_of n events) result.end → HoldsLists c script events (n + 1) new
-held_next c script events n rounds old new result seat was adds sits ended is told = held_left c script events n old new result was adds sits.before (sits.ended ended) is told
+pub held_next : {kind : Zeal} (c : Config) (script : Script) (events : List Event) (n rounds : ℕ) (old new : Lists) (result : NodeResult) (seat : Seat) → HoldsLists (is_eager kind) c script events n old → Adds old new result
+    → Sits kind c script n (part_of n events) seat rounds → seat.ended ≡ true → IsResult (is_eager seat.node.zeal) c n (part_of n events) result → TellsEnd c script n (part_of n events) result.end → HoldsLists (is_eager kind) c script events (n + 1) new
+held_next {kind} c script events n rounds old new result seat was adds sits ended is told = held_left (is_eager kind) c script events n old new result was adds sits.before (sits.ended ended) (subst (λ z. IsResult (is_eager z) c n (part_of n events) result) sits.zeal is) told
 
 pub get_map : {A : Type 0} {B : Type 0} (f : A → B) (xs : List A) (i : ℕ) (x : A) → slice_get xs i ≡ Some x → slice_get (map f xs) i ≡ Some (f x)
 get_map f [] i x at = cc
@@ -137,10 +141,10 @@ get_map f (y ∷ ys) zero x at = ap (λ v. Some (f v)) (same_some y x at)
 get_map f (y ∷ ys) (suc i) x at = get_map f ys i x at
 
 -- what a run leaves is what the definitions give of the parts of its list
-pub run_over : (o : Outcome) (events : List Event) (lists : Lists) → IsLegal o.job.config events → HasParts o.job.config events (journals_of o) → o.logs ≡ lists.logs.items → o.commits ≡ lists.commits.items → o.own_replies ≡ lists.replies.items → o.ends ≡ lists.ends.items
-    → HoldsLists o.job.config o.job.script events o.job.config.replicas lists → AreSpelled o.job.config o.job.commands
+pub run_over : (again : Bool) (o : Outcome) (events : List Event) (lists : Lists) → IsLegal o.job.config events → HasParts o.job.config events (journals_of o) → o.logs ≡ lists.logs.items → o.commits ≡ lists.commits.items → o.own_replies ≡ lists.replies.items → o.ends ≡ lists.ends.items
+    → HoldsLists again o.job.config o.job.script events o.job.config.replicas lists → AreSpelled o.job.config o.job.commands
     → o.replies ≡ replies (commands_in o.job (longest lists.logs.items)) → IsRunOver events o
-run_over o events lists legal parts ls cs rs es held are answered = record {
+run_over again o events lists legal parts ls cs rs es held are answered = record {
   legal = legal;
   parts = parts;
   counts = (ap length ls ∙ held.room.logs.0, ap length cs ∙ held.room.commits.0, ap length es ∙ held.room.ends.0);
@@ -155,21 +159,30 @@ run_over o events lists legal parts ls cs rs es held are answered = record {
       ap or_empty l.told_at ∙ (l.told_is o.job.commands are ∙ ap replies (commands_grouped o.job log)) ∙ ap (λ x. replies (commands_in o.job (or_empty x))) (sym l.log_at);
 }
   where
-    left : (r : ℕ) → r < o.job.config.replicas → Leaves o.job.config o.job.script r (part_of r events) o.logs o.commits o.own_replies o.ends
-    left r low = leaves_in o.job.config o.job.script r (part_of r events) lists.logs.items o.logs lists.commits.items o.commits lists.replies.items o.own_replies lists.ends.items o.ends ls cs rs es (held.each r low)
+    left : (r : ℕ) → r < o.job.config.replicas → Leaves again o.job.config o.job.script r (part_of r events) o.logs o.commits o.own_replies o.ends
+    left r low = leaves_in again o.job.config o.job.script r (part_of r events) lists.logs.items o.logs lists.commits.items o.commits lists.replies.items o.own_replies lists.ends.items o.ends ls cs rs es (held.each r low)
 
     own : (r : ℕ) → r < o.job.config.replicas → history (journal_of o r) ≡ part_of r events
     own r low = journal_is o events parts r low
 
 -- the journals are diligent, as those of the replicas were
-pub diligent_of : (o : Outcome) (events : List Event) (lists : Lists) → HasParts o.job.config events (journals_of o) → HoldsLists o.job.config o.job.script events o.job.config.replicas lists → AreDiligent o
-diligent_of o events lists parts held r low = subst (λ h. IsDiligent o.job.config r h) (sym (journal_is o events parts r low)) (held.each r low).diligent
+pub diligent_of : (again : Bool) (o : Outcome) (events : List Event) (lists : Lists) → HasParts o.job.config events (journals_of o) → HoldsLists again o.job.config o.job.script events o.job.config.replicas lists → AreDiligentBy again o
+diligent_of again o events lists parts held r low = subst (λ h. IsDiligentBy again o.job.config r h) (sym (journal_is o events parts r low)) (held.each r low).diligent
+
+-- and made as by nodes of the kind that these were
+pub kinds_of : {kind : Zeal} (o : Outcome) (order : Record) (seats : List Seat) (rounds : ℕ) → HasParts o.job.config order.events (journals_of o) → PlayedBy kind o.job.config o.job.script order.events seats rounds 0 → AreNodesOf kind o
+kinds_of {kind} o order seats rounds parts played r low =
+    let c = o.job.config in
+    let count = played.count in
+    let found = item_below seats r (omega (arith, low, count)) in
+    let sits = played.waits r found.0 found.1 (omega arith) in
+    subst (λ h. AtEachStep (IsListed kind c r) h) (sym (journal_is o order.events parts r low)) (subst (λ z. AtEachStep (IsListed z c r) (part_of r order.events)) sits.zeal sits.stands.listed)
 
 -- what a replay leaves is a run of its job
-pub run_of : (o : Outcome) (order : Record) (lists : Lists) (seats : List Seat) (rounds : ℕ) → o.order ≡ Some order → IsLegal o.job.config order.events → o.logs ≡ lists.logs.items
-    → o.commits ≡ lists.commits.items → o.own_replies ≡ lists.replies.items → o.ends ≡ lists.ends.items → HoldsLists o.job.config o.job.script order.events o.job.config.replicas lists
-    → Played o.job.config o.job.script order.events seats rounds 0 → ((r : ℕ) (seat : Seat) → slice_get seats r ≡ Some seat → seat.ended ≡ true) → AreSpelled o.job.config o.job.commands → o.replies ≡ replies (commands_in o.job (longest lists.logs.items)) → IsRun o
-run_of o order lists seats rounds given legal ls cs rs es held played ended are answered = record {
+pub run_of : {kind : Zeal} (again : Bool) (o : Outcome) (order : Record) (lists : Lists) (seats : List Seat) (rounds : ℕ) → o.order ≡ Some order → IsLegal o.job.config order.events → o.logs ≡ lists.logs.items
+    → o.commits ≡ lists.commits.items → o.own_replies ≡ lists.replies.items → o.ends ≡ lists.ends.items → HoldsLists again o.job.config o.job.script order.events o.job.config.replicas lists
+    → PlayedBy kind o.job.config o.job.script order.events seats rounds 0 → ((r : ℕ) (seat : Seat) → slice_get seats r ≡ Some seat → seat.ended ≡ true) → AreSpelled o.job.config o.job.commands → o.replies ≡ replies (commands_in o.job (longest lists.logs.items)) → IsRun o
+run_of again o order lists seats rounds given legal ls cs rs es held played ended are answered = record {
   order = order;
   given = given;
   legal = legal;
@@ -189,7 +202,7 @@ run_of o order lists seats rounds given legal ls cs rs es held played ended are 
 }
   where
     over : IsRunOver order.events o
-    over = run_over o order.events lists legal (order_parts o order given played.own) ls cs rs es held are answered
+    over = run_over again o order.events lists legal (order_parts o order given played.own) ls cs rs es held are answered
 
     lengths : List ℕ
     lengths = map length (journals_of o)
@@ -219,8 +232,8 @@ run_of o order lists seats rounds given legal ls cs rs es held played ended are 
         (sits.keeps (slice_index lengths r) (omega (arith, is)) (λ _. is)).0 ∙ sym is
 
 -- each replica's replies are those over the commands of its log
-pub replies_are : (job : Job) (script : Script) (events : List Event) (lists : Lists) → AreSpelled job.config job.commands → HoldsLists job.config script events job.config.replicas lists → AreOf (λ log. replies (commands_in job log)) lists
-replies_are job script events lists are held r log at =
+pub replies_are : (again : Bool) (job : Job) (script : Script) (events : List Event) (lists : Lists) → AreSpelled job.config job.commands → HoldsLists again job.config script events job.config.replicas lists → AreOf (λ log. replies (commands_in job log)) lists
+replies_are again job script events lists are held r log at =
     let low = slice_get_within lists.logs.items r log at in
     let count = held.room.logs.0 in
     let l = held.each r (omega (arith, low, count)) in
@@ -229,9 +242,9 @@ replies_are job script events lists are held r log at =
     l.told_at ∙ ap (λ x. Some x) (l.told_is job.commands are ∙ ap replies (commands_grouped job mine) ∙ ap (λ x. replies (commands_in job x)) same)
 
 -- the longest log is that of a replica, or there is nothing in any: it tells no more commands than there are rows
-few_longest : (job : Job) (script : Script) (events : List Event) (lists : Lists) → IsConfig job.config → IsLegal job.config events → HoldsLists job.config script events job.config.replicas lists
+few_longest : (again : Bool) (job : Job) (script : Script) (events : List Event) (lists : Lists) → IsConfig job.config → IsLegal job.config events → HoldsLists again job.config script events job.config.replicas lists
     → length (commands_in job (longest lists.logs.items)) ≤ row_count job.config
-few_longest job script events lists good legal held = elim (longest_is lists.logs.items) [
+few_longest again job script events lists good legal held = elim (longest_is lists.logs.items) [
   | inl none ↦ (let few = ap (λ l. length (commands_in job l)) none in omega (arith, few))
   | inr some ↦ (
       let r = some.0 in
@@ -247,22 +260,22 @@ few_longest job script events lists good legal held = elim (longest_is lists.log
 ]
 
 -- there are few replies to the longest log
-pub few_replies : (job : Job) (script : Script) (events : List Event) (lists : Lists) → IsConfig job.config → IsLegal job.config events → HoldsLists job.config script events job.config.replicas lists
+pub few_replies : (again : Bool) (job : Job) (script : Script) (events : List Event) (lists : Lists) → IsConfig job.config → IsLegal job.config events → HoldsLists again job.config script events job.config.replicas lists
     → length (replies (commands_in job (longest lists.logs.items))) ≤ row_count job.config
-few_replies job script events lists good legal held =
-    let few = few_longest job script events lists good legal held in
+few_replies again job script events lists good legal held =
+    let few = few_longest again job script events lists good legal held in
     let each = length-replies (commands_in job (longest lists.logs.items)) in
     omega (arith, few, each)
 
 -- and room for all rows is enough for them
-pub printed_fit : (job : Job) (script : Script) (events : List Event) (lists : Lists) (room : ℕ) → IsConfig job.config → IsLegal job.config events → AreSpelled job.config job.commands
-    → HoldsLists job.config script events job.config.replicas lists → row_count job.config ≤ room
+pub printed_fit : (again : Bool) (job : Job) (script : Script) (events : List Event) (lists : Lists) (room : ℕ) → IsConfig job.config → IsLegal job.config events → AreSpelled job.config job.commands
+    → HoldsLists again job.config script events job.config.replicas lists → row_count job.config ≤ room
     → (f : List ℕ → List Reply) × (f [] ≡ []) × AreOf f lists × (length (f (longest lists.logs.items)) ≤ room)
-printed_fit job script events lists room good legal are held wide =
-    let few = few_replies job script events lists good legal held in
-    (λ log. replies (commands_in job log), refl, replies_are job script events lists are held, omega (arith, few, wide))
+printed_fit again job script events lists room good legal are held wide =
+    let few = few_replies again job script events lists good legal held in
+    (λ log. replies (commands_in job log), refl, replies_are again job script events lists are held, omega (arith, few, wide))
 
 -- what is printed are the replies over the longest log
-pub printed_is : (job : Job) (script : Script) (events : List Event) (lists : Lists) (told : List Reply) → AreSpelled job.config job.commands → HoldsLists job.config script events job.config.replicas lists
+pub printed_is : (again : Bool) (job : Job) (script : Script) (events : List Event) (lists : Lists) (told : List Reply) → AreSpelled job.config job.commands → HoldsLists again job.config script events job.config.replicas lists
     → ((f : List ℕ → List Reply) → f [] ≡ [] → AreOf f lists → told ≡ f (longest lists.logs.items)) → told ≡ replies (commands_in job (longest lists.logs.items))
-printed_is job script events lists told are held is = is (λ log. replies (commands_in job log)) refl (replies_are job script events lists are held)
+printed_is again job script events lists told are held is = is (λ log. replies (commands_in job log)) refl (replies_are again job script events lists are held)

@@ -1,10 +1,10 @@
 -- In a replay without a pause each replica that wasn't stopped finishes.
-use Rattle.std.proofs.Common.{◌≡◌, ◌∙◌, ◌≢◌, ◌⊎◌, ℕ, zero, suc, ◌+◌, ◌*◌, ◌<◌, ◌≤◌, ◌==◌, ◌&&◌, ◌||◌, inl, inr, Bool, true, false, cond, None, Some, List, [], ◌∷◌, ◌++◌, ap, append_assoc, arith, length, map, refl, subst, sym, take, drop}
+use Rattle.std.proofs.Common.{◌≡◌, ◌∙◌, ◌≢◌, ◌⊎◌, ℕ, zero, suc, ◌+◌, ◌*◌, ◌<◌, ◌≤◌, ◌==◌, ◌&&◌, ◌||◌, inl, inr, Bool, true, false, cond, None, Some, List, [], ◌∷◌, ◌++◌, ap, append_assoc, arith, length, map, refl, subst, sym, take}
 use Rattle.std.specs.declared.option.Option.{Option}
 use Rattle.std.specs.Prelude.{nat_le, not, slice_index}
 use Rattle.std.specs.List.{slice_get}
 use Rattle.std.proofs.lemmas.Bool.{and_from, and_parts, cases_eq, eq-eqb, eqb-true, le-leb, true≢false}
-use Rattle.std.proofs.lemmas.List.{length-append, length-reverse, length-take, take-append-drop}
+use Rattle.std.proofs.lemmas.List.{length-append, length-reverse, length-take}
 use Rattle.mu_agree.proofs.Knowing.{known_stays}
 use Rattle.mu_agree.proofs.Legal.{legal_older}
 use Rattle.mu_agree.proofs.Prefixes.{greatest_along}
@@ -37,7 +37,7 @@ use Rattle.mu_alive.specs.Failing.{failing_steps}
 use Rattle.mu_alive.specs.Finishing.{last_raising_steps, raising_steps}
 use Rattle.mu_alive.specs.Lagging.{raising_in_any_ring}
 use Rattle.mu_alive.proofs.Cutting.{Located, located}
-use Rattle.mu_alive.proofs.Enough.{holds_more, outrun_before}
+use Rattle.mu_alive.proofs.Enough.{outrun_before}
 use Rattle.mu_alive.proofs.Fetching.{applied_grows}
 use Rattle.mu_alive.proofs.Finishing.{raise_all}
 use Rattle.mu_alive.proofs.Spreading.{get_of_front, get_take, heads-own}
@@ -49,14 +49,15 @@ use Rattle.mu_cluster.specs.Paces.{AreDiligent}
 use Rattle.mu_cluster.specs.Rounds.{Played, part_of}
 use Rattle.mu_cluster.proofs.Living.{none_of}
 use Rattle.mu_cluster.proofs.Naming.{AreUnpaused, unpaused_of}
-use Rattle.mu_cluster.proofs.Onward.{journal_part, nodes_of, score-part}
+use Rattle.mu_cluster.proofs.Onward.{journal_part, nodes_of}
 use Rattle.mu_cluster.proofs.Outliving.{fails_then}
 use Rattle.mu_cluster.proofs.Outrunning.{none_outrun}
-use Rattle.mu_cluster.proofs.Raised.{RaisedBy, full_holds, raised_alone, raised_by, raised_last}
+use Rattle.mu_cluster.proofs.Raised.{RaisedBy, full_holds, holds_whole, raised_alone, raised_by, raised_last}
 use Rattle.mu_cluster.proofs.Taken.{GoOn}
 use Rattle.mu_cluster.proofs.Turning.{least_most}
 use Rattle.mu_agree.proofs.Sessions.{same_list}
 use Rattle.mu_pace.proofs.Pasts.{cut, not_true, not_false, has_later}
+use Rattle.mu_alive.proofs.Settling.{score-part}
 
 -- what a log held it holds later
 same_later : (c : Config) (r l : ℕ) (newer older : List Event) → l ≤ length (applied c r older) → take l (applied c r (newer ++ older)) ≡ take l (applied c r older)
@@ -311,7 +312,7 @@ finishes_from o order seats rounds s most good run given played unpaused goes_on
         full = (and_parts (is_full c r mine) _ ends.2).0
 
         holds_mine : holds_all c (applied c r mine) ≡ true
-        holds_mine = subst (λ x. holds_all c x ≡ true) (take-append-drop (full_length c r mine) (applied c r mine)) (holds_more c (take (full_length c r mine) (applied c r mine)) (drop (full_length c r mine) (applied c r mine)) (full_holds c r mine full))
+        holds_mine = holds_whole c (full_length c r mine) (applied c r mine) (full_holds c r mine full)
 
 -- those that were stopped are held failed in time
 pub held_in_time : (o : Outcome) (run : IsRun o) → ((r : ℕ) → r < o.job.config.replicas → was_stopped o r ≡ true → length (journal_of o r) + failing_steps o.job.config < o.job.config.budget)

@@ -178,7 +178,7 @@ events_in_step lead q most r [] held = tt
 events_in_step lead q most r (e ∷ past) held =
     (events_in_step lead q most r past held.0, λ own. subst (λ n. IsLesser n most (length (part q past))) (ap (λ n. n + lead) (times_part r past)) (subst (λ n. IsLesser (times r (map id_of past) + lead) most n) (times_part q past) (held.1 own)))
 
-map_reverse : {A : Type 0} {B : Type 0} (f : A → B) (xs : List A) → map f (reverse xs) ≡ reverse (map f xs)
+pub map_reverse : {A : Type 0} {B : Type 0} (f : A → B) (xs : List A) → map f (reverse xs) ≡ reverse (map f xs)
 map_reverse f [] = refl
 map_reverse f (x ∷ xs) = ap (map f) (reverse-append (x ∷ []) xs) ∙ (map-append f (reverse xs) (x ∷ []) ∙ (ap (λ l. l ++ f x ∷ []) (map_reverse f xs) ∙ sym (reverse-append (f x ∷ []) (map f xs))))
 

@@ -2,7 +2,10 @@ pub mod Agreeing
 mod AllTold
 mod AnyRing
 mod Branching
+mod Committing
 mod Driven
+mod Fair
+mod FairRuns
 pub mod FewCommands
 mod Filling
 mod Finishing
@@ -12,8 +15,11 @@ mod Lives
 mod Living
 mod Naming
 mod Onward
+mod Outliving
 mod Outrunning
 mod Passes
+mod Paused
+mod Pausing
 mod Ports
 mod Raised
 mod Rounding
@@ -24,6 +30,5 @@ mod Taken
 mod Trusting
 mod Turned
 mod Turning
-mod Wording
-mod Outliving
 mod Unblocking
+mod Wording

@@ -24,11 +24,12 @@ use Rattle.mu_model.specs.Steps.{is_named}
 use Rattle.mu_model.proofs.Basics.{same_some}
 use Rattle.mu_model.proofs.Lists.{item_below}
 use Rattle.mu_model.proofs.Parts.{filter-append, history-part}
+use Rattle.mu_node.specs.Due.{is_eager}
 use Rattle.mu_node.specs.Journal.{WasMade}
 use Rattle.mu_node.proofs.Naming.{first_named, is_row_write, writer_named}
 use Rattle.mu_outcome.specs.declared.outcome.Outcome.{Outcome}
 use Rattle.mu_outcome.specs.Outcomes.{IsRun, journal_of, journals_of, or_empty}
-use Rattle.mu_pace.specs.Collecting.{LeaderKeeps}
+use Rattle.mu_pace.specs.Collecting.{LeaderKeeps, LeaderKeepsBy}
 use Rattle.mu_pace.specs.Counters.{AtEachMoment, AtEachStep}
 use Rattle.mu_pace.proofs.Counting.{moments_before, both_moments}
 use Rattle.mu_alive.specs.Alone.{AsksAlone, WritesAlone}
@@ -205,7 +206,7 @@ applies_of o order seats rounds good run given played diligent unpaused left lar
     let some : 0 < c.replicas = (let few = good.replicas.0 in omega (arith, few)) in
     let count = played.count in
     let found = item_below seats 0 (omega (arith, some, count)) in
-    let led = subst (λ (x : Record). AtEachStep (LeaderKeeps c 0) (part_of 0 x.events)) (same_some order run.order (sym given ∙ run.given)) (played.waits 0 found.0 found.1 (omega arith)).stands.led in
+    let led = subst (λ (x : Record). AtEachStep (LeaderKeeps c 0) (part_of 0 x.events)) (same_some order run.order (sym given ∙ run.given)) (let sits = played.waits 0 found.0 found.1 (omega arith) in subst (λ z. AtEachStep (LeaderKeepsBy (is_eager z) c 0) (part_of 0 order.events)) sits.zeal sits.stands.led) in
     let holds = holds_in c (is_left o.job.script.stops) run.order.events (map length (journals_of o)) run.turns.rounds good all names left.first left.majority
     (λ r low there. all.taken r low ∙ ap length (sym (journal r low)) ∙ budget r low there) (λ r low. subst (IsDiligent c r) (journal r low) (diligent r low)) led large enough in
     ap (holds_all c) (run.logs 0 some ∙ ap (applied c 0) (journal 0 some)) ∙ holds

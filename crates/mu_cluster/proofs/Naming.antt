@@ -14,7 +14,8 @@ use Rattle.mu_model.specs.Scores.{leader, score}
 use Rattle.mu_model.specs.Steps.{is_asking_verb}
 use Rattle.mu_model.proofs.Basics.{same_number, same_some}
 use Rattle.mu_model.proofs.Parts.{filter-append}
-use Rattle.mu_node.specs.Journal.{WasMade}
+use Rattle.mu_node.specs.declared.zeal.Zeal.{Zeal}
+use Rattle.mu_node.specs.Journal.{IsListed, WasMade}
 use Rattle.mu_node.proofs.Naming.{asker_named, first_named}
 use Rattle.mu_outcome.specs.declared.outcome.Outcome.{Outcome}
 use Rattle.mu_outcome.specs.Outcomes.{IsRun, journals_of}
@@ -24,7 +25,7 @@ use Rattle.mu_pace.specs.Counters.{AtEachStep}
 use Rattle.mu_pace.proofs.Counting.{steps_before}
 use Rattle.mu_cluster.specs.declared.rounds.Seat.{Seat}
 use Rattle.mu_cluster.specs.Naming.{IsBeforeEnd, IsReached, NamesFirst, NamesFirstUnpaused}
-use Rattle.mu_cluster.specs.Rounds.{Played, id_of, part_of}
+use Rattle.mu_cluster.specs.Rounds.{PlayedBy, id_of, part_of}
 use Rattle.mu_model.proofs.Lists.{item_below}
 use Rattle.mu_cluster.proofs.InStep.{StaysAhead, in_step}
 use Rattle.mu_cluster.proofs.Passes.{has_history}
@@ -70,16 +71,21 @@ some_part q (e ∷ events) some = go (e.by == q) some (some_part q events)
     go true some ih = omega arith
     go false some ih = ih some
 
--- the events of a replay are those of nodes, in the order of rounds without a pause
-pub record AreUnpaused (c : Config) (events : List Event) (lengths : List ℕ) (rounds : ℕ) : Type 0 where
+-- the events of a replay are those of nodes of this kind, in the order of rounds without a pause
+pub record AreUnpausedBy (kind : Zeal) (c : Config) (events : List Event) (lengths : List ℕ) (rounds : ℕ) : Type 0 where
   pub legal : IsLegal c events
   pub whole : has (λ e. not (nat_lt e.by c.replicas)) (history events) ≡ false
   pub order : map id_of events ≡ ids_after [] lengths rounds
   pub count : length lengths ≡ c.replicas
   pub taken : (r : ℕ) → r < c.replicas → slice_index lengths r ≡ length (part_of r events)
   pub made : (r : ℕ) → r < c.replicas → AtEachStep (WasMade c r) (part_of r events)
+  pub listed : (r : ℕ) → r < c.replicas → AtEachStep (IsListed kind c r) (part_of r events)
 
-maker_inside : (c : Config) (events : List Event) (lengths : List ℕ) (rounds : ℕ) (earlier : List Event) (e : Event) → AreUnpaused c events lengths rounds → IsReached events earlier e → e.by < c.replicas
+-- the same of plain nodes
+abbrev pub AreUnpaused : Config → List Event → List ℕ → ℕ → Type 0
+AreUnpaused c events lengths rounds = AreUnpausedBy Zeal.Plain c events lengths rounds
+
+maker_inside : {kind : Zeal} (c : Config) (events : List Event) (lengths : List ℕ) (rounds : ℕ) (earlier : List Event) (e : Event) → AreUnpausedBy kind c events lengths rounds → IsReached events earlier e → e.by < c.replicas
 maker_inside c events lengths rounds earlier e run at =
     go (nat_lt e.by c.replicas) refl (none_here (λ f. not (nat_lt f.by c.replicas)) (history at.later) (history earlier) e (sym (ap (has (λ f. not (nat_lt f.by c.replicas))) (with_event events earlier at.later e at.is)) ∙ run.whole))
   where
@@ -88,7 +94,7 @@ maker_inside c events lengths rounds earlier e run at =
     go false is none = absurd (true≢false none)
 
 -- at each moment a replica holds alive each other that takes as many steps in all as it has taken
-pub trusts_then : (c : Config) (events : List Event) (lengths : List ℕ) (rounds q r : ℕ) (newer older : List Event) → AreUnpaused c events lengths rounds → history events ≡ newer ++ older → q < c.replicas → r < c.replicas → q ≢ r
+pub trusts_then : {kind : Zeal} (c : Config) (events : List Event) (lengths : List ℕ) (rounds q r : ℕ) (newer older : List Event) → AreUnpausedBy kind c events lengths rounds → history events ≡ newer ++ older → q < c.replicas → r < c.replicas → q ≢ r
     → length (part r older) ≤ length (part_of q events) → (score r q (part r older)).1 ≡ true
 trusts_then c events lengths rounds q r newer older run is low inside other few =
     let count = run.count in
@@ -103,7 +109,7 @@ trusts_then c events lengths rounds q r newer older run is low inside other few 
     made r low = part_before (WasMade c r) r newer older (subst (λ l. AtEachStep (WasMade c r) (part r l)) is (run.made r low))
 
 -- at an event of r each other replica has taken at most as many steps as r with it
-pub few_steps : (c : Config) (events : List Event) (lengths : List ℕ) (rounds q r : ℕ) (newer older : List Event) (e : Event) → AreUnpaused c events lengths rounds → history events ≡ newer ++ e ∷ older → e.by ≡ r → q < c.replicas → q ≢ r
+pub few_steps : {kind : Zeal} (c : Config) (events : List Event) (lengths : List ℕ) (rounds q r : ℕ) (newer older : List Event) (e : Event) → AreUnpausedBy kind c events lengths rounds → history events ≡ newer ++ e ∷ older → e.by ≡ r → q < c.replicas → q ≢ r
     → length (part q older) ≤ length (part r older) + 1
 few_steps c events lengths rounds q r newer older e run is own low other =
     let count = run.count in
@@ -117,7 +123,7 @@ few_steps c events lengths rounds q r newer older e run is own low other =
     ]
 
 -- and no more than replica 0 takes in all, with this event too, until that has ended
-few_with : (c : Config) (events : List Event) (lengths : List ℕ) (rounds r : ℕ) (newer older : List Event) (e : Event) → AreUnpaused c events lengths rounds → history events ≡ newer ++ e ∷ older → has (λ f. f.by == 0) newer ≡ true → e.by ≡ r → r ≢ 0 → 0 < c.replicas
+few_with : {kind : Zeal} (c : Config) (events : List Event) (lengths : List ℕ) (rounds r : ℕ) (newer older : List Event) (e : Event) → AreUnpausedBy kind c events lengths rounds → history events ≡ newer ++ e ∷ older → has (λ f. f.by == 0) newer ≡ true → e.by ≡ r → r ≢ 0 → 0 < c.replicas
     → length (part r older) + 1 ≤ length (part_of 0 events)
 few_with c events lengths rounds r newer older e run is left own other some =
     let count = run.count in
@@ -135,7 +141,7 @@ few_with c events lengths rounds r newer older e run is left own other some =
     ]
 
 -- so at each moment until then
-few_then : (c : Config) (events : List Event) (lengths : List ℕ) (rounds r : ℕ) (newer older : List Event) → AreUnpaused c events lengths rounds → history events ≡ newer ++ older → has (λ f. f.by == 0) newer ≡ true → r ≢ 0 → 0 < c.replicas
+few_then : {kind : Zeal} (c : Config) (events : List Event) (lengths : List ℕ) (rounds r : ℕ) (newer older : List Event) → AreUnpausedBy kind c events lengths rounds → history events ≡ newer ++ older → has (λ f. f.by == 0) newer ≡ true → r ≢ 0 → 0 < c.replicas
     → length (part r older) ≤ length (part_of 0 events)
 few_then c events lengths rounds r newer [] run is left other some = omega arith
 few_then c events lengths rounds r newer (e ∷ older) run is left other some =
@@ -146,7 +152,7 @@ few_then c events lengths rounds r newer (e ∷ older) run is left other some =
     go false _ few = few
 
 -- until replica 0 has ended each other holds it to be alive
-holds_first : (c : Config) (events : List Event) (lengths : List ℕ) (rounds : ℕ) (earlier : List Event) (r : ℕ) → AreUnpaused c events lengths rounds → IsBeforeEnd events earlier → r < c.replicas → r ≢ 0 → (score r 0 (part_of r earlier)).1 ≡ true
+holds_first : {kind : Zeal} (c : Config) (events : List Event) (lengths : List ℕ) (rounds : ℕ) (earlier : List Event) (r : ℕ) → AreUnpausedBy kind c events lengths rounds → IsBeforeEnd events earlier → r < c.replicas → r ≢ 0 → (score r 0 (part_of r earlier)).1 ≡ true
 holds_first c events lengths rounds earlier r run at inside other =
     let some : 0 < c.replicas = omega (arith, inside) in
     let split : history events ≡ history at.later ++ history earlier = ap history at.is ∙ reverse-append earlier at.later in
@@ -158,7 +164,7 @@ holds_first c events lengths rounds earlier r run at inside other =
 pub before_end : (events earlier : List Event) (e : Event) → IsReached events earlier e → IsBeforeEnd events earlier
 before_end events earlier e at = record { later = e ∷ at.later; is = at.is; left = at.left }
 
-pub names_in : (c : Config) (events : List Event) (lengths : List ℕ) (rounds : ℕ) → AreUnpaused c events lengths rounds → NamesFirst c events
+pub names_in : {kind : Zeal} (c : Config) (events : List Event) (lengths : List ℕ) (rounds : ℕ) → AreUnpausedBy kind c events lengths rounds → NamesFirst c events
 names_in c events lengths rounds run = record { named = named; asks = asks }
   where
     named : (earlier : List Event) (r : ℕ) → IsBeforeEnd events earlier → r < c.replicas → leader c r (part_of r earlier) ≡ 0
@@ -172,24 +178,32 @@ names_in c events lengths rounds run = record { named = named; asks = asks }
         sym (asker_named c e.by p (part_of e.by earlier) e made (ap (is_asking_verb p) asked ∙ same_number p)) ∙ named earlier e.by (before_end events earlier e at) inside
 
 -- in what a replay leaves
-pub unpaused_of : (o : Outcome) (order : Record) (seats : List Seat) (rounds : ℕ) (run : IsRun o) → o.order ≡ Some order → Played o.job.config o.job.script order.events seats rounds 0 → o.job.script.pauses ≡ []
-    → AreUnpaused o.job.config run.order.events (map length (journals_of o)) run.turns.rounds
-unpaused_of o order seats rounds run given played unpaused = record {
+pub unpaused_of : {kind : Zeal} (o : Outcome) (order : Record) (seats : List Seat) (rounds : ℕ) (run : IsRun o) → o.order ≡ Some order → PlayedBy kind o.job.config o.job.script order.events seats rounds 0 → o.job.script.pauses ≡ []
+    → AreUnpausedBy kind o.job.config run.order.events (map length (journals_of o)) run.turns.rounds
+unpaused_of {kind} o order seats rounds run given played unpaused = record {
   legal = run.legal;
   whole = run.parts.whole;
   order = subst (λ pauses. map id_of run.order.events ≡ ids_after pauses (map length (journals_of o)) run.turns.rounds) unpaused run.turns.is;
   count = length-map (journals_of o) length ∙ run.parts.count;
   taken = λ r low. length_at (journals_of o) r (part r run.order.events) (run.parts.each r low) ∙ length_of_part r run.order.events;
   made = λ r low. made r low;
+  listed = λ r low. listed r low;
 }
   where
+    listed : (r : ℕ) → r < o.job.config.replicas → AtEachStep (IsListed kind o.job.config r) (part_of r run.order.events)
+    listed r low =
+        let count = played.count in
+        let found = item_below seats r (omega (arith, low, count)) in
+        let sits = played.waits r found.0 found.1 (omega arith) in
+        subst (λ (x : Record). AtEachStep (IsListed kind o.job.config r) (part_of r x.events)) (same_some order run.order (sym given ∙ run.given)) (subst (λ z. AtEachStep (IsListed z o.job.config r) (part_of r order.events)) sits.zeal sits.stands.listed)
+
     made : (r : ℕ) → r < o.job.config.replicas → AtEachStep (WasMade o.job.config r) (part_of r run.order.events)
     made r low =
         let count = played.count in
         let found = item_below seats r (omega (arith, low, count)) in
         subst (λ (x : Record). AtEachStep (WasMade o.job.config r) (part_of r x.events)) (same_some order run.order (sym given ∙ run.given)) (played.waits r found.0 found.1 (omega arith)).stands.made
 
-pub named_of : (o : Outcome) (order : Record) (seats : List Seat) (rounds : ℕ) → IsRun o → o.order ≡ Some order → Played o.job.config o.job.script order.events seats rounds 0 → NamesFirstUnpaused o
+pub named_of : {kind : Zeal} (o : Outcome) (order : Record) (seats : List Seat) (rounds : ℕ) → IsRun o → o.order ≡ Some order → PlayedBy kind o.job.config o.job.script order.events seats rounds 0 → NamesFirstUnpaused o
 named_of o order seats rounds run given played unpaused other also =
     subst (λ (x : Record). NamesFirst o.job.config x.events) (same_some run.order other (sym run.given ∙ also))
     (names_in o.job.config run.order.events (map length (journals_of o)) run.turns.rounds (unpaused_of o order seats rounds run given played unpaused))

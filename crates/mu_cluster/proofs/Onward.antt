@@ -24,22 +24,23 @@ use Rattle.mu_model.specs.Steps.{is_asking, is_asking_verb, is_beat_read, is_nam
 use Rattle.mu_model.specs.Stretches.{is_replication}
 use Rattle.mu_model.proofs.Basics.{same_number, same_some}
 use Rattle.mu_model.proofs.Lists.{item_below}
-use Rattle.mu_model.proofs.Owned.{IsOwn, newest-part}
 use Rattle.mu_model.proofs.Parts.{history-part}
 use Rattle.mu_detect.proofs.Leaders.{failed_follows, may_lead, own_leads}
 use Rattle.mu_detect.proofs.Least.{least_found, least_next}
 use Rattle.mu_detect.specs.Stands.{last_count}
 use Rattle.mu_grant.specs.Pace.{InCycleOrder}
+use Rattle.mu_node.specs.Due.{is_eager}
 use Rattle.mu_node.specs.Journal.{WasMade}
 use Rattle.mu_node.proofs.Naming.{asker_named}
 use Rattle.mu_outcome.specs.declared.outcome.Outcome.{Outcome}
 use Rattle.mu_outcome.specs.Outcomes.{IsRun, journal_of, journals_of, or_empty}
-use Rattle.mu_pace.specs.Collecting.{LeaderKeeps}
+use Rattle.mu_pace.specs.Collecting.{LeaderKeeps, LeaderKeepsBy}
 use Rattle.mu_pace.specs.Counters.{AtEachMoment, AtEachStep}
 use Rattle.mu_pace.proofs.Counting.{last_moment, moments_before, steps_before}
 use Rattle.mu_alive.specs.Turns.{AreInTurn, is_own_min}
 use Rattle.mu_alive.proofs.Beginning.{begins_now, cause_is}
 use Rattle.mu_alive.proofs.Cutting.{Located, located, met}
+use Rattle.mu_alive.proofs.Settling.{score-part}
 use Rattle.mu_alive.proofs.Failing.{beat_verb, quiet_beats, quiet_last}
 use Rattle.mu_alive.proofs.TurnFences.{lead_on_moments, turns_lead_on}
 use Rattle.mu_alive.proofs.Turns.{begun-part, min_begun, min_leads}
@@ -52,27 +53,6 @@ use Rattle.mu_cluster.proofs.Turning.{asks_late, names_failed, outlasted}
 use Rattle.mu_cluster.proofs.InTurn.{Asked, asked, insider, none_below, none_left}
 use Rattle.mu_cluster.proofs.Turned.{fresh_read, part_split, resting_read}
 use Rattle.mu_pace.proofs.Pasts.{cut}
-
--- a score is the same of the part
-beat_read-own : (r q : ℕ) → IsOwn r (λ e. beat_read r q e.by e.verb e.answer)
-beat_read-own r q = record { own = λ e h. go e.by e.verb e.answer h }
-  where
-    go : (by : ℕ) (v : Verb) (a : Answer) → (by == r) ≡ false → beat_read r q by v a ≡ None
-    go by (Verb.ReadBeat p) (Answer.Number x) h = rw h refl
-    go by v a h = refl
-
-pub score-part : (r q : ℕ) (past : List Event) → score r q (part r past) ≡ score r q past
-score-part r q [] = refl
-score-part r q (e ∷ past) = go (e.by == r) refl (score-part r q past)
-  where
-    last : newest (λ f. beat_read r q f.by f.verb f.answer) (part r past) ≡ newest (λ f. beat_read r q f.by f.verb f.answer) past
-    last = newest-part (λ f. beat_read r q f.by f.verb f.answer) r (beat_read-own r q) past
-
-    go : (t : Bool) → (e.by == r) ≡ t → score r q (part r past) ≡ score r q past → score r q (cond t (e ∷ part r past) (part r past)) ≡ score r q (e ∷ past)
-    go true own ih =
-        ap (λ s. score_after_read s (or_zero (newest (λ f. beat_read r q f.by f.verb f.answer) (part r past))) (beat_read r q e.by e.verb e.answer)) ih
-        ∙ ap (λ o. score_after_read (score r q past) (or_zero o) (beat_read r q e.by e.verb e.answer)) last
-    go false other ih = ih ∙ sym (ap (λ o. score_after_read (score r q past) (or_zero (newest (λ f. beat_read r q f.by f.verb f.answer) past)) o) ((beat_read-own r q).own e other))
 
 -- who is held failed has few points
 few_points : (n : ℕ) (was : Bool) → alive_after n was ≡ false → n ≤ 6
@@ -301,7 +281,7 @@ pub nodes_of : (o : Outcome) (order : Record) (seats : List Seat) (rounds : ℕ)
 nodes_of o order seats rounds run given played diligent = record {
   reads = λ p low. subst (ReadsInTime o.job.config p) (journal_part o run p low) (diligent p low).heartbeat_pace;
   order = λ p low. let found = item_below seats p (omega (arith, low, count)) in subst (λ (x : Record). InCycleOrder o.job.config p (part_of p x.events)) (same_some order run.order (sym given ∙ run.given)) (played.waits p found.0 found.1 (omega arith)).stands.cycle;
-  led = λ p low. let found = item_below seats p (omega (arith, low, count)) in subst (λ (x : Record). AtEachStep (LeaderKeeps o.job.config p) (part_of p x.events)) (same_some order run.order (sym given ∙ run.given)) (played.waits p found.0 found.1 (omega arith)).stands.led;
+  led = λ p low. let found = item_below seats p (omega (arith, low, count)) in subst (λ (x : Record). AtEachStep (LeaderKeeps o.job.config p) (part_of p x.events)) (same_some order run.order (sym given ∙ run.given)) (let sits = played.waits p found.0 found.1 (omega arith) in subst (λ z. AtEachStep (LeaderKeepsBy (is_eager z) o.job.config p) (part_of p order.events)) sits.zeal sits.stands.led);
 }
   where
     count : length seats ≡ o.job.config.replicas

@@ -36,7 +36,7 @@ use Rattle.mu_alive.specs.Failing.{failing_steps}
 use Rattle.mu_alive.specs.Last.{LeadsLast, NamesItself}
 use Rattle.mu_alive.specs.Turns.{AreInTurn}
 use Rattle.mu_alive.proofs.Beginning.{grants_before, reads_before}
-use Rattle.mu_alive.proofs.Cutting.{Located, located}
+use Rattle.mu_alive.proofs.Cutting.{Located, located, moments_of}
 use Rattle.mu_alive.proofs.Failing.{held_failed}
 use Rattle.mu_alive.proofs.Enough.{asks_before, outrun_before}
 use Rattle.mu_alive.proofs.Fetching.{applied_on, last_applies_all}
@@ -52,11 +52,12 @@ use Rattle.mu_cluster.proofs.InTurn.{asked, begins_ask, insider, none_left}
 use Rattle.mu_cluster.proofs.Living.{none_of}
 use Rattle.mu_cluster.proofs.Lives.{done_or_not}
 use Rattle.mu_cluster.proofs.Naming.{AreUnpaused, part_before, part_step, unpaused_of}
-use Rattle.mu_cluster.proofs.Onward.{AreNodes, in_turn, journal_part, names_own, nodes_of, score-part, stays_named}
+use Rattle.mu_cluster.proofs.Onward.{AreNodes, in_turn, journal_part, names_own, nodes_of, stays_named}
 use Rattle.mu_cluster.proofs.Outrunning.{none_outrun}
-use Rattle.mu_cluster.proofs.Taken.{TakenAt, fetches_at, moments_of, taken_at}
+use Rattle.mu_cluster.proofs.Taken.{TakenAt, fetches_at, taken_at}
 use Rattle.mu_cluster.proofs.Turning.{outlasted}
 use Rattle.mu_pace.proofs.Pasts.{cut, not_true}
+use Rattle.mu_alive.proofs.Settling.{score-part}
 
 -- who makes no events has none
 none_there : (events : List Event) → length events ≡ 0 → events ≡ []

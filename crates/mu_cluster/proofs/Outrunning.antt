@@ -24,6 +24,7 @@ use Rattle.mu_model.specs.Legal.{IsLegalHistory}
 use Rattle.mu_model.specs.Scores.{score}
 use Rattle.mu_model.proofs.Basics.{same_some}
 use Rattle.mu_model.proofs.Parts.{filter-append, history-part}
+use Rattle.mu_node.specs.declared.zeal.Zeal.{Zeal}
 use Rattle.mu_node.specs.Journal.{WasMade}
 use Rattle.mu_pace.specs.Counters.{AtEachStep}
 use Rattle.mu_outcome.specs.declared.outcome.Outcome.{Outcome}
@@ -31,16 +32,16 @@ use Rattle.mu_outcome.specs.Completion.{Completes, HasAllCommands, IsCutShort}
 use Rattle.mu_outcome.specs.Outcomes.{IsRun, journal_of, journals_of, or_empty}
 use Rattle.mu_cluster.specs.declared.rounds.Seat.{Seat}
 use Rattle.mu_cluster.specs.Naming.{NoneOutrunUnpaused, SpendsBudgets}
-use Rattle.mu_cluster.specs.Rounds.{Played, part_of}
-use Rattle.mu_cluster.proofs.Naming.{AreUnpaused, few_steps, trusts_then, unpaused_of}
+use Rattle.mu_cluster.specs.Rounds.{PlayedBy, part_of}
+use Rattle.mu_cluster.proofs.Naming.{AreUnpausedBy, few_steps, trusts_then, unpaused_of}
 
 -- the step is a look of a place that is used again, at what r still has to read
-record IsPastLook (r p i known_length by : ℕ) (verb : Verb) (answer : Answer) : Type 0 where
-  looks : verb ≡ Verb.Look p i
-  past : answer ≡ Answer.Past
-  unread : known_length ≤ i
+pub record IsPastLook (r p i known_length by : ℕ) (verb : Verb) (answer : Answer) : Type 0 where
+  pub looks : verb ≡ Verb.Look p i
+  pub past : answer ≡ Answer.Past
+  pub unread : known_length ≤ i
 
-past_look : (r p i n by : ℕ) (verb : Verb) (answer : Answer) → outrun_by r n by verb answer ≡ Some (p, i) → IsPastLook r p i n by verb answer
+pub past_look : (r p i n by : ℕ) (verb : Verb) (answer : Answer) → outrun_by r n by verb answer ≡ Some (p, i) → IsPastLook r p i n by verb answer
 past_look r p i n by (Verb.Look q j) Answer.Past is = go (by == r) (nat_le n j) refl is
   where
     go : (s t : Bool) → nat_le n j ≡ t → cond {A = Option (ℕ × ℕ)} (s && t) (Some (q, j)) None ≡ Some (p, i) → IsPastLook r p i n by (Verb.Look q j) Answer.Past
@@ -54,14 +55,14 @@ past_look r p i n by (Verb.Look q j) Answer.Past is = go (by == r) (nat_le n j) 
 past_look r p i n by verb answer is = cc
 
 -- where the newest event of a part stands in the history
-record StandsLast (q : ℕ) (past : List Event) (e : Event) (mine : List Event) : Type 0 where
-  newer : List Event
-  older : List Event
-  is : past ≡ newer ++ e ∷ older
-  before : part q older ≡ mine
-  own : e.by ≡ q
+pub record StandsLast (q : ℕ) (past : List Event) (e : Event) (mine : List Event) : Type 0 where
+  pub newer : List Event
+  pub older : List Event
+  pub is : past ≡ newer ++ e ∷ older
+  pub before : part q older ≡ mine
+  pub own : e.by ≡ q
 
-stands_last : (q : ℕ) (past : List Event) (e : Event) (mine : List Event) → part q past ≡ e ∷ mine → StandsLast q past e mine
+pub stands_last : (q : ℕ) (past : List Event) (e : Event) (mine : List Event) → part q past ≡ e ∷ mine → StandsLast q past e mine
 stands_last q [] e mine is = cc
 stands_last q (f ∷ past) e mine is = go (f.by == q) refl is (stands_last q past e mine)
   where
@@ -72,7 +73,7 @@ stands_last q (f ∷ past) e mine is = go (f.by == q) refl is (stands_last q pas
     go false own is ih = let at = ih is in record { newer = f ∷ at.newer; older = at.older; is = ap (λ l. f ∷ l) at.is; before = at.before; own = at.own }
 
 -- before its last event no other held a replica to be failed
-not_held : (c : Config) (events : List Event) (lengths : List ℕ) (rounds q : ℕ) (newer older : List Event) (e : Event) → AreUnpaused c events lengths rounds → history events ≡ newer ++ e ∷ older → e.by ≡ q → q < c.replicas
+not_held : {kind : Zeal} (c : Config) (events : List Event) (lengths : List ℕ) (rounds q : ℕ) (newer older : List Event) (e : Event) → AreUnpausedBy kind c events lengths rounds → history events ≡ newer ++ e ∷ older → e.by ≡ q → q < c.replicas
     → length (part q older) + 1 ≡ length (part_of q events) → WasHeldFailed c q older → ⊥
 not_held c events lengths rounds q newer older e run is own low last held =
     let few = few_steps c events lengths rounds held.by q newer older e run is own held.inside held.other in
@@ -82,12 +83,12 @@ not_held c events lengths rounds q newer older e run is own low last held =
     let alive = trusts_then c events lengths rounds q held.by (newer ++ e ∷ held.newer) held.older run whole low held.inside (λ same. held.other (sym same)) (omega (arith, few, split, last)) in
     true≢false (sym alive ∙ not-true (score held.by q (part held.by held.older)).1 held.failed)
 
-none_earlier : (o : Option (ℕ × ℕ)) → earlier_or o None ≡ o
+pub none_earlier : (o : Option (ℕ × ℕ)) → earlier_or o None ≡ o
 none_earlier None = refl
 none_earlier (Some x) = refl
 
 -- so it meets no place that is used again
-pub none_outrun : (c : Config) (events : List Event) (lengths : List ℕ) (rounds q p i : ℕ) → IsConfig c → AreUnpaused c events lengths rounds → q < c.replicas → outrun c q (part_of q events) ≡ Some (p, i) → ⊥
+pub none_outrun : {kind : Zeal} (c : Config) (events : List Event) (lengths : List ℕ) (rounds q p i : ℕ) → IsConfig c → AreUnpausedBy kind c events lengths rounds → q < c.replicas → outrun c q (part_of q events) ≡ Some (p, i) → ⊥
 none_outrun c events lengths rounds q p i good run low = go (part_of q events) refl (run.made q low)
   where
     go : (mine : List Event) → part_of q events ≡ mine → AtEachStep (WasMade c q) mine → outrun c q mine ≡ Some (p, i) → ⊥
@@ -102,11 +103,11 @@ none_outrun c events lengths rounds q p i good run low = go (part_of q events) r
         let last : length (part q at.older) + 1 ≡ length (part_of q events) = (let one = ap length at.before in let all = ap length is in omega (arith, one, all)) in
         not_held c events lengths rounds q at.newer at.older e run at.is at.own low last (subst (λ r. WasHeldFailed c r at.older) at.own held)
 
-outrun_end : (c : Config) (script : Script) (r p i : ℕ) (mine : List Event) (end : End) → end ≡ End.Outrun p i → EndsBy c script r mine end → outrun c r mine ≡ Some (p, i)
+pub outrun_end : (c : Config) (script : Script) (r p i : ℕ) (mine : List Event) (end : End) → end ≡ End.Outrun p i → EndsBy c script r mine end → outrun c r mine ≡ Some (p, i)
 outrun_end c script r p i mine end is ends = (subst (EndsBy c script r mine) is ends).1
 
 -- in what a replay leaves
-pub none_outrun_of : (o : Outcome) (order : Record) (seats : List Seat) (rounds : ℕ) → IsConfig o.job.config → IsRun o → o.order ≡ Some order → Played o.job.config o.job.script order.events seats rounds 0 → NoneOutrunUnpaused o
+pub none_outrun_of : {kind : Zeal} (o : Outcome) (order : Record) (seats : List Seat) (rounds : ℕ) → IsConfig o.job.config → IsRun o → o.order ≡ Some order → PlayedBy kind o.job.config o.job.script order.events seats rounds 0 → NoneOutrunUnpaused o
 none_outrun_of o order seats rounds good run given played unpaused r p i low is =
     let all = unpaused_of o order seats rounds run given played unpaused in
     let ended = run.ended r low in

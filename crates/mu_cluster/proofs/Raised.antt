@@ -1,9 +1,9 @@
 -- In a replay without a pause all that weren't stopped have raised their heads to all commands in time.
-use Rattle.std.proofs.Common.{◌≡◌, ◌∙◌, ◌≢◌, ◌⊎◌, ℕ, zero, suc, ◌+◌, ◌<◌, ◌≤◌, ◌==◌, ◌||◌, inl, inr, Bool, true, false, cond, None, Some, List, [], ◌∷◌, ◌++◌, ap, arith, eqb-true, length, refl, subst, sym, take}
+use Rattle.std.proofs.Common.{◌≡◌, ◌∙◌, ◌≢◌, ◌⊎◌, ℕ, zero, suc, ◌+◌, ◌<◌, ◌≤◌, ◌==◌, ◌||◌, inl, inr, Bool, true, false, cond, None, Some, List, [], ◌∷◌, ◌++◌, ap, arith, eqb-true, length, refl, subst, sym, drop, take}
 use Rattle.std.specs.declared.option.Option.{Option}
 use Rattle.std.specs.Prelude.{nat_le, not, slice_index}
 use Rattle.std.proofs.lemmas.Bool.{and_parts, cases_eq, cases_lt, eq-eqb, leb-true, ne_eqb, true≢false}
-use Rattle.std.proofs.lemmas.List.{length-take}
+use Rattle.std.proofs.lemmas.List.{length-take, take-append-drop}
 use Rattle.mu_agree.proofs.Legal.{event_after, legal_induction, legal_older}
 use Rattle.mu_agree.proofs.Prefixes.{known_agree}
 use Rattle.mu_agree.proofs.Room.{heads_read}
@@ -32,7 +32,7 @@ use Rattle.mu_alive.specs.Failing.{failing_steps}
 use Rattle.mu_alive.specs.Finishing.{HaveAllRaised, KeepUp, last_raising_steps}
 use Rattle.mu_alive.specs.Lone.{LeadsAlone}
 use Rattle.mu_alive.proofs.Beginning.{grants_before, reads_before}
-use Rattle.mu_alive.proofs.Enough.{asks_before, outrun_before}
+use Rattle.mu_alive.proofs.Enough.{asks_before, holds_more, outrun_before}
 use Rattle.mu_alive.proofs.Fetching.{applied_grows}
 use Rattle.mu_alive.proofs.LastRaising.{last_raises_all}
 use Rattle.mu_alive.proofs.Spreading.{get_of_front, get_take, heads-own}
@@ -49,13 +49,13 @@ use Rattle.mu_outcome.proofs.Completing.{least_passes}
 use Rattle.mu_pace.proofs.Pasts.{has_later}
 
 -- the least of the numbers of those that pass
-record Least (n : ℕ) (live : ℕ → Bool) (f : ℕ → ℕ) : Type 0 where
-  at : ℕ
-  low : at < n
-  lives : live at ≡ true
-  least : (r : ℕ) → r < n → live r ≡ true → f at ≤ f r
+pub record Least (n : ℕ) (live : ℕ → Bool) (f : ℕ → ℕ) : Type 0 where
+  pub at : ℕ
+  pub low : at < n
+  pub lives : live at ≡ true
+  pub least : (r : ℕ) → r < n → live r ≡ true → f at ≤ f r
 
-least_or_none : (n : ℕ) (live : ℕ → Bool) (f : ℕ → ℕ) → Least n live f ⊎ ((r : ℕ) → r < n → live r ≡ false)
+pub least_or_none : (n : ℕ) (live : ℕ → Bool) (f : ℕ → ℕ) → Least n live f ⊎ ((r : ℕ) → r < n → live r ≡ false)
 least_or_none zero live f = inr (λ r low. absurd (omega (arith, low)))
 least_or_none (suc n) live f = go (live n) refl (least_or_none n live f)
   where
@@ -100,6 +100,10 @@ head_applied c r = legal_induction c (λ past. region_head r past ≤ length (ap
 -- a full log holds all commands up to its full length
 pub full_holds : (c : Config) (r : ℕ) (mine : List Event) → is_full c r mine ≡ true → holds_all c (take (full_length c r mine) (applied c r mine)) ≡ true
 full_holds c r mine full = let fits = leb-true (full_length c r mine) (length (applied c r mine)) full in least_passes (length (applied c r mine) + 1) (λ k. holds_all c (take k (applied c r mine))) (omega (arith, fits))
+
+-- a log that holds every row in its front holds them
+pub holds_whole : (c : Config) (k : ℕ) (log : List ℕ) → holds_all c (take k log) ≡ true → holds_all c log ≡ true
+holds_whole c k log front = subst (λ x. holds_all c x ≡ true) (take-append-drop k log) (holds_more c (take k log) (drop k log) front)
 
 -- two logs agree as far as both reach
 pub same_taken : (c : Config) (r s l : ℕ) (past : List Event) → IsLegalHistory c past → l ≤ length (applied c r (part r past)) → l ≤ length (applied c s (part s past)) → take l (applied c r (part r past)) ≡ take l (applied c s (part s past))
@@ -204,7 +208,7 @@ up_to q (e ∷ whole) = go (e.by == q) refl (up_to q whole)
     go false other k = record { front = e ∷ k.front; past = k.past; is = ap (λ l. e ∷ l) k.is; all = k.all ∙ sym (ap (λ t. cond t (e ∷ part q whole) (part q whole)) other); ends = k.ends }
 
 -- if one finished before, all had
-one_before : (c : Config) (live : ℕ → Bool) (events : List Event) (lengths : List ℕ) (rounds most : ℕ) → AreUnpaused c events lengths rounds → (q : Least c.replicas live (λ r. slice_index lengths r)) → slice_index lengths q.at ≤ most → is_finished c q.at (part_of q.at events) ≡ true → RaisedBy c live events most
+pub one_before : (c : Config) (live : ℕ → Bool) (events : List Event) (lengths : List ℕ) (rounds most : ℕ) → AreUnpaused c events lengths rounds → (q : Least c.replicas live (λ r. slice_index lengths r)) → slice_index lengths q.at ≤ most → is_finished c q.at (part_of q.at events) ≡ true → RaisedBy c live events most
 one_before c live events lengths rounds most run least short finished = at (up_to q (history events))
   where
     q : ℕ

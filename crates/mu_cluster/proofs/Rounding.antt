@@ -11,8 +11,9 @@ use Rattle.mu_model.specs.declared.script.Script.{Script}
 use Rattle.mu_model.specs.Histories.{has, history, part}
 use Rattle.mu_model.proofs.Basics.{same_some}
 use Rattle.mu_model.proofs.Lists.{get_set_here, get_set_other, set_get}
+use Rattle.mu_node.specs.declared.zeal.Zeal.{Zeal}
 use Rattle.mu_cluster.specs.declared.rounds.Seat.{Seat}
-use Rattle.mu_cluster.specs.Rounds.{MayTake, Played, Plays, Sits, all_left, left_of, part_of}
+use Rattle.mu_cluster.specs.Rounds.{MayTake, PlayedBy, Plays, Sits, all_left, left_of, part_of}
 use Rattle.mu_outcome.specs.Turns.{ids_after, ids_in_round, is_due, pace}
 
 abbrev Grows : ℕ → List Event → List Event → Type 0
@@ -43,9 +44,9 @@ own_kept c r old new low (inr (e, by, list)) own =
     ap (λ l. has (λ e. not (nat_lt e.by c.replicas)) (history l)) list ∙ (ap (has (λ e. not (nat_lt e.by c.replicas))) (reverse-append old (e ∷ [])) ∙ rw (lt-ltb e.by c.replicas (omega (arith, low, by))) own)
 
 -- the lengths that the replicas may have after a turn are some that they might have before it
-may_before : (c : Config) (script : Script) (old new : List Event) (seats : List Seat) (k rounds : ℕ) (before after : Seat) (lengths : List ℕ)
-    → slice_get seats k ≡ Some before → Plays c script k old new before after rounds → MayTake new (set seats k after) lengths → MayTake old seats lengths
-may_before c script old new seats k rounds before after lengths there plays may = record { count = may.count ∙ length-set seats k after; each = each }
+may_before : {kind : Zeal} (c : Config) (script : Script) (old new : List Event) (seats : List Seat) (k rounds : ℕ) (before after : Seat) (lengths : List ℕ)
+    → slice_get seats k ≡ Some before → Plays kind c script k old new before after rounds → MayTake new (set seats k after) lengths → MayTake old seats lengths
+may_before {kind} c script old new seats k rounds before after lengths there plays may = record { count = may.count ∙ length-set seats k after; each = each }
   where
     low : k < length seats
     low = slice_get_within seats k before there
@@ -65,9 +66,9 @@ may_before c script old new seats k rounds before after lengths there plays may 
         others other = subst (λ l. (length l ≤ slice_index lengths r) × (seat.ended ≡ true → slice_index lengths r ≡ length l)) (others_kept k r old new plays.grows other) (may.each r seat (get_set_other seats r k after other ∙ at))
 
 -- one more turn of a round
-pub play_on : (c : Config) (script : Script) (old new : List Event) (seats : List Seat) (k rounds : ℕ) (before after : Seat) → k < c.replicas
-    → slice_get seats k ≡ Some before → Plays c script k old new before after rounds → Played c script old seats rounds k → Played c script new (set seats k after) rounds (suc k)
-play_on c script old new seats k rounds before after low there plays was = record {
+pub play_on : {kind : Zeal} (c : Config) (script : Script) (old new : List Event) (seats : List Seat) (k rounds : ℕ) (before after : Seat) → k < c.replicas
+    → slice_get seats k ≡ Some before → Plays kind c script k old new before after rounds → PlayedBy kind c script old seats rounds k → PlayedBy kind c script new (set seats k after) rounds (suc k)
+play_on {kind} c script old new seats k rounds before after low there plays was = record {
   count = length-set seats k after ∙ was.count;
   played = played;
   waits = waits;
@@ -81,21 +82,21 @@ play_on c script old new seats k rounds before after low there plays was = recor
   own = own_kept c k old new low plays.grows was.own;
 }
   where
-    played : (r : ℕ) (seat : Seat) → slice_get (set seats k after) r ≡ Some seat → r < suc k → Sits c script r (part_of r new) seat (suc rounds)
+    played : (r : ℕ) (seat : Seat) → slice_get (set seats k after) r ≡ Some seat → r < suc k → Sits kind c script r (part_of r new) seat (suc rounds)
     played r seat at below = elim (set_get seats k after r seat at) [
-      | inl here ↦ subst (λ i. Sits c script i (part_of i new) seat (suc rounds)) (sym here.0) (subst (λ s. Sits c script k (part_of k new) s (suc rounds)) here.1 plays.sits)
-      | inr other ↦ subst (λ l. Sits c script r l seat (suc rounds)) (sym (others_kept k r old new plays.grows other.0)) (was.played r seat other.1 (let differ = other.0 in omega (arith, below, differ)))
+      | inl here ↦ subst (λ i. Sits kind c script i (part_of i new) seat (suc rounds)) (sym here.0) (subst (λ s. Sits kind c script k (part_of k new) s (suc rounds)) here.1 plays.sits)
+      | inr other ↦ subst (λ l. Sits kind c script r l seat (suc rounds)) (sym (others_kept k r old new plays.grows other.0)) (was.played r seat other.1 (let differ = other.0 in omega (arith, below, differ)))
     ]
 
-    waits : (r : ℕ) (seat : Seat) → slice_get (set seats k after) r ≡ Some seat → suc k ≤ r → Sits c script r (part_of r new) seat rounds
+    waits : (r : ℕ) (seat : Seat) → slice_get (set seats k after) r ≡ Some seat → suc k ≤ r → Sits kind c script r (part_of r new) seat rounds
     waits r seat at above = elim (set_get seats k after r seat at) [
       | inl here ↦ absurd (let same = here.0 in omega (arith, above, same))
-      | inr other ↦ subst (λ l. Sits c script r l seat rounds) (sym (others_kept k r old new plays.grows other.0)) (was.waits r seat other.1 (omega (arith, above)))
+      | inr other ↦ subst (λ l. Sits kind c script r l seat rounds) (sym (others_kept k r old new plays.grows other.0)) (was.waits r seat other.1 (omega (arith, above)))
     ]
 
 -- a whole round
-pub round_done : (c : Config) (script : Script) (events : List Event) (seats : List Seat) (k rounds : ℕ) → length seats ≤ k → k ≤ length seats → Played c script events seats rounds k → Played c script events seats (suc rounds) 0
-round_done c script events seats k rounds most least was = record {
+pub round_done : {kind : Zeal} (c : Config) (script : Script) (events : List Event) (seats : List Seat) (k rounds : ℕ) → length seats ≤ k → k ≤ length seats → PlayedBy kind c script events seats rounds k → PlayedBy kind c script events seats (suc rounds) 0
+round_done {kind} c script events seats k rounds most least was = record {
   count = was.count;
   played = λ r seat at none. absurd (omega (arith, none));
   waits = λ r seat at _. let low = slice_get_within seats r seat at in was.played r seat at (omega (arith, low, most));
@@ -112,14 +113,14 @@ left_set (x ∷ xs) zero old new at = let same = ap left_of (same_some x old at)
 left_set (x ∷ xs) (suc k) old new at = let rest = left_set xs k old new at in omega (arith, rest)
 
 -- a replica sits at its own id
-pub sits_own : (f k : Config) (script : Script) (r rounds : ℕ) (events : List Event) (seat : Seat) → k ≡ f → Sits f script r (part_of r events) seat rounds → Sits k script seat.node.id (part_of seat.node.id events) seat rounds
-sits_own f k script r rounds events seat same sits =
-    subst (λ c. Sits c script seat.node.id (part_of seat.node.id events) seat rounds) (sym same) (subst (λ i. Sits f script i (part_of i events) seat rounds) (sym sits.stands.beside.id) sits)
+pub sits_own : {kind : Zeal} (f k : Config) (script : Script) (r rounds : ℕ) (events : List Event) (seat : Seat) → k ≡ f → Sits kind f script r (part_of r events) seat rounds → Sits kind k script seat.node.id (part_of seat.node.id events) seat rounds
+sits_own {kind} f k script r rounds events seat same sits =
+    subst (λ c. Sits kind c script seat.node.id (part_of seat.node.id events) seat rounds) (sym same) (subst (λ i. Sits kind f script i (part_of i events) seat rounds) (sym sits.stands.beside.id) sits)
 
 -- and plays there
-pub plays_there : (f k : Config) (script : Script) (r id rounds : ℕ) (old new : List Event) (before after : Seat) → k ≡ f → id ≡ r → Plays k script id old new before after rounds → Plays f script r old new before after rounds
-plays_there f k script r id rounds old new before after same here plays = subst (λ i. Plays f script i old new before after rounds) here (subst (λ c. Plays c script id old new before after rounds) same plays)
+pub plays_there : {kind : Zeal} (f k : Config) (script : Script) (r id rounds : ℕ) (old new : List Event) (before after : Seat) → k ≡ f → id ≡ r → Plays kind k script id old new before after rounds → Plays kind f script r old new before after rounds
+plays_there {kind} f k script r id rounds old new before after same here plays = subst (λ i. Plays kind f script i old new before after rounds) here (subst (λ c. Plays kind c script id old new before after rounds) same plays)
 
 -- the state after a round stands for the configuration of the fabric too
-pub played_of : (f k : Config) (script : Script) (events : List Event) (seats : List Seat) (rounds n : ℕ) → k ≡ f → Played f script events seats rounds n → Played k script events seats rounds n
-played_of f k script events seats rounds n same was = subst (λ c. Played c script events seats rounds n) (sym same) was
+pub played_of : {kind : Zeal} (f k : Config) (script : Script) (events : List Event) (seats : List Seat) (rounds n : ℕ) → k ≡ f → PlayedBy kind f script events seats rounds n → PlayedBy kind k script events seats rounds n
+played_of {kind} f k script events seats rounds n same was = subst (λ c. PlayedBy kind c script events seats rounds n) (sym same) was

@@ -9,6 +9,7 @@ use Rattle.mu_model.specs.Allowed.{Allowed}
 use Rattle.mu_model.specs.Parts.{IsPossible}
 use Rattle.mu_agree.proofs.Possible.{parts_shorten_law}
 use Rattle.mu_cluster.specs.declared.silences.Reads.{Reads}
+use Rattle.mu_cluster.specs.Idling.{ReadsHeadsWithin}
 use Rattle.mu_cluster.specs.Silences.{HoldsReads, ReadsBeatsWithin, beats_found}
 
 -- a replica whose beats are read is one of seven
@@ -17,6 +18,14 @@ reads_beats_within c r mine e few possible = go e.verb (parts_shorten_law c r mi
   where
     go : (verb : Verb) → Allowed c r mine verb → ReadsBeatsWithin 7 verb
     go (Verb.ReadBeat q) allowed = let low = allowed.may.0 in omega arith
+    go verb allowed = tt
+
+-- and one whose head is read
+pub reads_heads_within : (c : Config) (r : ℕ) (mine : List Event) (e : Event) → c.replicas ≤ 7 → IsPossible c r (e ∷ mine) → ReadsHeadsWithin 7 e.verb
+reads_heads_within c r mine e few possible = go e.verb (parts_shorten_law c r mine e possible).allowed
+  where
+    go : (verb : Verb) → Allowed c r mine verb → ReadsHeadsWithin 7 verb
+    go (Verb.Head q) allowed = let low = allowed.may in omega arith
     go verb allowed = tt
 
 -- an event that finds no count of beats of q leaves what the reads of these have come to

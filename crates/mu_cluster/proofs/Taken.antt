@@ -17,15 +17,16 @@ use Rattle.mu_model.specs.Parts.{IsPossible}
 use Rattle.mu_model.specs.Scores.{least_below}
 use Rattle.mu_model.specs.Steps.{is_named}
 use Rattle.mu_model.proofs.Parts.{filter-append, part_is_possible}
-use Rattle.mu_node.specs.Journal.{WasMade}
-use Rattle.mu_node.proofs.Asked.{asks_all_first}
+use Rattle.mu_node.specs.declared.zeal.Zeal.{Zeal}
+use Rattle.mu_node.specs.Journal.{IsListed, WasMade}
+use Rattle.mu_node.proofs.Asked.{MadePlain, asks_all_first}
 use Rattle.mu_node.proofs.HeadRaises.{raises_to_all}
 use Rattle.mu_pace.specs.Collecting.{LeaderKeeps}
 use Rattle.mu_pace.specs.Counters.{AtEachMoment, AtEachStep}
 use Rattle.mu_pace.proofs.Counting.{steps_before, both_moments}
 use Rattle.mu_alive.specs.Finishing.{KeepUp}
 use Rattle.mu_alive.specs.Following.{RaisesToAll}
-use Rattle.mu_alive.proofs.Cutting.{Located, located}
+use Rattle.mu_alive.proofs.Cutting.{Located, located, moments_of}
 use Rattle.mu_cluster.specs.Rounds.{part_of}
 use Rattle.mu_cluster.proofs.InStep.{StaysAhead, in_step}
 use Rattle.mu_cluster.proofs.Living.{each_near, near_one, near_self}
@@ -42,15 +43,6 @@ use Rattle.mu_alive.specs.Stopping.{ReadsInOrder}
 use Rattle.mu_alive.proofs.Finishing.{heads_before, replays_before}
 use Rattle.mu_cluster.proofs.Turning.{least_most}
 use Rattle.mu_pace.proofs.Pasts.{cut, Cut}
-
--- what holds of each beginning of the list holds at each moment of a part
-pub moments_of : (a : ℕ) (P : List Event → Type 0) (past : List Event) → ((newer older : List Event) → past ≡ newer ++ older → P (part a older)) → AtEachMoment P (part a past)
-moments_of a P [] all = all [] [] refl
-moments_of a P (e ∷ past) all = go (e.by == a) refl (moments_of a P past (λ newer older is. all (e ∷ newer) older (ap (λ l. e ∷ l) is)))
-  where
-    go : (t : Bool) → (e.by == a) ≡ t → AtEachMoment P (part a past) → AtEachMoment P (cond t (e ∷ part a past) (part a past))
-    go true own rest = (rest, subst P (ap (λ t. cond t (e ∷ part a past) (part a past)) own) (all [] (e ∷ past) refl))
-    go false other rest = rest
 
 -- the moment at which a has taken this many steps: none that goes on has taken more, and all are near a
 pub record TakenAt (c : Config) (live : ℕ → Bool) (a : ℕ) (events : List Event) (most : ℕ) : Type 0 where
@@ -124,9 +116,19 @@ pub record GoOn (c : Config) (live : ℕ → Bool) (s : ℕ) (events : List Even
   pub led : AtEachStep (LeaderKeeps c s) (part_of s events)
   pub ended : (r : ℕ) → r < c.replicas → live r ≡ true → (length (part_of r events) ≡ c.budget) ⊎ (is_finished c r (part_of r events) ≡ true)
 
+-- two facts of each event hold together
+both_steps : (P Q : List Event → Event → Type 0) (past : List Event) → AtEachStep P past → AtEachStep Q past → AtEachStep (λ before e. P before e × Q before e) past
+both_steps P Q [] one other = tt
+both_steps P Q (e ∷ past) one other = (both_steps P Q past one.0 other.0, (one.1, other.1))
+
 -- each part up to there was made turn by turn
 made_at : (c : Config) (live : ℕ → Bool) (a : ℕ) (events : List Event) (lengths : List ℕ) (rounds most r : ℕ) → AreUnpaused c events lengths rounds → (t : TakenAt c live a events most) → r < c.replicas → AtEachStep (WasMade c r) (part r (t.last ∷ t.older))
 made_at c live a events lengths rounds most r run t low = part_before (WasMade c r) r t.front (t.last ∷ t.older) (subst (λ x. AtEachStep (WasMade c r) (part r x)) t.is (run.made r low))
+
+plain_at : (c : Config) (live : ℕ → Bool) (a : ℕ) (events : List Event) (lengths : List ℕ) (rounds most r : ℕ) → AreUnpaused c events lengths rounds → (t : TakenAt c live a events most) → r < c.replicas → AtEachStep (MadePlain c r) (part r (t.last ∷ t.older))
+plain_at c live a events lengths rounds most r run t low =
+    both_steps (WasMade c r) (IsListed Zeal.Plain c r) (part r (t.last ∷ t.older)) (made_at c live a events lengths rounds most r run t low)
+    (part_before (IsListed Zeal.Plain c r) r t.front (t.last ∷ t.older) (subst (λ x. AtEachStep (IsListed Zeal.Plain c r) (part r x)) t.is (run.listed r low)))
 
 possible_at : (c : Config) (live : ℕ → Bool) (a : ℕ) (events : List Event) (lengths : List ℕ) (rounds most r : ℕ) → AreUnpaused c events lengths rounds → (t : TakenAt c live a events most) → IsPossible c r (part r (t.last ∷ t.older))
 possible_at c live a events lengths rounds most r run t = part_is_possible c r (t.last ∷ t.older) (legal_older c t.front (t.last ∷ t.older) (subst (IsLegalHistory c) t.is run.legal))
@@ -179,8 +181,8 @@ opens_at c live a events lengths rounds most run inside t = record {
     mine : List Event
     mine = part a (t.last ∷ t.older)
 
-    made : (newer rest : List Event) → mine ≡ newer ++ rest → AtEachStep (WasMade c a) rest
-    made newer rest is = steps_before (WasMade c a) newer rest (subst (AtEachStep (WasMade c a)) is (made_at c live a events lengths rounds most a run t inside))
+    made : (newer rest : List Event) → mine ≡ newer ++ rest → AtEachStep (MadePlain c a) rest
+    made newer rest is = steps_before (MadePlain c a) newer rest (subst (AtEachStep (MadePlain c a)) is (plain_at c live a events lengths rounds most a run t inside))
 
     possible_here : (xs ys : List Event) → IsPossible c a (xs ++ ys) → IsPossible c a ys
     possible_here [] ys is = is

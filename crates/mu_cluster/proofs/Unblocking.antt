@@ -30,18 +30,20 @@ use Rattle.mu_cluster.proofs.Agreeing.{agrees_of, over_order}
 use Rattle.mu_cluster.proofs.Finishing.{finishes_from, goes_on_of, held_in_time, lengths_of}
 use Rattle.mu_cluster.proofs.Lives.{done_or_not}
 use Rattle.mu_cluster.proofs.Naming.{AreUnpaused, unpaused_of}
-use Rattle.mu_cluster.proofs.Onward.{AreNodes, journal_part, nodes_of, score-part}
+use Rattle.mu_cluster.proofs.Onward.{AreNodes, journal_part, nodes_of}
 use Rattle.mu_cluster.proofs.Outliving.{fails_then, leads_last, spent_by, whole_budget}
 use Rattle.mu_cluster.proofs.Raised.{RaisedBy}
-use Rattle.mu_cluster.proofs.Taken.{GoOn, TakenAt, fetches_at, keep_at, moments_of, opens_at, ordered_at, taken_at}
+use Rattle.mu_cluster.proofs.Taken.{GoOn, TakenAt, fetches_at, keep_at, opens_at, ordered_at, taken_at}
 use Rattle.mu_pace.proofs.Pasts.{not_true, not_false}
+use Rattle.mu_alive.proofs.Settling.{score-part}
+use Rattle.mu_alive.proofs.Cutting.{moments_of}
 
 -- each that stopped took at most k steps
-abbrev StopBy : Config → (ℕ → Bool) → List Event → ℕ → Type 0
+abbrev pub StopBy : Config → (ℕ → Bool) → List Event → ℕ → Type 0
 StopBy c live events k = (q : ℕ) → q < c.replicas → live q ≡ false → length (part_of q events) ≤ k
 
 -- up to a moment at which s has taken these steps nothing but heads blocks it
-unblocked_at : (c : Config) (live : ℕ → Bool) (s : ℕ) (events : List Event) (lengths : List ℕ) (rounds k most : ℕ) → IsConfig c → AreUnpaused c events lengths rounds → AreNodes c events → GoOn c live s events → StopBy c live events k → (t : TakenAt c live s events most) → ((r : ℕ) → r < c.replicas → live r ≡ true → most ≤ slice_index lengths r)
+pub unblocked_at : (c : Config) (live : ℕ → Bool) (s : ℕ) (events : List Event) (lengths : List ℕ) (rounds k most : ℕ) → IsConfig c → AreUnpaused c events lengths rounds → AreNodes c events → GoOn c live s events → StopBy c live events k → (t : TakenAt c live s events most) → ((r : ℕ) → r < c.replicas → live r ≡ true → most ≤ slice_index lengths r)
     → IsUnblocked c live s (k + failing_steps c) (t.last ∷ t.older)
 unblocked_at c live s events lengths rounds k most good run nodes on stop t late = record {
   opens = opens_at c live s events lengths rounds most run on.inside t;
@@ -57,7 +59,7 @@ unblocked_at c live s events lengths rounds k most good run nodes on stop t late
         ∙ fails_then c events lengths rounds q s (t.front ++ newer) before run (nodes.reads s on.inside) (t.is ∙ ap (λ l. t.front ++ l) cuts ∙ sym (append_assoc t.front newer before)) low on.inside (λ same. true≢false (sym on.lives ∙ ap live (sym same) ∙ gone))
         (let few = stop q low gone in omega (arith, few, many))
 
-lower_stop : (c : Config) (live : ℕ → Bool) (s : ℕ) (events : List Event) (k : ℕ) → GoOn c live s events → StopBy c live events k → (q : ℕ) → q < s → length (part_of q events) ≤ k
+pub lower_stop : (c : Config) (live : ℕ → Bool) (s : ℕ) (events : List Event) (k : ℕ) → GoOn c live s events → StopBy c live events k → (q : ℕ) → q < s → length (part_of q events) ≤ k
 lower_stop c live s events k on stop q below = stop q (let inside = on.inside in omega (arith, below, inside)) (on.lower q below)
 
 -- so it has every row in its log

@@ -8,6 +8,7 @@ use Rattle.mu_model.specs.declared.script.End.{End}
 use Rattle.mu_model.specs.declared.script.Script.{Script}
 use Rattle.mu_model.specs.Contents.{IsConfig}
 use Rattle.mu_model.specs.Ends.{EndsBy}
+use Rattle.mu_node.specs.declared.zeal.Zeal.{Zeal}
 use Rattle.mu_node.specs.declared.node.Node.{Node}
 use Rattle.mu_node.specs.Node.{StandsForNode}
 use Rattle.shared_fabric.specs.Gathering.{IsSamePort, PortValue}
@@ -19,6 +20,7 @@ pub record Goes (c : Config) (script : Script) (r : ℕ) (mine : List Event)
     (node : Node) : Type 0 where
   pub stands : StandsForNode c r mine node
   pub stops : node.stops.items ≡ script.stops
+  pub zeal : node.zeal ≡ Zeal.Eager
   pub before : EndsNowhereBefore c script r mine
 
 -- the events have an end

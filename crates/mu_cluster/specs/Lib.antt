@@ -1,10 +1,15 @@
 pub mod Branches
+pub mod Committing
+pub mod Fair
 pub mod Finishing
+pub mod Idling
 pub mod Lists
 pub mod Leading
 pub mod Living
 pub mod Naming
 pub mod Outliving
 pub mod Paces
+pub mod Pausing
+pub mod Resting
 pub mod Rounds
 pub mod Silences

@@ -1,12 +1,12 @@
 -- lists on their way: the lists of an outcome while it is built.
-use Rattle.std.specs.Prelude.{List, Some, [], length, map, vec_capacity, ℕ, ◌++◌, ◌<◌, ◌∷◌, ◌≡◌, ◌≤◌}
+use Rattle.std.specs.Prelude.{Bool, List, Some, [], length, map, vec_capacity, ℕ, ◌++◌, ◌<◌, ◌∷◌, ◌≡◌, ◌≤◌}
 use Rattle.std.specs.List.{slice_get}
 use Rattle.mu_model.specs.declared.config.Config.{Config}
 use Rattle.mu_model.specs.declared.event.Event.{Event}
 use Rattle.mu_model.specs.declared.script.End.{End}
 use Rattle.mu_model.specs.declared.script.Script.{Script}
 use Rattle.mu_model.specs.Contents.{row_count}
-use Rattle.mu_model.specs.Diligence.{IsDiligent}
+use Rattle.mu_model.specs.Diligence.{IsDiligentBy}
 use Rattle.mu_model.specs.Ends.{Obeys}
 use Rattle.mu_model.specs.Knowledge.{applied, commits}
 use Rattle.mu_knowledge.specs.declared.commit.Commit.{Commit}
@@ -43,7 +43,7 @@ pub record Adds (old new : Lists) (result : NodeResult) : Type 0 where
       × (vec_capacity new.ends ≡ vec_capacity old.ends)
 
 -- what replica r left after these events stands in the lists
-pub record Leaves (c : Config) (script : Script) (r : ℕ) (mine : List Event)
+pub record Leaves (again : Bool) (c : Config) (script : Script) (r : ℕ) (mine : List Event)
     (logs : List (List ℕ)) (commits_made : List (List Commit)) (replies_made : List (List Reply))
     (ends : List End) : Type 0 where
   pub log_at : slice_get logs r ≡ Some (applied c r mine)
@@ -58,15 +58,15 @@ pub record Leaves (c : Config) (script : Script) (r : ℕ) (mine : List Event)
   pub end : End
   pub end_at : slice_get ends r ≡ Some end
   pub obeys : Obeys c script r mine end
-  pub diligent : IsDiligent c r mine
+  pub diligent : IsDiligentBy again c r mine
 
 -- the lists hold what the first n replicas left
-pub record HoldsLists (c : Config) (script : Script) (events : List Event) (n : ℕ)
+pub record HoldsLists (again : Bool) (c : Config) (script : Script) (events : List Event) (n : ℕ)
     (lists : Lists) : Type 0 where
   pub room : HasRoom c.replicas n lists
   pub each :
       (r : ℕ) → r < n
-      → Leaves c script r (part_of r events) lists.logs.items lists.commits.items
+      → Leaves again c script r (part_of r events) lists.logs.items lists.commits.items
       lists.replies.items lists.ends.items
 
 -- each replica's replies are those that f gives of its log

@@ -15,6 +15,7 @@ use Rattle.mu_outcome.specs.Completion.{HasAllCommands}
 use Rattle.mu_outcome.specs.Outcomes.{log_of}
 use Rattle.mu_cluster.specs.Finishing.{AppliesEachAfterStops, AppliesEachAfterStopsInAnyRing, AppliesEachInAnyRing, AppliesEachInTime, FinishesAfterStops, FinishesAfterStopsInAnyRing, FinishesInAnyRing, FinishesInTime}
 use Rattle.mu_cluster.specs.Outliving.{AppliesAllAfterStops, AppliesAllAfterStopsInAnyRing, HasAllAfterStops, HasAllAfterStopsInAnyRing}
+use Rattle.mu_cluster.specs.Pausing.{HasAllAfterPauses}
 
 -- a line of the script stops r
 abbrev pub is_stopped : List Stop → ℕ → Bool
@@ -76,7 +77,7 @@ pub record AppliesAllUnpaused (o : Outcome) : Type 0 where
 
 -- a replay stays alive: it has every command if replica 0 isn't stopped, if leaders are, and in any
 -- ring if none is or, in version 2, also if leaders are; and in each case each replica that isn't
--- stopped finishes
+-- stopped finishes; and it has every command after pauses too
 pub record HasAllInTime (o : Outcome) : Type 0 where
   pub first : HasAllWithFirst o
   pub last : HasAllAfterStops o
@@ -86,3 +87,4 @@ pub record HasAllInTime (o : Outcome) : Type 0 where
   pub each_after_stops : FinishesAfterStops o
   pub each_in_any_ring : FinishesInAnyRing o
   pub each_after_stops_in_any_ring : FinishesAfterStopsInAnyRing o
+  pub after_pauses : HasAllAfterPauses o

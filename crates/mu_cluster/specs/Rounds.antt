@@ -8,6 +8,7 @@ use Rattle.mu_model.specs.declared.script.Pause.{Pause}
 use Rattle.mu_model.specs.declared.script.Script.{Script}
 use Rattle.mu_model.specs.Ends.{EndsBy}
 use Rattle.mu_model.specs.Histories.{has, history, part}
+use Rattle.mu_node.specs.declared.zeal.Zeal.{Zeal}
 use Rattle.mu_node.specs.Node.{StandsForNode}
 use Rattle.mu_cluster.specs.declared.rounds.Seat.{Seat}
 use Rattle.mu_outcome.specs.Turns.{ids_after, ids_in_round, is_due, pace}
@@ -33,19 +34,20 @@ EndsNowhereBefore c script r mine =
     (newer older : List Event) (end : End) → mine ≡ newer ++ older → newer ≢ []
     → EndsBy c script r older end → ⊥
 
--- replica r is at this point after this many rounds
-pub record Sits (c : Config) (script : Script) (r : ℕ) (mine : List Event) (seat : Seat)
-    (rounds : ℕ) : Type 0 where
+-- replica r, whose node is of this kind, is at this point after this many rounds
+pub record Sits (kind : Zeal) (c : Config) (script : Script) (r : ℕ) (mine : List Event)
+    (seat : Seat) (rounds : ℕ) : Type 0 where
   pub stands : StandsForNode c r mine seat.node
   pub stops : seat.node.stops.items ≡ script.stops
+  pub zeal : seat.node.zeal ≡ kind
   pub keeps : KeepsPace script.pauses r seat.ended (length mine) seat.waited rounds
   pub ended : seat.ended ≡ true → (end : End) × EndsBy c script r mine end
   pub before : EndsNowhereBefore c script r mine
 
 -- a round of replica r: it takes a step if it is due, and is at this point after it
-pub record Plays (c : Config) (script : Script) (r : ℕ) (old new : List Event) (before after : Seat)
-    (rounds : ℕ) : Type 0 where
-  pub sits : Sits c script r (part_of r new) after (suc rounds)
+pub record Plays (kind : Zeal) (c : Config) (script : Script) (r : ℕ) (old new : List Event)
+    (before after : Seat) (rounds : ℕ) : Type 0 where
+  pub sits : Sits kind c script r (part_of r new) after (suc rounds)
   pub grows : (new ≡ old) ⊎ ((e : Event) × (e.by ≡ r) × (new ≡ old ++ e ∷ []))
   pub stays : before.ended ≡ true → (after.ended ≡ true) × (new ≡ old)
   pub ids :
@@ -78,18 +80,22 @@ pub record MayTake (events : List Event) (seats : List Seat) (lengths : List ℕ
       → (length (part_of r events) ≤ slice_index lengths r)
       × (seat.ended ≡ true → slice_index lengths r ≡ length (part_of r events))
 
--- after this many rounds, and the turns of the first k replicas in the next one
-pub record Played (c : Config) (script : Script) (events : List Event) (seats : List Seat)
-    (rounds k : ℕ) : Type 0 where
+-- nodes of this kind after this many rounds, and the turns of the first k replicas in the next one
+pub record PlayedBy (kind : Zeal) (c : Config) (script : Script) (events : List Event)
+    (seats : List Seat) (rounds k : ℕ) : Type 0 where
   pub count : length seats ≡ c.replicas
   pub played :
       (r : ℕ) (seat : Seat) → slice_get seats r ≡ Some seat → r < k
-      → Sits c script r (part_of r events) seat (suc rounds)
+      → Sits kind c script r (part_of r events) seat (suc rounds)
   pub waits :
       (r : ℕ) (seat : Seat) → slice_get seats r ≡ Some seat → k ≤ r
-      → Sits c script r (part_of r events) seat rounds
+      → Sits kind c script r (part_of r events) seat rounds
   pub ids :
       (lengths : List ℕ) → MayTake events seats lengths
       → map id_of events
       ≡ ids_after script.pauses lengths rounds ++ ids_in_round script.pauses lengths rounds k
   pub own : has (λ e. not (nat_lt e.by c.replicas)) (history events) ≡ false
+
+-- the same of plain nodes
+abbrev pub Played : Config → Script → List Event → List Seat → ℕ → ℕ → Type 0
+Played c script events seats rounds k = PlayedBy Zeal.Plain c script events seats rounds k

@@ -1,5 +1,6 @@
 //! Replicas in threads of their own: each takes its turns over a port of its own.
-ghost use Rattle.std.specs.Prelude.{All, IfOk, None, Some, [], length, map, slice_index_or, vec_capacity, vec_len, ℕ, ◌<◌, ◌≡◌};
+ghost use Rattle.std.specs.Prelude.{All, IfOk, None, Some, [], length, map, slice_index_or, vec_capacity, vec_len, ℕ, ◌+◌, ◌<◌, ◌≡◌};
+ghost use Rattle.std.specs.Duration.{as_nanos};
 ghost use Rattle.std.specs.List.{slice_get};
 ghost use Rattle.mu_model.specs.Contents.{IsConfig};
 ghost use Rattle.mu_model.specs.Parts.{IsPossible};
@@ -10,8 +11,11 @@ ghost use Rattle.mu_outcome.specs.Turns.{rounds_paused as rounds_paused_of};
 ghost use Rattle.shared_fabric.specs.Gathering.{IsSamePort, PortValue};
 ghost use Rattle.mu_cluster.specs.declared.branch.Branch.{Branch as SomeBranch};
 ghost use Rattle.mu_cluster.specs.Branches.{IsDriven, IsFreshPort, Starts};
+ghost use Rattle.mu_cluster.specs.Idling.{idle_ended};
+ghost use Rattle.mu_cluster.specs.Resting.{IsNap, yields_for};
 ghost use Rattle.mu_cluster.specs.Silences.{silence as silence_of};
 
+use crate::idling::Idling;
 use crate::resting::{Rested, rest};
 use crate::rounds::rounds_paused;
 use crate::silences::Silences;
@@ -38,12 +42,15 @@ pub(crate) struct Branch {
 fn turn_rested(node: &mut Node, port: &mut SharedPort, script: &Script, rested: &Rested) -> Turn
     requires config { IsConfig port.old.config }
     requires stands { StandsForNode port.old.config port.old.id port.old.part node.old }
-    requires paused { rested.now.paused
-        ≡ rounds_paused_of script.now.pauses port.old.id (length port.old.part) }
-    requires silence { rested.now.silence ≡ silence_of port.old.part }
+    requires yields { rested.now.yields.count
+        ≡ rounds_paused_of script.now.pauses port.old.id (length port.old.part)
+        + yields_for (silence_of port.old.part) }
+    requires slept { IsNap (silence_of port.old.part) (idle_ended port.old.id port.old.part)
+        (as_nanos rested.now.slept.nap) }
     ensures stands { StandsForNode port.new.config port.new.id port.new.part node.new }
     ensures same { IsSamePort port.old port.new }
     ensures stops { node.new.stops ≡ node.old.stops }
+    ensures zeal { node.new.zeal ≡ node.old.zeal }
     ensures possible { IsPossible port.new.config port.new.id port.new.part }
     ensures turn { (script : SomeScript) → script.stops ≡ node.old.stops.items
         → IsTurn port.old.config script port.old.id port.old.part port.new.part None None result }
@@ -51,21 +58,27 @@ fn turn_rested(node: &mut Node, port: &mut SharedPort, script: &Script, rested: 
     node.turn(port)
 }
 
-/// Turns of one replica until its journal has an end. It lets the others on at a pause and after a
-/// read of beats that finds no new one; nothing here waits for another replica.
+/// Turns of one replica until its journal has an end. It lets the others on at a pause, after a
+/// read of beats that finds no new one and after cycles in which it got nothing done; nothing here
+/// waits for another replica.
 fn drive<R: Wait + Clock, G: Gate>(rt: &R, branch: &mut Branch, script: &Script, gate: &G)
     requires { Starts script.now branch.old }
     ensures { IsDriven script.now branch.old branch.new }
 {
     let Branch { node, port } = branch;
     let mut silences = Silences::new();
+    let mut idling = Idling::new();
     for _ in rt.forever() {
         let steps = node.steps();
         let paused = rounds_paused(script.pauses.as_slice(), node.id(), steps);
-        let rested = rest(rt, paused, silences.shown());
+        let rested = rest(rt, paused, silences.shown(), idling.ended());
         gate.pass(node.id(), steps);
         match turn_rested(node, port, script, &rested) {
-            Turn::Took(_) => silences.take_newest(port.part()),
+            Turn::Took(_) => {
+                let events = port.part();
+                silences.take_newest(events);
+                idling.note_newest(events);
+            }
             Turn::Ended(_) => break,
         }
     }

@@ -1,13 +1,14 @@
 //! What replicas that ran in threads leave.
-ghost use Rattle.std.specs.Prelude.{List, map, ◌≡◌};
+ghost use Rattle.std.specs.Prelude.{true, List, map, ◌≡◌};
 ghost use Rattle.mu_model.specs.declared.event.Event.{Event};
 ghost use Rattle.mu_model.specs.Contents.{IsConfig};
 ghost use Rattle.mu_model.specs.Legal.{IsLegal};
 ghost use Rattle.mu_model.specs.Parts.{HasParts};
 ghost use Rattle.mu_cluster.specs.Branches.{AreLeft};
+ghost use Rattle.mu_cluster.specs.Fair.{AppliesAllIfFair};
 ghost use Rattle.mu_cluster.specs.Lists.{HasRoom, HoldsLists, IsOutcomeRoom};
 ghost use Rattle.mu_follow.specs.Groups.{AreSpelled};
-ghost use Rattle.mu_cluster.specs.Paces.{AreDiligent};
+ghost use Rattle.mu_cluster.specs.Paces.{AreDiligentBy};
 ghost use Rattle.mu_outcome.specs.Runs.{IsThreadRun};
 
 use crate::lists::{Lists, OutcomeRoom, printed};
@@ -31,7 +32,8 @@ pub(crate) fn gathered_outcome(
     requires left { AreLeft job.config job.script gathered.parts nodes.items }
     ensures job { result.job ≡ job }
     ensures run { IsThreadRun result }
-    ensures diligent { AreDiligent result }
+    ensures diligent { AreDiligentBy true result }
+    ensures applies { AppliesAllIfFair result }
 {
     let OutcomeRoom {
         lists,
@@ -68,7 +70,8 @@ fn left_by(mut lists: Lists, _job: &Job, _parts: &Parts, nodes: Vec<Node>) -> Li
         (map (λ j. j.events) _parts.now) nodes.items }
     ensures { (events : List Event) → IsLegal _job.now.config events
         → HasParts _job.now.config events (map (λ j. j.events) _parts.now)
-        → HoldsLists _job.now.config _job.now.script events _job.now.config.replicas result }
+        → HoldsLists true _job.now.config _job.now.script events _job.now.config.replicas
+        result }
 {
     for node in nodes {
         lists.add(node.into_result());

@@ -2,6 +2,7 @@
 #![tactic(auto)]
 
 mod branch;
+mod idling;
 mod leaving;
 mod lists;
 mod playing;
@@ -13,6 +14,6 @@ mod spelling;
 
 pub use mu_gate::{Gate, OpenGate};
 pub use mu_outcome::Outcome;
-pub use playing::{replay, replay_over};
+pub use playing::{eager_replay, replay, replay_over};
 pub use running::run;
 pub use spelling::rows_spell_commands;

@@ -6,22 +6,26 @@ ghost use Rattle.mu_model.specs.declared.script.End.{End as SomeEnd};
 ghost use Rattle.mu_model.specs.Contents.{IsConfig};
 ghost use Rattle.mu_model.specs.Legal.{IsLegal};
 ghost use Rattle.mu_cluster.specs.declared.rounds.Seat.{Seat as SomeSeat};
+ghost use Rattle.mu_cluster.specs.Committing.{AppliesAllByThen};
 ghost use Rattle.mu_cluster.specs.Leading.{LeadOnUnpaused};
 ghost use Rattle.mu_cluster.specs.Living.{AppliesAllUnpaused};
 ghost use Rattle.mu_cluster.specs.Naming.{NamesFirstUnpaused, NoneOutrunUnpaused};
 ghost use Rattle.mu_cluster.specs.Lists.{Adds, AreOf, HasRoom, HoldsLists, IsOutcomeRoom};
 ghost use Rattle.mu_follow.specs.Groups.{AreSpelled};
-ghost use Rattle.mu_cluster.specs.Paces.{AreDiligent};
+ghost use Rattle.mu_node.specs.declared.zeal.Zeal.{Zeal as SomeZeal};
+ghost use Rattle.mu_node.specs.Due.{is_eager};
+ghost use Rattle.mu_cluster.specs.Paces.{AreDiligentBy, AreNodesOf};
+ghost use Rattle.mu_cluster.specs.Pausing.{AppliesAfterPauses};
 ghost use Rattle.mu_outcome.specs.Entries.{longest};
 ghost use Rattle.mu_outcome.specs.Outcomes.{IsRun};
-ghost use Rattle.mu_cluster.specs.Rounds.{Played};
+ghost use Rattle.mu_cluster.specs.Rounds.{PlayedBy};
 
 use crate::rounds::Seat;
 use kv_store::Reply;
 use mu_input::Job;
 use mu_knowledge::{Commits, Log};
 use mu_model::{Config, End, Event, Journal, NoMemory, Sequence};
-use mu_node::NodeResult;
+use mu_node::{NodeResult, Zeal};
 use mu_outcome::{Outcome, Replies};
 use std::alloc::Global;
 
@@ -136,30 +140,34 @@ impl OutcomeRoom {
         })
     }
 
-    /// What a run leaves if every replica has an end. Takes no memory.
-    pub(crate) fn outcome(self, job: Job, order: Journal, seats: Vec<Seat>) -> Outcome
+    /// What a replay leaves if every replica has an end. Takes no memory. The kind of its nodes is
+    /// only for the clauses.
+    pub(crate) fn outcome(self, job: Job, order: Journal, seats: Vec<Seat>, _kind: Zeal) -> Outcome
         requires good { IsConfig job.config }
         requires spelled { AreSpelled job.config job.commands }
         requires room { IsOutcomeRoom job.config self }
         requires legal { IsLegal job.config order.events }
         requires played { (rounds : ℕ)
-            × Played job.config job.script order.events seats.items rounds 0 }
+            × PlayedBy _kind job.config job.script order.events seats.items rounds 0 }
         requires ended { (r : ℕ) → (seat : SomeSeat) → slice_get seats.items r ≡ Some seat
             → seat.ended ≡ true }
         ensures job { result.job ≡ job }
         ensures run { IsRun result }
-        ensures diligent { AreDiligent result }
+        ensures diligent { AreDiligentBy (is_eager _kind) result }
+        ensures nodes { AreNodesOf _kind result }
         ensures names { NamesFirstUnpaused result }
         ensures none_outrun { NoneOutrunUnpaused result }
-        ensures applies { AppliesAllUnpaused result }
-        ensures leads { LeadOnUnpaused result }
+        ensures applies { _kind ≡ SomeZeal.Plain → AppliesAllUnpaused result }
+        ensures after_pauses { _kind ≡ SomeZeal.Plain → AppliesAfterPauses result }
+        ensures by_then { _kind ≡ SomeZeal.Plain → AppliesAllByThen result }
+        ensures leads { _kind ≡ SomeZeal.Plain → LeadOnUnpaused result }
         ensures gathered { result.gathered ≡ None }
     {
         let OutcomeRoom {
             lists,
             printed: room,
         } = self;
-        let lists = filled(lists, &job, order.as_slice(), seats);
+        let lists = filled(lists, &job, order.as_slice(), seats, _kind);
         let printed = printed(room, &lists);
         let Lists {
             logs,
@@ -181,15 +189,15 @@ impl OutcomeRoom {
 }
 
 /// The lists with what each replica leaves.
-fn filled(mut lists: Lists, _job: &Job, _events: &[Event], seats: Vec<Seat>) -> Lists
+fn filled(mut lists: Lists, _job: &Job, _events: &[Event], seats: Vec<Seat>, _kind: Zeal) -> Lists
     requires good { IsConfig _job.now.config }
     requires legal { IsLegal _job.now.config _events.now }
     requires room { HasRoom _job.now.config.replicas 0 lists }
     requires played { (rounds : ℕ)
-        × Played _job.now.config _job.now.script _events.now seats.items rounds 0 }
+        × PlayedBy _kind _job.now.config _job.now.script _events.now seats.items rounds 0 }
     requires ended { (r : ℕ) → (seat : SomeSeat) → slice_get seats.items r ≡ Some seat
         → seat.ended ≡ true }
-    ensures { HoldsLists _job.now.config _job.now.script _events.now
+    ensures { HoldsLists (is_eager _kind) _job.now.config _job.now.script _events.now
         _job.now.config.replicas result }
 {
     for seat in seats {

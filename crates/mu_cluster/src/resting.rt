@@ -1,27 +1,84 @@
 //! How the thread of a replica lets other threads on before a turn.
-ghost use Rattle.std.specs.Prelude.{◌<◌, ◌≡◌, ◌≤◌};
+ghost use Rattle.std.specs.Prelude.{◌+◌, ◌<◌, ◌≡◌};
+ghost use Rattle.std.specs.Duration.{as_nanos};
+ghost use Rattle.mu_cluster.specs.Resting.{IsIdleNap, IsNap, IsSilenceNap, yields_for};
 
 use std::thread;
 use std::time::{Clock, Duration};
 
+/// The silence in which a thread only yields: the read may just have come early.
+const YIELDS_AT: u8 = 1;
+
+/// Yields that were made.
+#[derive(Drop)]
+pub(crate) struct Yields {
+    /// How many.
+    count: u64,
+}
+
+/// A sleep that was made.
+#[derive(Drop)]
+pub(crate) struct Slept {
+    /// For how long.
+    nap: Duration,
+}
+
 /// How a thread let the others on before a turn of its replica.
 #[derive(Drop)]
 pub(crate) struct Rested {
-    /// For how many rounds of a pause.
-    paused: u32,
-    /// For which silence of another.
-    silence: u8,
+    /// How often it yielded.
+    yields: Yields,
+    /// For how long it slept.
+    slept: Slept,
 }
 
-/// For how many microseconds a thread sleeps for a silence. After the fourteenth read without a new
-/// beat the other is held to be failed, and nobody waits for it.
-fn microseconds(silence: u8) -> u64
-    ensures early { silence < 2 → result ≡ 0 }
-    ensures sleeps { 2 ≤ silence → silence ≤ 14 → 0 < result }
-    ensures most { result ≤ 512 }
-    ensures failed { 14 < silence → result ≡ 0 }
+impl Yields {
+    /// None yet.
+    fn none() -> Yields
+        ensures { result.count ≡ 0 }
+    {
+        Yields { count: 0 }
+    }
+
+    /// Yields once more.
+    fn and_one(self) -> Yields
+        requires { self.count < 18_446_744_073_709_551_615 }
+        ensures { result.count ≡ self.count + 1 }
+    {
+        thread::yield_now();
+        Yields {
+            count: self.count + 1,
+        }
+    }
+}
+
+/// So many yields.
+fn yielded(count: u64) -> Yields
+    ensures { result.count ≡ count }
 {
-    match silence {
+    let mut made = Yields::none();
+    for _ in 0..count {
+        made = made.and_one();
+    }
+    made
+}
+
+/// A sleep, unless its length is zero. A system adds time of its own to each.
+fn nap_taken<C: Clock>(clock: &C, nap: Duration) -> Slept
+    ensures { result.nap ≡ nap }
+{
+    if !nap.is_zero() {
+        thread::sleep(clock, nap);
+    }
+    Slept { nap }
+}
+
+/// How long a thread sleeps for a silence. After the fourteenth read without a new beat the other
+/// is held to be failed, and nobody waits for it.
+fn silence_nap(silence: u8) -> Duration
+    ensures { IsSilenceNap silence (as_nanos result) }
+{
+    let microseconds = match silence {
         2 => 1,
         3 => 4,
         4 => 16,
@@ -29,29 +86,46 @@ fn microseconds(silence: u8) -> u64
         6 => 256,
         7..=14 => 512,
         _ => 0,
-    }
+    };
+    Duration::from_micros(microseconds)
 }
 
-/// Lets the others on for a silence. The first read without a new beat may only have come early, so
-/// the thread yields. After that it sleeps: a yield lets only those on that share a processor.
-fn rest_for<C: Clock>(clock: &C, silence: u8) {
-    let slept = microseconds(silence);
-    if slept > 0 {
-        thread::sleep(clock, Duration::from_micros(slept));
-    } else if silence == 1 {
-        thread::yield_now();
+/// How long a thread sleeps after idle cycles. The first three are those in which a leader begins.
+fn idle_nap(cycles: u8) -> Duration
+    ensures { IsIdleNap cycles (as_nanos result) }
+{
+    let idle_microseconds = match cycles {
+        0..=3 => 0,
+        4 => 16,
+        5 => 64,
+        6 => 256,
+        7 => 1_024,
+        _ => 2_048,
+    };
+    Duration::from_micros(idle_microseconds)
+}
+
+/// How long a thread sleeps for a silence and after idle cycles.
+fn nap(silence: u8, cycles: u8) -> Duration
+    ensures { IsNap silence cycles (as_nanos result) }
+{
+    if cycles > 0 {
+        idle_nap(cycles)
+    } else if silence > 0 {
+        silence_nap(silence)
+    } else {
+        Duration::from_micros(0)
     }
 }
 
 /// Lets the other threads on: a yield for each round of a pause, and a yield or a sleep for a
-/// silence. At most 512 microseconds are asked for.
-pub(crate) fn rest<C: Clock>(clock: &C, paused: u32, silence: u8) -> Rested
-    ensures paused { result.paused ≡ paused }
-    ensures silence { result.silence ≡ silence }
+/// silence of another or after idle cycles. A yield lets only those on that share a processor.
+pub(crate) fn rest<C: Clock>(clock: &C, paused: u32, silence: u8, cycles: u8) -> Rested
+    ensures yields { result.yields.count ≡ paused + yields_for silence }
+    ensures slept { IsNap silence cycles (as_nanos result.slept.nap) }
 {
-    for _ in 0..paused {
-        thread::yield_now();
+    Rested {
+        yields: yielded(u64::from(paused) + u64::from(silence == YIELDS_AT)),
+        slept: nap_taken(clock, nap(silence, cycles)),
     }
-    rest_for(clock, silence);
-    Rested { paused, silence }
 }

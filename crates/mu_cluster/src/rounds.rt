@@ -6,9 +6,11 @@ ghost use Rattle.mu_model.specs.declared.event.Event.{Event};
 ghost use Rattle.mu_model.specs.Contents.{IsConfig};
 ghost use Rattle.mu_model.specs.Parts.{IsPossible};
 ghost use Rattle.mu_node.specs.Node.{StandsForNode};
+ghost use Rattle.mu_node.specs.declared.zeal.Zeal.{Zeal as SomeZeal};
+ghost use Rattle.mu_node.specs.Due.{is_eager};
 ghost use Rattle.mu_node.specs.Turns.{IsResult, TellsEnd};
 ghost use Rattle.mu_cluster.specs.declared.rounds.Seat.{Seat};
-ghost use Rattle.mu_cluster.specs.Rounds.{Played, Plays, Sits, all_left, left_of, one_if_going, part_of};
+ghost use Rattle.mu_cluster.specs.Rounds.{PlayedBy, Plays, Sits, all_left, left_of, one_if_going, part_of};
 ghost use Rattle.mu_outcome.specs.Turns.{rounds_paused as rounds_paused_of};
 
 use mu_input::Job;
@@ -59,7 +61,8 @@ impl Seat {
         requires stands { (c : Config) × (r : ℕ) × (mine : List Event) × IsConfig c
             × IsPossible c r mine × StandsForNode c r mine self.node }
         ensures is { (c : Config) → (r : ℕ) → (mine : List Event) → IsConfig c → IsPossible c r mine
-            → StandsForNode c r mine self.node → IsResult c r mine result }
+            → StandsForNode c r mine self.node
+            → IsResult (is_eager self.node.zeal) c r mine result }
         ensures end { (c : Config) → (script : Script) → (r : ℕ) → (mine : List Event)
             → script.stops ≡ self.node.stops.items → IsConfig c → IsPossible c r mine
             → StandsForNode c r mine self.node → TellsEnd c script r mine result.end }
@@ -76,19 +79,21 @@ impl Seat {
     fn play<M: Memory>(&mut self, port: &mut MemoryPort<M>, pauses: &[Pause])
         requires config { IsConfig port.old.config }
         requires inside { self.old.node.id < port.old.config.replicas }
-        requires sits { (script : Script)
+        requires sits { (kind : SomeZeal)
+            × ((script : Script)
             × ((rounds : ℕ)
-            × Sits port.old.config script self.old.node.id
-            (part_of self.old.node.id port.old.events) self.old rounds) }
+            × Sits kind port.old.config script self.old.node.id
+            (part_of self.old.node.id port.old.events) self.old rounds)) }
         ensures config { port.new.config ≡ port.old.config }
-        ensures plays { (script : Script) → (rounds : ℕ) → pauses.now ≡ script.pauses
-            → Sits port.old.config script self.old.node.id
+        ensures plays { (kind : SomeZeal) → (script : Script) → (rounds : ℕ)
+            → pauses.now ≡ script.pauses
+            → Sits kind port.old.config script self.old.node.id
             (part_of self.old.node.id port.old.events)
             self.old rounds
-            → Plays port.old.config script self.old.node.id port.old.events port.new.events self.old
-            self.new rounds }
-        ensures left { (script : Script) → (rounds : ℕ)
-            → Sits port.old.config script self.old.node.id
+            → Plays kind port.old.config script self.old.node.id port.old.events port.new.events
+            self.old self.new rounds }
+        ensures left { (kind : SomeZeal) → (script : Script) → (rounds : ℕ)
+            → Sits kind port.old.config script self.old.node.id
             (part_of self.old.node.id port.old.events)
             self.old rounds
             → left_of self.new + one_if_going self.old.ended ≤ left_of self.old }
@@ -109,16 +114,16 @@ impl Seat {
     }
 }
 
-/// The replicas of a job before any step. Takes all memory of theirs.
-pub(crate) fn seats(alloc: Global, job: &Job) -> Result<Vec<Seat>, NoMemory>
+/// The replicas of a job before any step, each a node of this kind. Takes all memory of theirs.
+pub(crate) fn seats(alloc: Global, job: &Job, kind: Zeal) -> Result<Vec<Seat>, NoMemory>
     requires { IsConfig job.now.config }
     ensures played { IfOk result
-        (λ seats. Played job.now.config job.now.script [] seats.items 0 0) }
+        (λ seats. PlayedBy kind job.now.config job.now.script [] seats.items 0 0) }
     ensures room { IfOk result (λ seats. vec_capacity seats ≡ job.now.config.replicas) }
 {
     let mut seats = Vec::with_capacity(alloc, usize::from(job.config.replicas))?;
     for id in 0..job.config.replicas {
-        seats.push_reserved(Seat::new(Node::new(alloc, job, id, Zeal::Plain)?));
+        seats.push_reserved(Seat::new(Node::new(alloc, job, id, kind)?));
     }
     Ok(seats)
 }
@@ -141,14 +146,16 @@ fn are_going(seats: &[Seat]) -> bool
 /// One round.
 fn round<M: Memory>(port: &mut MemoryPort<M>, seats: &mut [Seat], pauses: &[Pause])
     requires config { IsConfig port.old.config }
-    requires played { (script : Script)
+    requires played { (kind : SomeZeal)
+        × ((script : Script)
         × ((rounds : ℕ)
         × ((pauses.now ≡ script.pauses)
-        × Played port.old.config script port.old.events seats.old rounds 0)) }
+        × PlayedBy kind port.old.config script port.old.events seats.old rounds 0))) }
     ensures config { port.new.config ≡ port.old.config }
-    ensures played { (script : Script) → (rounds : ℕ) → pauses.now ≡ script.pauses
-        → Played port.old.config script port.old.events seats.old rounds 0
-        → Played port.old.config script port.new.events seats.new (suc rounds) 0 }
+    ensures played { (kind : SomeZeal) → (script : Script) → (rounds : ℕ)
+        → pauses.now ≡ script.pauses
+        → PlayedBy kind port.old.config script port.old.events seats.old rounds 0
+        → PlayedBy kind port.old.config script port.new.events seats.new (suc rounds) 0 }
     ensures left { (k : ℕ) → (seat : Seat) → slice_get seats.old k ≡ Some seat → seat.ended ≡ false
         → all_left seats.new < all_left seats.old }
 {
@@ -160,14 +167,16 @@ fn round<M: Memory>(port: &mut MemoryPort<M>, seats: &mut [Seat], pauses: &[Paus
 /// Round after round, until each replica has an end.
 fn play_rounds<M: Memory>(port: &mut MemoryPort<M>, seats: &mut [Seat], pauses: &[Pause])
     requires config { IsConfig port.old.config }
-    requires played { (script : Script)
+    requires played { (kind : SomeZeal)
+        × ((script : Script)
         × ((rounds : ℕ)
         × ((pauses.now ≡ script.pauses)
-        × Played port.old.config script port.old.events seats.old rounds 0)) }
+        × PlayedBy kind port.old.config script port.old.events seats.old rounds 0))) }
     ensures config { port.new.config ≡ port.old.config }
-    ensures played { (script : Script) → (rounds : ℕ) → pauses.now ≡ script.pauses
-        → Played port.old.config script port.old.events seats.old rounds 0
-        → (more : ℕ) × Played port.old.config script port.new.events seats.new more 0 }
+    ensures played { (kind : SomeZeal) → (script : Script) → (rounds : ℕ)
+        → pauses.now ≡ script.pauses
+        → PlayedBy kind port.old.config script port.old.events seats.old rounds 0
+        → (more : ℕ) × PlayedBy kind port.old.config script port.new.events seats.new more 0 }
     ensures ended { (r : ℕ) → (seat : Seat) → slice_get seats.new r ≡ Some seat
         → seat.ended ≡ true }
 {
@@ -179,14 +188,16 @@ fn play_rounds<M: Memory>(port: &mut MemoryPort<M>, seats: &mut [Seat], pauses: 
 /// The memory after all rounds. Its port is passed round, so that no turn moves the memory.
 pub(crate) fn finished<M: Memory>(memory: M, seats: &mut [Seat], pauses: &[Pause]) -> M
     requires config { IsConfig (M.config memory) }
-    requires played { (script : Script)
+    requires played { (kind : SomeZeal)
+        × ((script : Script)
         × ((rounds : ℕ)
         × ((pauses.now ≡ script.pauses)
-        × Played (M.config memory) script (M.events memory) seats.old rounds 0)) }
+        × PlayedBy kind (M.config memory) script (M.events memory) seats.old rounds 0))) }
     ensures config { M.config result ≡ M.config memory }
-    ensures played { (script : Script) → (rounds : ℕ) → pauses.now ≡ script.pauses
-        → Played (M.config memory) script (M.events memory) seats.old rounds 0
-        → (more : ℕ) × Played (M.config memory) script (M.events result) seats.new more 0 }
+    ensures played { (kind : SomeZeal) → (script : Script) → (rounds : ℕ)
+        → pauses.now ≡ script.pauses
+        → PlayedBy kind (M.config memory) script (M.events memory) seats.old rounds 0
+        → (more : ℕ) × PlayedBy kind (M.config memory) script (M.events result) seats.new more 0 }
     ensures ended { (r : ℕ) → (seat : Seat) → slice_get seats.new r ≡ Some seat
         → seat.ended ≡ true }
 {

@@ -1,9 +1,10 @@
 //! The run: each replica in a thread of its own.
-ghost use Rattle.std.specs.Prelude.{IfOk, ◌≡◌};
+ghost use Rattle.std.specs.Prelude.{true, IfOk, ◌≡◌};
 ghost use Rattle.mu_input.specs.Heads.{HaveHeads};
 ghost use Rattle.mu_follow.specs.Groups.{AreSpelled};
 ghost use Rattle.mu_model.specs.Contents.{IsConfig};
-ghost use Rattle.mu_cluster.specs.Paces.{AreDiligent};
+ghost use Rattle.mu_cluster.specs.Fair.{HasAllIfFair};
+ghost use Rattle.mu_cluster.specs.Paces.{AreDiligentBy};
 ghost use Rattle.mu_outcome.specs.Outcomes.{Agrees, IsWithinJob};
 ghost use Rattle.mu_outcome.specs.Runs.{IsThreadRun};
 
@@ -37,9 +38,10 @@ pub fn run<R: Threads + Wait + Clock + Sync, G: Gate + Sync>(
     requires spelled { AreSpelled job.config job.commands }
     ensures job { IfOk result (λ outcome. outcome.job ≡ job) }
     ensures run { IfOk result IsThreadRun }
-    ensures diligent { IfOk result AreDiligent }
+    ensures diligent { IfOk result (λ outcome. AreDiligentBy true outcome) }
     ensures agrees { IfOk result Agrees }
     ensures reach { IfOk result IsWithinJob }
+    ensures lives_if_fair { IfOk result HasAllIfFair }
 {
     let room = OutcomeRoom::new(alloc, &job.config)?;
     // Room for what comes back from the branches.

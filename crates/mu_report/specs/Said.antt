@@ -20,8 +20,8 @@ use Rattle.mu_report.specs.Trace.{trace_lines, IsCountable}
 abbrev pub lines_of : Said → List (List ℕ)
 lines_of Usage =
     (codes
-    "usage: mu replay, mu run, mu check, mu why, mu tell, mu show N, mu trace, mu bulk N, "
-    ++ codes "mu live K, mu desk, mu book")
+    "usage: mu replay, mu eager, mu run, mu check, mu why, mu tell, mu show N, mu trace, "
+    ++ codes "mu eager trace, mu bulk N, mu live K, mu desk, mu book")
     ∷ []
 lines_of (Refused line cause) = refusal_words line cause ∷ []
 lines_of (Ran o) = report_lines o

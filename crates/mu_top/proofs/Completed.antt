@@ -1,5 +1,5 @@
 -- What a run of the job that was read, or that is stated, comes to.
-use Rattle.std.proofs.Common.{◌≡◌, ◌+◌, ◌^◌, ◌<◌, ◌≤◌, None, arith, length, subst, sym}
+use Rattle.std.proofs.Common.{true, ◌≡◌, ◌+◌, ◌^◌, ◌<◌, ◌≤◌, None, arith, length, subst, sym}
 use Rattle.match_book.specs.Ledgers.{HaveDifferentIds}
 use Rattle.match_book.proofs.Session.{session_differs}
 use Rattle.mu_input.specs.Heads.{HaveHeads}
@@ -11,20 +11,23 @@ use Rattle.mu_outcome.specs.Entries.{commands_in, longest}
 use Rattle.mu_outcome.specs.Outcomes.{Agrees, IsRun}
 use Rattle.mu_outcome.specs.Runs.{IsThreadRun}
 use Rattle.mu_outcome.proofs.Completing.{completes_over, few_told, session_told}
+use Rattle.mu_cluster.specs.Committing.{StaysAlive}
 use Rattle.mu_cluster.specs.Leading.{LeadOnUnpaused}
 use Rattle.mu_cluster.specs.Living.{HasAllInTime}
 use Rattle.mu_cluster.specs.Naming.{NamesFirstUnpaused, SpendsBudgets}
-use Rattle.mu_cluster.specs.Paces.{AreDiligent}
+use Rattle.mu_cluster.specs.Paces.{AreDiligent, AreDiligentBy, AreEager}
 use Rattle.mu_cluster.proofs.Agreeing.{over_order}
 use Rattle.mu_report.specs.Trace.{IsCountable}
 use Rattle.mu_report.proofs.Traces.{run_fits}
-use Rattle.mu_top.specs.Commands.{IsReplay, IsThreaded}
+use Rattle.mu_cluster.specs.Fair.{HasAllIfFair}
+use Rattle.mu_top.specs.Commands.{IsEagerReplay, IsReplay, IsThreaded}
 
-pub replay_of : (o : Outcome) (job : Job) → o.job ≡ job → IsConfig job.config → HaveHeads job.config.width job.commands job.config.rows → IsRun o → AreDiligent o → NamesFirstUnpaused o → SpendsBudgets o → HasAllInTime o → LeadOnUnpaused o → Agrees o → o.gathered ≡ None → IsReplay o
-replay_of o job same good have run diligent names spends lives leads agrees gathered = record {
+pub replay_of : (o : Outcome) (job : Job) → o.job ≡ job → IsConfig job.config → HaveHeads job.config.width job.commands job.config.rows → IsRun o → AreDiligent o → NamesFirstUnpaused o → SpendsBudgets o → HasAllInTime o → StaysAlive o → LeadOnUnpaused o → Agrees o → o.gathered ≡ None → IsReplay o
+replay_of o job same good have run diligent names spends lives alive leads agrees gathered = record {
   names = names;
   spends = spends;
   lives = lives;
+  alive = alive;
   leads = leads;
   gathered = gathered;
   run = run;
@@ -33,12 +36,25 @@ replay_of o job same good have run diligent names spends lives leads agrees gath
   completes = completes_over o run.order.events (subst (λ (j : Job). IsConfig j.config) (sym same) good) (subst (λ (j : Job). HaveHeads j.config.width j.commands j.config.rows) (sym same) have) (over_order o run) agrees;
 }
 
-pub threaded_of : (o : Outcome) (job : Job) → o.job ≡ job → IsConfig job.config → HaveHeads job.config.width job.commands job.config.rows → IsThreadRun o → AreDiligent o → Agrees o → IsThreaded o
-threaded_of o job same good have run diligent agrees = record {
+pub eager_of : (o : Outcome) (job : Job) → o.job ≡ job → IsConfig job.config → HaveHeads job.config.width job.commands job.config.rows → IsRun o → AreEager o → AreDiligentBy true o → NamesFirstUnpaused o → SpendsBudgets o → Agrees o → o.gathered ≡ None → IsEagerReplay o
+eager_of o job same good have run eager diligent names spends agrees gathered = record {
+  names = names;
+  spends = spends;
+  gathered = gathered;
+  run = run;
+  eager = eager;
+  diligent = diligent;
+  agrees = agrees;
+  completes = completes_over o run.order.events (subst (λ (j : Job). IsConfig j.config) (sym same) good) (subst (λ (j : Job). HaveHeads j.config.width j.commands j.config.rows) (sym same) have) (over_order o run) agrees;
+}
+
+pub threaded_of : (o : Outcome) (job : Job) → o.job ≡ job → IsConfig job.config → HaveHeads job.config.width job.commands job.config.rows → IsThreadRun o → AreDiligentBy true o → Agrees o → HasAllIfFair o → IsThreaded o
+threaded_of o job same good have run diligent agrees lives = record {
   run = run;
   diligent = diligent;
   agrees = agrees;
   completes = completes_over o run.events (subst (λ (j : Job). IsConfig j.config) (sym same) good) (subst (λ (j : Job). HaveHeads j.config.width j.commands j.config.rows) (sym same) have) run.over agrees;
+  lives_if_fair = lives;
 }
 
 -- the bytes of the trace of a replay can be counted

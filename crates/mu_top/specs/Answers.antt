@@ -9,7 +9,7 @@ use Rattle.mu_report.specs.declared.said.Said.{Said}
 use Rattle.mu_report.specs.Said.{text}
 use Rattle.mu_report.specs.Statuses.{status_for}
 use Rattle.mu_shell.specs.Written.{Wrote}
-use Rattle.mu_top.specs.Commands.{Books, Lives, Replays, Runs, Sums, Traces}
+use Rattle.mu_top.specs.Commands.{Books, Lives, Replays, ReplaysEagerly, Runs, Sums, Traces, TracesEagerly}
 use Rattle.mu_top.specs.Desks.{Desks}
 use Rattle.mu_top.specs.Words.{limit_of}
 use Rattle.mu_top.specs.declared.asking.Task.{Task}
@@ -18,8 +18,10 @@ use Rattle.mu_top.specs.declared.asking.Asked.{Asked}
 -- what is said of these bytes, by the task
 abbrev pub Does : Task → List ℕ → Said → Type 0
 Does Task.Replay bytes said = Replays bytes said
+Does Task.Eager bytes said = ReplaysEagerly bytes said
 Does Task.Run bytes said = Runs bytes said
 Does Task.Trace bytes said = Traces bytes said
+Does Task.EagerTrace bytes said = TracesEagerly bytes said
 Does Task.Check bytes said = SaysOf bytes said
 Does Task.Why bytes said = NotesOf bytes said
 Does Task.Tell bytes said = TellsOfTrace bytes said

@@ -1,5 +1,5 @@
 -- asked: what the words of the command line ask for.
-use Rattle.std.specs.Prelude.{ℕ, ◌≤◌, List, [], ◌∷◌, codes, string_bytes, None, Some, if◌then◌else◌, ⊤}
+use Rattle.std.specs.Prelude.{ℕ, ◌≤◌, ◌&&◌, List, [], ◌∷◌, codes, string_bytes, None, Some, if◌then◌else◌, ⊤}
 use Rattle.std.specs.declared.option.Option.{Option}
 use Rattle.std.specs.declared.string.String.{String}
 use Rattle.std.specs.declared.alloc.Global.{Global}
@@ -15,6 +15,7 @@ use Rattle.mu_top.specs.declared.asking.TheConstants.{INPUT_LIMIT, MOST_SHOWN}
 abbrev pub task_named : List ℕ → Option Task
 task_named word =
     if bytes_eq word (codes "replay") then Some Task.Replay
+    else if bytes_eq word (codes "eager") then Some Task.Eager
     else if bytes_eq word (codes "run") then Some Task.Run
     else if bytes_eq word (codes "trace") then Some Task.Trace
     else if bytes_eq word (codes "check") then Some Task.Check
@@ -45,12 +46,14 @@ of_events None = None
 of_events (Some count) = Some (Asked.Input (Task.Show count))
 
 -- what two words ask for: `bulk` with a number up to the most commands of a job, `live` with one
--- from 1 to the most readers, or `show` with one up to the most events
+-- from 1 to the most readers, `show` with one up to the most events, or `eager trace`
 abbrev pub asked_of_two : List ℕ → List ℕ → Option Asked
-asked_of_two word number =
-    if bytes_eq word (codes "bulk") then of_count (within 0 MOST_COMMANDS (number_of number))
-    else if bytes_eq word (codes "live") then of_readers (within 1 MOST_READERS (number_of number))
-    else if bytes_eq word (codes "show") then of_events (within 0 MOST_SHOWN (number_of number))
+asked_of_two word other =
+    if bytes_eq word (codes "bulk") then of_count (within 0 MOST_COMMANDS (number_of other))
+    else if bytes_eq word (codes "live") then of_readers (within 1 MOST_READERS (number_of other))
+    else if bytes_eq word (codes "show") then of_events (within 0 MOST_SHOWN (number_of other))
+    else if bytes_eq word (codes "eager") && bytes_eq other (codes "trace")
+    then Some (Asked.Input Task.EagerTrace)
     else None
 
 -- what the words ask for: one word, the name of a task, or two
@@ -73,8 +76,10 @@ IsInReach (Asked.Bulk count) = count ≤ MOST_COMMANDS
 -- the most bytes that the input of a task may have
 abbrev pub limit_of : Task → ℕ
 limit_of Task.Replay = INPUT_LIMIT
+limit_of Task.Eager = INPUT_LIMIT
 limit_of Task.Run = INPUT_LIMIT
 limit_of Task.Trace = INPUT_LIMIT
+limit_of Task.EagerTrace = INPUT_LIMIT
 limit_of Task.Check = TRACE_LIMIT
 limit_of Task.Why = TRACE_LIMIT
 limit_of Task.Tell = TRACE_LIMIT

@@ -27,10 +27,14 @@ pub fn limits_are_stated()
 pub enum Task {
     /// `replay`: run a job in turns.
     Replay,
+    /// `eager`: run a job in turns, with the nodes of `run`.
+    Eager,
     /// `run`: run a job with each replica in a thread of its own.
     Run,
     /// `trace`: run a job in turns, and tell its events.
     Trace,
+    /// `eager trace`: run a job in turns, with the nodes of `run`, and tell its events.
+    EagerTrace,
     /// `check`: judge a trace.
     Check,
     /// `why`: judge a trace, and tell where it breaks and why.
@@ -64,8 +68,10 @@ impl Task {
     {
         match self {
             Task::Replay => INPUT_LIMIT,
+            Task::Eager => INPUT_LIMIT,
             Task::Run => INPUT_LIMIT,
             Task::Trace => INPUT_LIMIT,
+            Task::EagerTrace => INPUT_LIMIT,
             Task::Check => TRACE_LIMIT,
             Task::Why => TRACE_LIMIT,
             Task::Tell => TRACE_LIMIT,
@@ -77,42 +83,44 @@ impl Task {
     }
 }
 
-/// What the words ask for, if they ask for anything: one word that names a task, or `bulk`, `live`
-/// or `show` and a number.
+/// What the words ask for, if they ask for anything: one word that names a task, `bulk`, `live` or
+/// `show` and a number, or `eager trace`.
 pub fn asked_of(words: &[String]) -> Option<Asked>
     ensures exact { result ≡ asked_of_words words.now }
     ensures reach { IfSome result IsInReach }
 {
     match words {
         [word] => named_task(word.as_bytes()).map(Asked::Input),
-        [word, number] => asked_with(word.as_bytes(), number.as_bytes()),
+        [word, other] => asked_with(word.as_bytes(), other.as_bytes()),
         _ => None,
     }
 }
 
 /// The stated large job, if the first word is `bulk` and the second spells a number of commands
 /// from 0 to 1,500; live readers, if the first is `live` and the second spells a number of them
-/// from 1 to 4; or the first events of a trace, if the first is `show` and the second spells a
-/// number of at most seven digits.
-fn asked_with(word: &[u8], number: &[u8]) -> Option<Asked>
-    ensures exact { result ≡ asked_of_two word.now number.now }
+/// from 1 to 4; the first events of a trace, if the first is `show` and the second spells a number
+/// of at most seven digits; or the trace of an eager replay, if they are `eager trace`.
+fn asked_with(word: &[u8], other: &[u8]) -> Option<Asked>
+    ensures exact { result ≡ asked_of_two word.now other.now }
     ensures reach { IfSome result IsInReach }
 {
     if word == b"bulk".as_slice() {
-        match limited(number, 0, MOST_COMMANDS as u32) {
+        match limited(other, 0, MOST_COMMANDS as u32) {
             Some(count) => Some(Asked::Bulk(count as u16)),
             None => None,
         }
     } else if word == b"live".as_slice() {
-        match limited(number, 1, u32::from(MOST_READERS)) {
+        match limited(other, 1, u32::from(MOST_READERS)) {
             Some(readers) => Some(Asked::Input(Task::Live(readers as u8))),
             None => None,
         }
     } else if word == b"show".as_slice() {
-        match limited(number, 0, MOST_SHOWN) {
+        match limited(other, 0, MOST_SHOWN) {
             Some(count) => Some(Asked::Input(Task::Show(count))),
             None => None,
         }
+    } else if word == b"eager".as_slice() && other == b"trace".as_slice() {
+        Some(Asked::Input(Task::EagerTrace))
     } else {
         None
     }
@@ -124,6 +132,8 @@ fn named_task(word: &[u8]) -> Option<Task>
 {
     if word == b"replay".as_slice() {
         Some(Task::Replay)
+    } else if word == b"eager".as_slice() {
+        Some(Task::Eager)
     } else if word == b"run".as_slice() {
         Some(Task::Run)
     } else if word == b"trace".as_slice() {

@@ -5,6 +5,7 @@
 mod alone;
 mod asking;
 mod booking;
+mod eager;
 mod living;
 mod replaying;
 mod running;

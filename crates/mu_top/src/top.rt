@@ -9,6 +9,7 @@ ghost use Rattle.mu_top.specs.Words.{asked_of as asked_of_words, limit_of, HasRe
 
 use crate::asking::{Asked, Task, asked_of};
 use crate::booking::told_of_book;
+use crate::eager::{told_of_eager, told_of_eager_trace};
 use crate::living::told_of_live;
 use crate::replaying::told_of_replay;
 use crate::running::told_of_run;
@@ -32,8 +33,8 @@ use std::time::Clock;
 /// command is published. Before each turn of `run`, before each command that comes to a `desk`, and
 /// before each publishing and get of `live` the gate is called.
 ///
-/// The words are `replay`, `run`, `trace`, `check`, `why`, `tell`, `desk` or `book`, with nothing
-/// after it, or `show`, `bulk` or `live` with a number.
+/// The words are `replay`, `eager`, `run`, `trace`, `check`, `why`, `tell`, `desk` or `book`, with
+/// nothing after it, `show`, `bulk` or `live` with a number, or `eager trace`.
 pub fn mu<R: Threads + Wait + Clock + Sync, S: Source, K: Sink, G: Gate + Sync>(
     rt: &R,
     alloc: Global,
@@ -128,8 +129,10 @@ fn told_of_bytes<R: Threads + Wait + Clock + Sync, G: Gate + Sync>(
 {
     match task {
         Task::Replay => told_of_replay(alloc, bytes),
+        Task::Eager => told_of_eager(alloc, bytes),
         Task::Run => told_of_run(rt, alloc, bytes, gate),
         Task::Trace => told_of_trace(alloc, bytes),
+        Task::EagerTrace => told_of_eager_trace(alloc, bytes),
         Task::Check => judge(alloc, bytes),
         Task::Why => explain_trace(alloc, bytes),
         Task::Tell => tell_trace(alloc, bytes),

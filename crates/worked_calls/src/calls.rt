@@ -27,8 +27,8 @@ status 0
 ";
 
 /// What is said if the words ask for nothing.
-const USAGE: &str = "usage: mu replay, mu run, mu check, mu why, mu tell, mu show N, mu trace, \
-        mu bulk N, mu live K, mu desk, mu book\n";
+const USAGE: &str = "usage: mu replay, mu eager, mu run, mu check, mu why, mu tell, mu show N, \
+        mu trace, mu eager trace, mu bulk N, mu live K, mu desk, mu book\n";
 
 /// The job of the lists of events below.
 const ONE_PUT: &str = "mu 1\nreplicas 3\nring 8\nbudget 100\nclient 0\nput a 5\nend\n";
@@ -73,12 +73,13 @@ status 0
 ";
 
 /// The words of a call without input, its status, and what is said.
-const SUMS: [(&[&str], u8, &str); 7] = [
+const SUMS: [(&[&str], u8, &str); 8] = [
     (&["bulk", "10"], 0, TEN_SAID),
     (&["bulk", "1501"], 1, USAGE),
     (&["bulk", "07"], 1, USAGE),
     (&["bulk", ""], 1, USAGE),
     (&["bulk"], 1, USAGE),
+    (&["eager", "traces"], 1, USAGE),
     (&["show", "10000000"], 1, USAGE),
     (&["show", "01"], 1, USAGE),
 ];
@@ -142,7 +143,7 @@ status 0
 ";
 
 /// Words, jobs, the status, and what is said.
-const ANSWERED: [(&str, &str, u8, &str); 10] = [
+const ANSWERED: [(&str, &str, u8, &str); 11] = [
     ("replay", PUT_AND_GET, 0, PUT_AND_GET_SAID),
     (
         "replay",
@@ -179,6 +180,7 @@ const ANSWERED: [(&str, &str, u8, &str); 10] = [
         2,
         "refused line 6 cause 12\n",
     ),
+    ("eager", PUT_AND_GET, 0, PUT_AND_GET_SAID),
     ("replays", PUT_AND_GET, 1, USAGE),
     ("checks", PUT_AND_GET, 1, USAGE),
     (

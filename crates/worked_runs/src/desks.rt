@@ -2,7 +2,7 @@
 use crate::replays::TWO_CLIENTS;
 use front_desk::collect;
 use kv_store::{Command, Key, Op, Text};
-use mu_cluster::{Gate, OpenGate};
+use mu_cluster::Gate;
 use mu_input::{Job, desk_line, read};
 use std::alloc::Global;
 use std::sync::Wait;
@@ -101,13 +101,5 @@ fn clients_send_at_once(rt: HostRuntime) -> Result<(), Fail> {
     let gate = Crossed::new();
     let is_right = begins(&rt, rt.alloc(), TWO_CLIENTS, &gate, &first)?;
     assert!(rt; is_right && gate.failures.load(Ordering::SeqCst) == 0);
-    Ok(())
-}
-
-#[test]
-fn nothing_is_collected_of_no_commands(rt: HostRuntime) -> Result<(), Fail> {
-    let text = "mu 1\nreplicas 1\nring 8\nbudget 1000\nend\n";
-    let collected = collected(&rt, rt.alloc(), text, &OpenGate)?;
-    assert!(rt; collected.commands.is_empty());
     Ok(())
 }

@@ -4,7 +4,7 @@ ghost use Rattle.snap_reads.specs.Lives.{told_commands};
 
 use crate::replays::{TWO_CLIENTS, job_of};
 use kv_store::{Command, Key, Op, Text};
-use mu_cluster::{Gate, OpenGate, Outcome, replay, rows_spell_commands};
+use mu_cluster::{Gate, Outcome, replay, rows_spell_commands};
 use snap_reads::{Lived, Sight, live, start};
 use std::alloc::Global;
 use std::sync::atomic::{AtomicU64, Ordering};
@@ -197,13 +197,5 @@ fn readers_go_on_beside_the_writer(rt: HostRuntime) -> Result<(), Fail> {
     let gate = Crossed::new();
     let are_right = saw(&rt, rt.alloc(), &gate, wanted)?;
     assert!(rt; are_right && gate.failures.load(Ordering::SeqCst) == 0);
-    Ok(())
-}
-
-#[test]
-fn no_key_is_read(rt: HostRuntime) -> Result<(), Fail> {
-    let text = "mu 1\nreplicas 3\nring 8\nbudget 1000\nend\n";
-    let lived = lived(&rt, rt.alloc(), text, 1, &OpenGate)?;
-    assert!(rt; counts(&lived, &[0]));
     Ok(())
 }

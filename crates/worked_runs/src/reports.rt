@@ -1,9 +1,8 @@
 //! Texts of whole answers, as they come out of a sink in memory.
 ghost use Rattle.std.specs.Prelude.{◌<◌};
-ghost use Rattle.mu_report.specs.Said.{IsShort};
 
+use crate::list_runs::said_of;
 use crate::printing::{prints, prints_so_far};
-use crate::replays::said_of;
 use mu_io::WriteFault;
 use mu_model::{Answer, Fence, Target};
 use mu_outcome::{Verdict, Wrong};
@@ -30,28 +29,6 @@ replies 2
 0.2 value 5
 status 0
 ";
-
-/// What is said if the words ask for nothing.
-const USAGE: &str = "usage: mu replay, mu run, mu check, mu why, mu tell, mu show N, mu trace, \
-    mu bulk N, mu live K, mu desk, mu book\n";
-
-/// Whether the answer prints this text.
-fn is_printed(alloc: Global, said: Said, text: &str) -> Result<bool, AllocError>
-    requires { IsShort said }
-{
-    prints(alloc, &said, text)
-}
-
-#[test]
-fn says_short_answers(rt: HostRuntime) -> Result<(), Fail> {
-    let refused = Said::Refused { line: 5, cause: 11 };
-    assert!(rt; is_printed(rt.alloc(), refused, "refused line 5 cause 11\n")?);
-    assert!(rt; is_printed(rt.alloc(), Said::Usage, USAGE)?);
-    assert!(rt; is_printed(rt.alloc(), Said::ReadFault, "read fault\n")?);
-    assert!(rt; is_printed(rt.alloc(), Said::NoMemory, "no memory\n")?);
-    assert!(rt; is_printed(rt.alloc(), Said::TooLong, "too long\n")?);
-    Ok(())
-}
 
 /// Whether printing ends with `taken` bytes taken, and leaves just these, if a write takes at most
 /// `piece` bytes and the third one fails.
@@ -143,26 +120,6 @@ fn says_expected_answers(rt: HostRuntime) -> Result<(), Fail> {
     for (expected, text) in EXPECTED {
         let cause = Wrong::WrongAnswer { expected };
         let verdict = Verdict::Illegal { index: 24, cause };
-        assert!(rt; is_told(rt.alloc(), verdict, text)?, "{text}");
-    }
-    Ok(())
-}
-
-/// Other verdicts, and the lines on them.
-const VERDICTS: [(Verdict, &str); 2] = [
-    (
-        Verdict::Illegal {
-            index: 14,
-            cause: Wrong::NotAllowed,
-        },
-        "illegal 14 not allowed\n",
-    ),
-    (Verdict::Legal, "legal 26\n"),
-];
-
-#[test]
-fn says_verdicts(rt: HostRuntime) -> Result<(), Fail> {
-    for (verdict, text) in VERDICTS {
         assert!(rt; is_told(rt.alloc(), verdict, text)?, "{text}");
     }
     Ok(())

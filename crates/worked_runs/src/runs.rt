@@ -89,6 +89,74 @@ impl Gate for Ahead {
     }
 }
 
+/// How many steps each of two replicas takes alone, the one after the other: longer than it takes to
+/// hold the others to be failed.
+const ALONE: u64 = 1_000;
+/// For how many rounds all three take turns after that: replica 0 leads by then and has every command
+/// (in plain Rust it puts the last entry in round 575), and nobody has ended (that does so in round
+/// 680). The bound of such a run is 6,874 steps.
+const IN_TURNS: u64 = 640;
+
+/// Holds three replicas to an order that is fair from some moment on: first replica 2 goes on alone,
+/// then replica 1, and then all three take turns.
+#[derive(Drop)]
+struct FairAtLast {
+    zero: AtomicU64,
+    one: AtomicU64,
+    two: AtomicU64,
+    failures: AtomicU64,
+}
+
+/// Waits until a replica has taken so many steps. Whether it has.
+fn reaches(taken: &AtomicU64, least: u64) -> bool {
+    for _ in 0..100_000_000u64 {
+        if taken.load(Ordering::SeqCst) >= least {
+            return true;
+        }
+        thread::yield_now();
+    }
+    false
+}
+
+/// The round in which replicas that went on alone take this step; none before these rounds.
+fn round_of(step: u64) -> Option<u64> {
+    step.checked_sub(ALONE).filter(|round| *round < IN_TURNS)
+}
+
+impl Gate for FairAtLast {
+    fn pass(&self, replica: u8, step: u32) {
+        let step = u64::from(step);
+        let held = match replica {
+            0 => {
+                self.zero.store(step, Ordering::SeqCst);
+                step >= IN_TURNS
+                    || reaches(&self.one, ALONE + step) && reaches(&self.two, ALONE + step)
+            }
+            1 => {
+                self.one.store(step, Ordering::SeqCst);
+                match round_of(step) {
+                    None => step > 0 || reaches(&self.two, ALONE),
+                    Some(round) => {
+                        reaches(&self.zero, round + 1) && reaches(&self.two, ALONE + round)
+                    }
+                }
+            }
+            _ => {
+                self.two.store(step, Ordering::SeqCst);
+                match round_of(step) {
+                    None => true,
+                    Some(round) => {
+                        reaches(&self.zero, round + 1) && reaches(&self.one, ALONE + round + 1)
+                    }
+                }
+            }
+        };
+        if !held {
+            self.failures.fetch_add(1, Ordering::SeqCst);
+        }
+    }
+}
+
 /// What the job of a text leaves, whose replicas run in threads.
 fn ran<R: Threads + Wait + Clock + Sync, G: Gate + Sync>(
     rt: &R,
@@ -146,6 +214,30 @@ fn three_replicas_run_at_once(rt: HostRuntime) -> Result<(), Fail> {
     };
     let are_right = three_agree(&rt, rt.alloc(), &gate)?;
     assert!(rt; are_right && gate.failures.load(Ordering::SeqCst) == 0);
+    Ok(())
+}
+
+/// Whether replica 0 has all commands of the two clients' job, which is done on threads.
+fn all_is_done<R: Threads + Wait + Clock + Sync, G: Gate + Sync>(
+    rt: &R,
+    alloc: Global,
+    gate: &G,
+) -> Result<bool, Fail> {
+    let outcome = ran(rt, alloc, TWO_CLIENTS, gate)?;
+    let first = outcome.logs.as_slice().first();
+    Ok(are_three(&outcome) && first.is_some_and(|log| log.len() == 6))
+}
+
+#[test]
+fn a_run_that_is_fair_at_last_has_every_command(rt: HostRuntime) -> Result<(), Fail> {
+    let gate = FairAtLast {
+        zero: AtomicU64::new(0),
+        one: AtomicU64::new(0),
+        two: AtomicU64::new(0),
+        failures: AtomicU64::new(0),
+    };
+    let is_done = all_is_done(&rt, rt.alloc(), &gate)?;
+    assert!(rt; is_done && gate.failures.load(Ordering::SeqCst) == 0);
     Ok(())
 }
 

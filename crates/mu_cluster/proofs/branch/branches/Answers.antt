@@ -22,7 +22,7 @@ loop-port-preserved c =
     let its : slice_get c.args.ports.items (length at.yielded) ≡ Some x = ap (λ l. slice_get l (length at.yielded)) whole ∙ get_middle at.yielded (into_iter_items c.next.new.self) x in
     let fresh = c.requires.fresh (length at.yielded) x its in
     let b : Branch = record { node = c.in_ok-node.node; port = x } in
-    let drives = first_drives job.config job.script (length at.yielded) x c.in_ok-node.node c.requires.good fresh (subst (λ i. StandsForNode job.config i [] c.in_ok-node.node) c.id.ensures.number c.in_ok-node.ensures.stands) c.in_ok-node.ensures.stops in
+    let drives = first_drives job.config job.script (length at.yielded) x c.in_ok-node.node c.requires.good fresh (subst (λ i. StandsForNode job.config i [] c.in_ok-node.node) c.id.ensures.number c.in_ok-node.ensures.stands) c.in_ok-node.ensures.stops c.in_ok-node.ensures.zeal in
     let ready : Starts job.script b = record { drives = drives; empty = fresh.empty } in (
       tt,
       tt,

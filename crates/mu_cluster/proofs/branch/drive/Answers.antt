@@ -6,14 +6,15 @@ use Rattle.mu_model.specs.Parts.{IsPossible}
 use Rattle.mu_node.specs.Turns.{IsTurn}
 use Rattle.std.specs.Prelude.{None}
 use Rattle.mu_cluster.specs.Branches.{IsDriven}
+use Rattle.mu_cluster.specs.Idling.{StandsForIdling}
 use Rattle.mu_cluster.specs.Silences.{StandsForSilences}
 use Rattle.mu_cluster.proofs.Branching.{ended_on, same_same, turned_on}
-use Rattle.mu_cluster.proofs.Silent.{reads_beats_within}
+use Rattle.mu_cluster.proofs.Silent.{reads_beats_within, reads_heads_within}
 use Rattle.mu_cluster.proofs.branch.drive.Goals.{in-None, in-Some+in-Ended}
 use Rattle.mu_cluster.proofs.branch.drive.Goals as goal
 
 pub loop-init : goal.loop-init
-loop-init g c = (tt, tt, c.requires.drives, record { table = refl; config = refl; id = refl }, subst (λ l. StandsForSilences l c.new-silences.result) (sym c.requires.empty) c.new-silences.ensures)
+loop-init g c = (tt, tt, c.requires.drives, record { table = refl; config = refl; id = refl }, subst (λ l. StandsForSilences l c.new-silences.result) (sym c.requires.empty) c.new-silences.ensures, subst (λ l. StandsForIdling c.args.branch.now.port.id l c.new-idling.result) (sym c.requires.empty) (c.new-idling.ensures c.args.branch.now.port.id))
 
 pub loop-preserved : goal.loop-preserved
 loop-preserved g c =
@@ -28,9 +29,11 @@ loop-preserved g c =
     let few = subst (λ k. IsConfig k) (sym c.turn_rested.ensures.same.config) was.config in (
       tt,
       tt,
-      turned_on script c.loop.port c.turn_rested.new.port c.loop.node c.turn_rested.new.node c.turn_rested.result was c.turn_rested.ensures.same c.turn_rested.ensures.stands c.turn_rested.ensures.stops told,
+      turned_on script c.loop.port c.turn_rested.new.port c.loop.node c.turn_rested.new.node c.turn_rested.result was c.turn_rested.ensures.same c.turn_rested.ensures.stands c.turn_rested.ensures.stops c.turn_rested.ensures.zeal told,
       same_same c.args.branch.now.port c.loop.port c.turn_rested.new.port c.loop.invariant.3 c.turn_rested.ensures.same,
-      subst (λ l. StandsForSilences l c.take_newest.new.self) (sym took.1.part) (c.take_newest.ensures e p.part (c.part.ensures ∙ took.1.part) (reads_beats_within q.config q.id p.part e few.replicas.1 possible) c.loop.invariant.4),
+      subst (λ l. StandsForSilences l c.take_newest.new.self) (sym took.1.part) (c.take_newest.ensures e p.part (c.part-events.ensures ∙ took.1.part) (reads_beats_within q.config q.id p.part e few.replicas.1 possible) c.loop.invariant.4),
+      subst (λ i. StandsForIdling i q.part c.note_newest.new.self) (sym c.turn_rested.ensures.same.id)
+          (subst (λ l. StandsForIdling p.id l c.note_newest.new.self) (sym took.1.part) (c.note_newest.ensures e p.part (c.part-events.ensures ∙ took.1.part) (reads_heads_within q.config q.id p.part e few.replicas.1 possible) c.loop.invariant.5)),
     )
 
 pub returns : goal.returns
@@ -45,7 +48,7 @@ returns g c = elim c.match-next.branch [
       let ended = subst (λ u. IsTurn p.config script p.id p.part q.part None None u) w.in-Ended.is told in
       subst (λ b. IsDriven script c.args.branch.now b) (sym w.branch'-is) (record {
         same = same_same c.args.branch.now.port p q c.loop.invariant.3 w.turn_rested.ensures.same;
-        drives = turned_on script p q c.loop.node w.turn_rested.new.node w.turn_rested.result was w.turn_rested.ensures.same w.turn_rested.ensures.stands w.turn_rested.ensures.stops told;
+        drives = turned_on script p q c.loop.node w.turn_rested.new.node w.turn_rested.result was w.turn_rested.ensures.same w.turn_rested.ensures.stands w.turn_rested.ensures.stops w.turn_rested.ensures.zeal told;
         ends = ended_on script p q _ w.turn_rested.ensures.same ended;
       })
 ]

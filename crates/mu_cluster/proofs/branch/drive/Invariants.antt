@@ -1,5 +1,6 @@
 use Rattle.shared_fabric.specs.Gathering.{IsSamePort}
 use Rattle.mu_cluster.specs.Branches.{Drives}
+use Rattle.mu_cluster.specs.Idling.{StandsForIdling}
 use Rattle.mu_cluster.specs.Silences.{StandsForSilences}
 use Rattle.mu_cluster.proofs.branch.drive.Given as goal
 
@@ -9,3 +10,4 @@ invariant-loop g l =
     × Drives l.script (record { node = l.node; port = l.port })
     × IsSamePort l.initial.port l.port
     × StandsForSilences l.port.part l.silences
+    × StandsForIdling l.port.id l.port.part l.idling

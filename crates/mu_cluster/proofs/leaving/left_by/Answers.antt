@@ -1,10 +1,12 @@
-use Rattle.std.proofs.Common.{◌≡◌, ◌∙◌, ◌+◌, ◌++◌, ◌∷◌, suc, [], Some, ap, arith, length, map, subst, sym}
+use Rattle.std.proofs.Common.{true, ◌≡◌, ◌∙◌, ◌+◌, ◌++◌, ◌∷◌, suc, [], Some, ap, arith, length, map, subst, sym}
 use Rattle.std.specs.List.{slice_get}
 use Rattle.std.specs.Vec.Iter.{into_iter_items}
 use Rattle.std.proofs.lemmas.List.{length_push}
 use Rattle.std.proofs.lemmas.Option.{slice_get_within}
 use Rattle.mu_model.specs.Histories.{history}
 use Rattle.mu_model.proofs.Parts.{part_is_possible}
+use Rattle.mu_node.specs.Due.{is_eager}
+use Rattle.mu_node.specs.Turns.{IsResult}
 use Rattle.mu_cluster.specs.Branches.{Goes, HasEnd}
 use Rattle.mu_cluster.specs.Lists.{HoldsLists}
 use Rattle.mu_cluster.specs.Rounds.{part_of}
@@ -68,6 +70,6 @@ loop-node-preserved c =
           let possible = part_is_possible k n (history events) legal in
           let is = c.into_result.ensures.is k n (part_of n events) c.requires.good possible goes.stands in
           let told = c.into_result.ensures.end k script n (part_of n events) (sym goes.stops) c.requires.good possible goes.stands in
-          subst (λ m. HoldsLists k script events m c.add.new.self) (sym long)
-          (held_left k script events n c.loop-node.lists c.add.new.self c.into_result.result (inv.holds events legal has) c.add.ensures goes.before ends is told);
+          subst (λ m. HoldsLists true k script events m c.add.new.self) (sym long)
+          (held_left true k script events n c.loop-node.lists c.add.new.self c.into_result.result (inv.holds events legal has) c.add.ensures goes.before ends (subst (λ z. IsResult (is_eager z) k n (part_of n events) c.into_result.result) goes.zeal is) told);
     }

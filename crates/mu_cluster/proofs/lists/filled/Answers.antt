@@ -4,6 +4,7 @@ use Rattle.std.specs.Vec.Iter.{into_iter_items}
 use Rattle.std.proofs.lemmas.List.{length_push}
 use Rattle.mu_model.specs.Histories.{history}
 use Rattle.mu_model.proofs.Parts.{part_is_possible}
+use Rattle.mu_node.specs.Due.{is_eager}
 use Rattle.mu_cluster.specs.Lists.{HoldsLists}
 use Rattle.mu_cluster.specs.Rounds.{part_of}
 use Rattle.mu_cluster.proofs.Filling.{held_next}
@@ -43,6 +44,6 @@ loop-seat-preserved c =
     record {
       rest = λ r. let on : n + suc r ≡ length (c.loop-seat.yielded ++ seat ∷ []) + r = omega (arith, long) in sym (ap (λ l. slice_get l (suc r)) head) ∙ (inv.rest (suc r) ∙ ap (slice_get all) on);
       count = let count = inv.count in omega (arith, long, shorter, count);
-      holds = subst (λ m. HoldsLists k script events m c.add.new.self) (sym long)
+      holds = subst (λ m. HoldsLists (is_eager c.args._kind) k script events m c.add.new.self) (sym long)
           (held_next k script events n c.requires.played.0 c.loop-seat.lists c.add.new.self c.into_result.result seat inv.holds c.add.ensures sits (c.requires.ended n seat found) is told);
     }

@@ -10,14 +10,15 @@ use Rattle.mu_cluster.proofs.rounds.seats.Goals as goal
 pub loop-id-preserved : goal.loop-id-preserved
 loop-id-preserved c =
     let job = c.args.job.now in
+    let kind = c.args.kind in
     let seat = c.new-in-loop-id.result in
     let n = c.loop-id.invariant.count in
-    let sits = sits_first job.config job.script c.loop-id.id c.in_ok-new.field-0 seat c.in_ok-new.ensures.stands c.in_ok-new.ensures.stops c.new-in-loop-id.ensures.node c.new-in-loop-id.ensures.going c.new-in-loop-id.ensures.waited in
+    let sits = sits_first job.config job.script c.loop-id.id c.in_ok-new.field-0 seat c.in_ok-new.ensures.stands c.in_ok-new.ensures.stops c.in_ok-new.ensures.zeal c.new-in-loop-id.ensures.node c.new-in-loop-id.ensures.going c.new-in-loop-id.ensures.waited in
     record {
       room = omega (arith, c.loop-id.invariant.room, c.push_reserved.ensures.capacity);
       count = ap length c.push_reserved.ensures.items ∙ (length_push c.loop-id.seats.items seat ∙ ap (λ m. m + 1) n);
-      each = subst (λ (l : List Seat). (r : ℕ) (s : Seat) → slice_get l r ≡ Some s → Sits job.config job.script r [] s 0) (sym c.push_reserved.ensures.items)
-          (each_pushed (λ r s. Sits job.config job.script r [] s 0) c.loop-id.seats.items seat c.loop-id.invariant.each (subst (λ r. Sits job.config job.script r [] seat 0) (sym n) sits));
+      each = subst (λ (l : List Seat). (r : ℕ) (s : Seat) → slice_get l r ≡ Some s → Sits kind job.config job.script r [] s 0) (sym c.push_reserved.ensures.items)
+          (each_pushed (λ r s. Sits kind job.config job.script r [] s 0) c.loop-id.seats.items seat c.loop-id.invariant.each (subst (λ r. Sits kind job.config job.script r [] seat 0) (sym n) sits));
     }
 
 pub returns-clause-played : goal.returns-clause-played

@@ -9,5 +9,5 @@ abbrev pub invariant-loop-id : goal.invariant-loop-id
 invariant-loop-id l = record {
   room : vec_capacity l.seats ≡ l.job.config.replicas;
   count : length l.seats.items ≡ l.id;
-  each : (r : ℕ) (seat : Seat) → slice_get l.seats.items r ≡ Some seat → Sits l.job.config l.job.script r [] seat 0;
+  each : (r : ℕ) (seat : Seat) → slice_get l.seats.items r ≡ Some seat → Sits l.kind l.job.config l.job.script r [] seat 0;
 }

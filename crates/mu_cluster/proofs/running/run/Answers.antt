@@ -9,6 +9,7 @@ use Rattle.shared_fabric.proofs.Gathers.{length_fresh}
 use Rattle.mu_cluster.specs.Branches.{AreLeft}
 use Rattle.mu_cluster.proofs.Agreeing.{agrees_over, within_over}
 use Rattle.mu_cluster.proofs.Driven.{are_left, are_ports, fresh_each, fresh_of, many, port_of}
+use Rattle.mu_cluster.proofs.FairRuns.{has_all_if_fair}
 use Rattle.mu_cluster.proofs.running.run.Goals as goal
 
 pub branches-requires-clause-count : goal.branches-requires-clause-count
@@ -83,3 +84,9 @@ returns-clause-reach g c =
     let job = sym c.gathered_outcome.ensures.job in
     let run = c.gathered_outcome.ensures.run in
     within_over c.gathered_outcome.result run.events (subst (λ (j : Job). IsConfig j.config) job c.requires.config) (subst (λ (j : Job). HaveHeads j.config.width j.commands j.config.rows) job c.requires.heads) run.over
+
+pub returns-clause-lives_if_fair : goal.returns-clause-lives_if_fair
+returns-clause-lives_if_fair g c =
+    let job = sym c.gathered_outcome.ensures.job in
+    let run = c.gathered_outcome.ensures.run in
+    has_all_if_fair c.gathered_outcome.result run.events (subst (λ (j : Job). IsConfig j.config) job c.requires.config) (subst (λ (j : Job). HaveHeads j.config.width j.commands j.config.rows) job c.requires.heads) run.over c.gathered_outcome.ensures.applies

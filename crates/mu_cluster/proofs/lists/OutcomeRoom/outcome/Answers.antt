@@ -2,9 +2,13 @@ use Rattle.std.proofs.Common.{None, Some, refl, subst}
 use Rattle.mu_model.specs.Legal.{IsLegal}
 use Rattle.mu_outcome.specs.declared.outcome.Outcome.{Outcome}
 use Rattle.mu_outcome.proofs.Journals.{order_parts}
+use Rattle.mu_node.specs.Due.{is_eager}
 use Rattle.mu_cluster.specs.Lists.{HoldsLists}
-use Rattle.mu_cluster.proofs.Filling.{diligent_of, printed_fit, printed_is, run_of}
+use Rattle.mu_cluster.specs.Paces.{AreDiligentBy}
+use Rattle.mu_cluster.specs.Rounds.{PlayedBy}
+use Rattle.mu_cluster.proofs.Filling.{diligent_of, kinds_of, printed_fit, printed_is, run_of}
 use Rattle.mu_cluster.proofs.AnyRing.{any_ring_of}
+use Rattle.mu_cluster.proofs.Committing.{all_by_then}
 use Rattle.mu_cluster.proofs.Finishing.{finishes_after, finishes_in_any_ring, finishes_of}
 use Rattle.mu_cluster.proofs.Unblocking.{applies_in_any_ring, finishes_in_small_rings}
 use Rattle.mu_cluster.proofs.Living.{applies_of}
@@ -12,6 +16,7 @@ use Rattle.mu_cluster.proofs.Naming.{named_of}
 use Rattle.mu_cluster.proofs.Onward.{leads_of}
 use Rattle.mu_cluster.proofs.Outliving.{applies_after}
 use Rattle.mu_cluster.proofs.Outrunning.{none_outrun_of}
+use Rattle.mu_cluster.proofs.Pausing.{applies_after_pauses, none_outrun_in_large}
 use Rattle.mu_cluster.proofs.lists.OutcomeRoom.outcome.Goals as goal
 
 pub printed-printed-requires-clause-room : goal.printed-printed-requires-clause-room
@@ -19,8 +24,8 @@ printed-printed-requires-clause-room c =
     let job = c.args.job in
     let order = c.args.order in
     let lists = c.filled-lists.result in
-    let held = subst (λ l. HoldsLists job.config job.script l job.config.replicas lists) c.as_slice.ensures c.filled-lists.ensures in
-    printed_fit job job.script order.events lists _ c.requires.good c.requires.legal c.requires.spelled held c.requires.room.printed
+    let held = subst (λ l. HoldsLists (is_eager c.args._kind) job.config job.script l job.config.replicas lists) c.as_slice.ensures c.filled-lists.ensures in
+    printed_fit (is_eager c.args._kind) job job.script order.events lists _ c.requires.good c.requires.legal c.requires.spelled held c.requires.room.printed
 
 pub returns-clause-run : goal.returns-clause-run
 returns-clause-run c =
@@ -29,11 +34,11 @@ returns-clause-run c =
     let order = c.args.order in
     let lists = c.filled-lists.result in
     let legal : IsLegal k order.events = c.requires.legal in
-    let held = subst (λ l. HoldsLists k job.script l k.replicas lists) c.as_slice.ensures c.filled-lists.ensures in
+    let held = subst (λ l. HoldsLists (is_eager c.args._kind) k job.script l k.replicas lists) c.as_slice.ensures c.filled-lists.ensures in
     let played = c.requires.played.1 in
     let o : Outcome = record { job = job; logs = c.from_vec.result; commits = c.from_vec-2.result; replies = c.printed-printed.result; own_replies = c.from_vec-3.result; ends = c.from_vec-4.result; order = Some order; gathered = None } in
-    run_of o order lists c.args.seats.items c.requires.played.0 refl legal c.from_vec.ensures c.from_vec-2.ensures c.from_vec-3.ensures c.from_vec-4.ensures held played c.requires.ended c.requires.spelled
-    (printed_is job job.script order.events lists c.printed-printed.result c.requires.spelled held c.printed-printed.ensures)
+    run_of (is_eager c.args._kind) o order lists c.args.seats.items c.requires.played.0 refl legal c.from_vec.ensures c.from_vec-2.ensures c.from_vec-3.ensures c.from_vec-4.ensures held played c.requires.ended c.requires.spelled
+    (printed_is (is_eager c.args._kind) job job.script order.events lists c.printed-printed.result c.requires.spelled held c.printed-printed.ensures)
 
 pub returns-clause-diligent : goal.returns-clause-diligent
 returns-clause-diligent c =
@@ -41,9 +46,16 @@ returns-clause-diligent c =
     let k = job.config in
     let order = c.args.order in
     let lists = c.filled-lists.result in
-    let held = subst (λ l. HoldsLists k job.script l k.replicas lists) c.as_slice.ensures c.filled-lists.ensures in
+    let held = subst (λ l. HoldsLists (is_eager c.args._kind) k job.script l k.replicas lists) c.as_slice.ensures c.filled-lists.ensures in
     let o : Outcome = record { job = job; logs = c.from_vec.result; commits = c.from_vec-2.result; replies = c.printed-printed.result; own_replies = c.from_vec-3.result; ends = c.from_vec-4.result; order = Some order; gathered = None } in
-    diligent_of o order.events lists (order_parts o order refl c.requires.played.1.own) held
+    diligent_of (is_eager c.args._kind) o order.events lists (order_parts o order refl c.requires.played.1.own) held
+
+pub returns-clause-nodes : goal.returns-clause-nodes
+returns-clause-nodes c =
+    let job = c.args.job in
+    let order = c.args.order in
+    let o : Outcome = record { job = job; logs = c.from_vec.result; commits = c.from_vec-2.result; replies = c.printed-printed.result; own_replies = c.from_vec-3.result; ends = c.from_vec-4.result; order = Some order; gathered = None } in
+    kinds_of o order c.args.seats.items c.requires.played.0 (order_parts o order refl c.requires.played.1.own) c.requires.played.1
 
 pub returns-clause-names : goal.returns-clause-names
 returns-clause-names c =
@@ -52,11 +64,11 @@ returns-clause-names c =
     let order = c.args.order in
     let lists = c.filled-lists.result in
     let legal : IsLegal k order.events = c.requires.legal in
-    let held = subst (λ l. HoldsLists k job.script l k.replicas lists) c.as_slice.ensures c.filled-lists.ensures in
+    let held = subst (λ l. HoldsLists (is_eager c.args._kind) k job.script l k.replicas lists) c.as_slice.ensures c.filled-lists.ensures in
     let played = c.requires.played.1 in
     let o : Outcome = record { job = job; logs = c.from_vec.result; commits = c.from_vec-2.result; replies = c.printed-printed.result; own_replies = c.from_vec-3.result; ends = c.from_vec-4.result; order = Some order; gathered = None } in
-    let run = run_of o order lists c.args.seats.items c.requires.played.0 refl legal c.from_vec.ensures c.from_vec-2.ensures c.from_vec-3.ensures c.from_vec-4.ensures held played c.requires.ended c.requires.spelled
-    (printed_is job job.script order.events lists c.printed-printed.result c.requires.spelled held c.printed-printed.ensures) in
+    let run = run_of (is_eager c.args._kind) o order lists c.args.seats.items c.requires.played.0 refl legal c.from_vec.ensures c.from_vec-2.ensures c.from_vec-3.ensures c.from_vec-4.ensures held played c.requires.ended c.requires.spelled
+    (printed_is (is_eager c.args._kind) job job.script order.events lists c.printed-printed.result c.requires.spelled held c.printed-printed.ensures) in
     named_of o order c.args.seats.items c.requires.played.0 run refl played
 
 pub returns-clause-none_outrun : goal.returns-clause-none_outrun
@@ -66,38 +78,73 @@ returns-clause-none_outrun c =
     let order = c.args.order in
     let lists = c.filled-lists.result in
     let legal : IsLegal k order.events = c.requires.legal in
-    let held = subst (λ l. HoldsLists k job.script l k.replicas lists) c.as_slice.ensures c.filled-lists.ensures in
+    let held = subst (λ l. HoldsLists (is_eager c.args._kind) k job.script l k.replicas lists) c.as_slice.ensures c.filled-lists.ensures in
     let played = c.requires.played.1 in
     let o : Outcome = record { job = job; logs = c.from_vec.result; commits = c.from_vec-2.result; replies = c.printed-printed.result; own_replies = c.from_vec-3.result; ends = c.from_vec-4.result; order = Some order; gathered = None } in
-    let run = run_of o order lists c.args.seats.items c.requires.played.0 refl legal c.from_vec.ensures c.from_vec-2.ensures c.from_vec-3.ensures c.from_vec-4.ensures held played c.requires.ended c.requires.spelled
-    (printed_is job job.script order.events lists c.printed-printed.result c.requires.spelled held c.printed-printed.ensures) in
+    let run = run_of (is_eager c.args._kind) o order lists c.args.seats.items c.requires.played.0 refl legal c.from_vec.ensures c.from_vec-2.ensures c.from_vec-3.ensures c.from_vec-4.ensures held played c.requires.ended c.requires.spelled
+    (printed_is (is_eager c.args._kind) job job.script order.events lists c.printed-printed.result c.requires.spelled held c.printed-printed.ensures) in
     none_outrun_of o order c.args.seats.items c.requires.played.0 c.requires.good run refl played
 
 pub returns-clause-applies : goal.returns-clause-applies
-returns-clause-applies c =
+returns-clause-applies c plain =
     let job = c.args.job in
     let k = job.config in
     let order = c.args.order in
     let lists = c.filled-lists.result in
     let legal : IsLegal k order.events = c.requires.legal in
-    let held = subst (λ l. HoldsLists k job.script l k.replicas lists) c.as_slice.ensures c.filled-lists.ensures in
+    let held = subst (λ l. HoldsLists (is_eager c.args._kind) k job.script l k.replicas lists) c.as_slice.ensures c.filled-lists.ensures in
     let played = c.requires.played.1 in
     let o : Outcome = record { job = job; logs = c.from_vec.result; commits = c.from_vec-2.result; replies = c.printed-printed.result; own_replies = c.from_vec-3.result; ends = c.from_vec-4.result; order = Some order; gathered = None } in
-    let run = run_of o order lists c.args.seats.items c.requires.played.0 refl legal c.from_vec.ensures c.from_vec-2.ensures c.from_vec-3.ensures c.from_vec-4.ensures held played c.requires.ended c.requires.spelled
-    (printed_is job job.script order.events lists c.printed-printed.result c.requires.spelled held c.printed-printed.ensures) in
-    let diligent = diligent_of o order.events lists (order_parts o order refl c.requires.played.1.own) held in
-    record { first = applies_of o order c.args.seats.items c.requires.played.0 c.requires.good run refl played diligent; last = applies_after o order c.args.seats.items c.requires.played.0 c.requires.good run refl played diligent; any = any_ring_of o order c.args.seats.items c.requires.played.0 c.requires.good run refl played diligent; each = finishes_of o order c.args.seats.items c.requires.played.0 c.requires.good run refl played diligent; each_after_stops = finishes_after o order c.args.seats.items c.requires.played.0 c.requires.good run refl played diligent; each_in_any_ring = finishes_in_any_ring o order c.args.seats.items c.requires.played.0 c.requires.good run refl played diligent; last_in_any_ring = applies_in_any_ring o order c.args.seats.items c.requires.played.0 c.requires.good run refl played diligent; each_after_stops_in_any_ring = finishes_in_small_rings o order c.args.seats.items c.requires.played.0 c.requires.good run refl played diligent }
+    let run = run_of (is_eager c.args._kind) o order lists c.args.seats.items c.requires.played.0 refl legal c.from_vec.ensures c.from_vec-2.ensures c.from_vec-3.ensures c.from_vec-4.ensures held played c.requires.ended c.requires.spelled
+    (printed_is (is_eager c.args._kind) job job.script order.events lists c.printed-printed.result c.requires.spelled held c.printed-printed.ensures) in
+    let even = subst (λ z. PlayedBy z k job.script order.events c.args.seats.items c.requires.played.0 0) plain played in
+    let diligent = subst (λ z. AreDiligentBy (is_eager z) o) plain (diligent_of (is_eager c.args._kind) o order.events lists (order_parts o order refl played.own) held) in
+    record { first = applies_of o order c.args.seats.items c.requires.played.0 c.requires.good run refl even diligent; last = applies_after o order c.args.seats.items c.requires.played.0 c.requires.good run refl even diligent; any = any_ring_of o order c.args.seats.items c.requires.played.0 c.requires.good run refl even diligent; each = finishes_of o order c.args.seats.items c.requires.played.0 c.requires.good run refl even diligent; each_after_stops = finishes_after o order c.args.seats.items c.requires.played.0 c.requires.good run refl even diligent; each_in_any_ring = finishes_in_any_ring o order c.args.seats.items c.requires.played.0 c.requires.good run refl even diligent; last_in_any_ring = applies_in_any_ring o order c.args.seats.items c.requires.played.0 c.requires.good run refl even diligent; each_after_stops_in_any_ring = finishes_in_small_rings o order c.args.seats.items c.requires.played.0 c.requires.good run refl even diligent }
+
+pub returns-clause-after_pauses : goal.returns-clause-after_pauses
+returns-clause-after_pauses c plain =
+    let job = c.args.job in
+    let k = job.config in
+    let order = c.args.order in
+    let lists = c.filled-lists.result in
+    let legal : IsLegal k order.events = c.requires.legal in
+    let held = subst (λ l. HoldsLists (is_eager c.args._kind) k job.script l k.replicas lists) c.as_slice.ensures c.filled-lists.ensures in
+    let played = c.requires.played.1 in
+    let o : Outcome = record { job = job; logs = c.from_vec.result; commits = c.from_vec-2.result; replies = c.printed-printed.result; own_replies = c.from_vec-3.result; ends = c.from_vec-4.result; order = Some order; gathered = None } in
+    let run = run_of (is_eager c.args._kind) o order lists c.args.seats.items c.requires.played.0 refl legal c.from_vec.ensures c.from_vec-2.ensures c.from_vec-3.ensures c.from_vec-4.ensures held played c.requires.ended c.requires.spelled
+    (printed_is (is_eager c.args._kind) job job.script order.events lists c.printed-printed.result c.requires.spelled held c.printed-printed.ensures) in
+    let even = subst (λ z. PlayedBy z k job.script order.events c.args.seats.items c.requires.played.0 0) plain played in
+    let diligent = subst (λ z. AreDiligentBy (is_eager z) o) plain (diligent_of (is_eager c.args._kind) o order.events lists (order_parts o order refl played.own) held) in
+    record { none_outrun = none_outrun_in_large o order c.args.seats.items c.requires.played.0 c.requires.good run refl even; applies = applies_after_pauses o order c.args.seats.items c.requires.played.0 c.requires.good run refl even diligent }
+
+pub returns-clause-by_then : goal.returns-clause-by_then
+returns-clause-by_then c plain =
+    let job = c.args.job in
+    let k = job.config in
+    let order = c.args.order in
+    let lists = c.filled-lists.result in
+    let legal : IsLegal k order.events = c.requires.legal in
+    let held = subst (λ l. HoldsLists (is_eager c.args._kind) k job.script l k.replicas lists) c.as_slice.ensures c.filled-lists.ensures in
+    let played = c.requires.played.1 in
+    let o : Outcome = record { job = job; logs = c.from_vec.result; commits = c.from_vec-2.result; replies = c.printed-printed.result; own_replies = c.from_vec-3.result; ends = c.from_vec-4.result; order = Some order; gathered = None } in
+    let run = run_of (is_eager c.args._kind) o order lists c.args.seats.items c.requires.played.0 refl legal c.from_vec.ensures c.from_vec-2.ensures c.from_vec-3.ensures c.from_vec-4.ensures held played c.requires.ended c.requires.spelled
+    (printed_is (is_eager c.args._kind) job job.script order.events lists c.printed-printed.result c.requires.spelled held c.printed-printed.ensures) in
+    let even = subst (λ z. PlayedBy z k job.script order.events c.args.seats.items c.requires.played.0 0) plain played in
+    let diligent = subst (λ z. AreDiligentBy (is_eager z) o) plain (diligent_of (is_eager c.args._kind) o order.events lists (order_parts o order refl played.own) held) in
+    all_by_then o order c.args.seats.items c.requires.played.0 c.requires.good run refl even diligent
 
 pub returns-clause-leads : goal.returns-clause-leads
-returns-clause-leads c =
+returns-clause-leads c plain =
     let job = c.args.job in
     let k = job.config in
     let order = c.args.order in
     let lists = c.filled-lists.result in
     let legal : IsLegal k order.events = c.requires.legal in
-    let held = subst (λ l. HoldsLists k job.script l k.replicas lists) c.as_slice.ensures c.filled-lists.ensures in
+    let held = subst (λ l. HoldsLists (is_eager c.args._kind) k job.script l k.replicas lists) c.as_slice.ensures c.filled-lists.ensures in
     let played = c.requires.played.1 in
     let o : Outcome = record { job = job; logs = c.from_vec.result; commits = c.from_vec-2.result; replies = c.printed-printed.result; own_replies = c.from_vec-3.result; ends = c.from_vec-4.result; order = Some order; gathered = None } in
-    let run = run_of o order lists c.args.seats.items c.requires.played.0 refl legal c.from_vec.ensures c.from_vec-2.ensures c.from_vec-3.ensures c.from_vec-4.ensures held played c.requires.ended c.requires.spelled
-    (printed_is job job.script order.events lists c.printed-printed.result c.requires.spelled held c.printed-printed.ensures) in
-    leads_of o order c.args.seats.items c.requires.played.0 c.requires.good run refl played (diligent_of o order.events lists (order_parts o order refl c.requires.played.1.own) held)
+    let run = run_of (is_eager c.args._kind) o order lists c.args.seats.items c.requires.played.0 refl legal c.from_vec.ensures c.from_vec-2.ensures c.from_vec-3.ensures c.from_vec-4.ensures held played c.requires.ended c.requires.spelled
+    (printed_is (is_eager c.args._kind) job job.script order.events lists c.printed-printed.result c.requires.spelled held c.printed-printed.ensures) in
+    let even = subst (λ z. PlayedBy z k job.script order.events c.args.seats.items c.requires.played.0 0) plain played in
+    let diligent = subst (λ z. AreDiligentBy (is_eager z) o) plain (diligent_of (is_eager c.args._kind) o order.events lists (order_parts o order refl played.own) held) in
+    leads_of o order c.args.seats.items c.requires.played.0 c.requires.good run refl even diligent

@@ -12,7 +12,7 @@ use Rattle.mu_cluster.proofs.Ports.{turned}
 use Rattle.mu_cluster.proofs.rounds.Seat.play.Goals as goal
 
 pub returns-in-Took-clause-plays : goal.returns-in-Took-clause-plays
-returns-in-Took-clause-plays g c script rounds same sits =
+returns-in-Took-clause-plays g c kind script rounds same sits =
     let before = c.args.self.now in
     let k = c.args.port.now.config in
     let old = c.args.port.now.events in
@@ -27,10 +27,10 @@ returns-in-Took-clause-plays g c script rounds same sits =
     let did = subst (λ u. IsTurn k script r (part_of r old) (part_of r new) (Some old) (Some new) u) c.in-Took.is t.did in
     let e : Event = record { by = r; verb = did.1.verb; answer = did.1.answer } in
     let list = same_some new (old ++ e ∷ []) did.1.told.list in
-    steps_here k script r old new e before _ rounds sits c.if-self.false long c.if-self.false refl t.stands stops did.0 list refl did.1.part
+    steps_here k script r old new e before _ rounds sits c.if-self.false long c.if-self.false refl t.stands stops (c.turn.ensures.zeal ∙ sits.zeal) did.0 list refl did.1.part
 
 pub returns-in-Took-clause-left : goal.returns-in-Took-clause-left
-returns-in-Took-clause-left g c script rounds sits =
+returns-in-Took-clause-left g c kind script rounds sits =
     let before = c.args.self.now in
     let k = c.args.port.now.config in
     let old = c.args.port.now.events in
@@ -47,7 +47,7 @@ returns-in-Took-clause-left g c script rounds sits =
     omega (arith, fewer, one)
 
 pub returns-in-Ended-clause-plays : goal.returns-in-Ended-clause-plays
-returns-in-Ended-clause-plays g c script rounds same sits =
+returns-in-Ended-clause-plays g c kind script rounds same sits =
     let before = c.args.self.now in
     let k = c.args.port.now.config in
     let old = c.args.port.now.events in
@@ -60,5 +60,5 @@ returns-in-Ended-clause-plays g c script rounds same sits =
     let list : new ≡ old = same_some new old did.2 in
     let stands = subst (λ l. StandsForNode k r (part_of r l) c.turn.new.self) list t.stands in
     let after : Seat = record { node = c.turn.new.self; waited = before.waited; ended = true } in
-    subst (λ l. Plays k script r old l before after rounds) (sym list)
-    (ends_here k script r old before after rounds _ sits c.if-self.false refl refl stands stops did.0)
+    subst (λ l. Plays kind k script r old l before after rounds) (sym list)
+    (ends_here k script r old before after rounds _ sits c.if-self.false refl refl stands stops (c.turn.ensures.zeal ∙ sits.zeal) did.0)

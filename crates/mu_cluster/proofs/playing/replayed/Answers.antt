@@ -9,13 +9,15 @@ use Rattle.mu_outcome.proofs.Completing.{completes_over}
 use Rattle.mu_cluster.proofs.Agreeing.{agrees_of, over_order, within_of}
 use Rattle.mu_cluster.proofs.AllTold.{finished_with}
 use Rattle.mu_cluster.proofs.AnyRing.{any_lives}
+use Rattle.mu_cluster.proofs.Committing.{stays_alive}
 use Rattle.mu_cluster.proofs.Unblocking.{unblocked_lives}
 use Rattle.mu_cluster.proofs.Lives.{lives_of}
 use Rattle.mu_cluster.proofs.Outliving.{outlives_of}
 use Rattle.mu_cluster.proofs.Outrunning.{spends_of}
+use Rattle.mu_cluster.proofs.Pausing.{after_pauses_of}
 use Rattle.mu_cluster.specs.declared.rounds.Seat.{Seat}
-use Rattle.mu_cluster.specs.Rounds.{Played}
-use Rattle.mu_cluster.proofs.playing.replay_over.Goals as goal
+use Rattle.mu_cluster.specs.Rounds.{PlayedBy}
+use Rattle.mu_cluster.proofs.playing.replayed.Goals as goal
 
 pub outcome-requires-clause-legal : goal.outcome-requires-clause-legal
 outcome-requires-clause-legal g c =
@@ -25,16 +27,17 @@ outcome-requires-clause-legal g c =
 pub outcome-requires-clause-played : goal.outcome-requires-clause-played
 outcome-requires-clause-played g c =
     let job = c.args.job in
+    let kind = c.args.kind in
     let given = c.args.memory in
     let left = c.finished-memory.result in
     let back = take_at c.finished-memory.new.seats (drop (length c.finished-memory.new.seats) c.in_ok-seats.seats.items) c.in_ok-seats.seats.len (c.finished-memory.auto.seats ∙ c.deref_mut.ensures.len) in
-    let a = subst (λ l. Played job.config job.script [] l 0 0) (sym c.deref_mut.ensures.value) c.in_ok-seats.ensures.played in
-    let b = subst (λ e. Played job.config job.script e c.deref_mut.result.now 0 0) (sym c.requires.empty) a in
-    let d = subst (λ k. Played k job.script (g.M.Memory.events given) c.deref_mut.result.now 0 0) (sym c.requires.same_config) b in
-    let more = c.finished-memory.ensures.played job.script 0 c.as_slice.ensures d in
-    let e = subst (λ k. Played k job.script (g.M.Memory.events left) c.finished-memory.new.seats more.0 0) c.requires.same_config more.1 in
-    let f = subst (λ es. Played job.config job.script es c.finished-memory.new.seats more.0 0) (sym c.into_events.ensures.events) e in
-    (more.0, subst (λ l. Played job.config job.script c.into_events.result.events l more.0 0) (sym back) f)
+    let a = subst (λ l. PlayedBy kind job.config job.script [] l 0 0) (sym c.deref_mut.ensures.value) c.in_ok-seats.ensures.played in
+    let b = subst (λ e. PlayedBy kind job.config job.script e c.deref_mut.result.now 0 0) (sym c.requires.empty) a in
+    let d = subst (λ k. PlayedBy kind k job.script (g.M.Memory.events given) c.deref_mut.result.now 0 0) (sym c.requires.same_config) b in
+    let more = c.finished-memory.ensures.played kind job.script 0 c.as_slice.ensures d in
+    let e = subst (λ k. PlayedBy kind k job.script (g.M.Memory.events left) c.finished-memory.new.seats more.0 0) c.requires.same_config more.1 in
+    let f = subst (λ es. PlayedBy kind job.config job.script es c.finished-memory.new.seats more.0 0) (sym c.into_events.ensures.events) e in
+    (more.0, subst (λ l. PlayedBy kind job.config job.script c.into_events.result.events l more.0 0) (sym back) f)
 
 pub outcome-requires-clause-ended : goal.outcome-requires-clause-ended
 outcome-requires-clause-ended g c =
@@ -56,9 +59,17 @@ returns-clause-spends g c =
     spends_of o run (completes_over o run.order.events good have (over_order o run) (agrees_of o good have run)) c.outcome.ensures.none_outrun
 
 pub returns-clause-lives : goal.returns-clause-lives
-returns-clause-lives g c =
+returns-clause-lives g c plain =
     let o = c.outcome.result in
     let good = subst (λ (j : Job). IsConfig j.config) (sym c.outcome.ensures.job) c.requires.config in
     let have = subst (λ (j : Job). HaveHeads j.config.width j.commands j.config.rows) (sym c.outcome.ensures.job) c.requires.heads in
     let run = c.outcome.ensures.run in
-    record { first = lives_of o good have run c.outcome.ensures.none_outrun c.outcome.ensures.applies.first; last = outlives_of o good have run c.outcome.ensures.none_outrun c.outcome.ensures.applies.last; any = any_lives o good have run c.outcome.ensures.none_outrun c.outcome.ensures.applies.any; each = λ unpaused k on time r low there. finished_with o r good have run low (c.outcome.ensures.applies.each unpaused k on time r low there); each_after_stops = λ unpaused s k on time r low there. finished_with o r good have run low (c.outcome.ensures.applies.each_after_stops unpaused s k on time r low there); each_in_any_ring = λ unpaused unstopped enough r low. finished_with o r good have run low (c.outcome.ensures.applies.each_in_any_ring unpaused unstopped enough r low); last_in_any_ring = unblocked_lives o good have run c.outcome.ensures.none_outrun c.outcome.ensures.applies.last_in_any_ring; each_after_stops_in_any_ring = λ unpaused s k on time r low there. finished_with o r good have run low (c.outcome.ensures.applies.each_after_stops_in_any_ring unpaused s k on time r low there) }
+    let applies = c.outcome.ensures.applies plain in
+    record { first = lives_of o good have run c.outcome.ensures.none_outrun applies.first; last = outlives_of o good have run c.outcome.ensures.none_outrun applies.last; any = any_lives o good have run c.outcome.ensures.none_outrun applies.any; each = λ unpaused k on time r low there. finished_with o r good have run low (applies.each unpaused k on time r low there); each_after_stops = λ unpaused s k on time r low there. finished_with o r good have run low (applies.each_after_stops unpaused s k on time r low there); each_in_any_ring = λ unpaused unstopped enough r low. finished_with o r good have run low (applies.each_in_any_ring unpaused unstopped enough r low); last_in_any_ring = unblocked_lives o good have run c.outcome.ensures.none_outrun applies.last_in_any_ring; each_after_stops_in_any_ring = λ unpaused s k on time r low there. finished_with o r good have run low (applies.each_after_stops_in_any_ring unpaused s k on time r low there); after_pauses = after_pauses_of o good have run (c.outcome.ensures.after_pauses plain).none_outrun (c.outcome.ensures.after_pauses plain).applies }
+
+pub returns-clause-alive : goal.returns-clause-alive
+returns-clause-alive g c plain =
+    let o = c.outcome.result in
+    let good = subst (λ (j : Job). IsConfig j.config) (sym c.outcome.ensures.job) c.requires.config in
+    let have = subst (λ (j : Job). HaveHeads j.config.width j.commands j.config.rows) (sym c.outcome.ensures.job) c.requires.heads in
+    stays_alive o good have c.outcome.ensures.run (c.outcome.ensures.by_then plain)
