@@ -8,7 +8,11 @@ LAST_STEP = 9_999_999
 TOP = os.path.dirname(os.path.dirname(os.path.dirname(os.path.abspath(__file__))))
 SIZE, TEXT, NUMBER = ctypes.c_size_t, ctypes.c_char_p, ctypes.c_uint32
 
-library = ctypes.CDLL(os.environ.get("LIBMU", os.path.join(TOP, "out", "libmu.so")))
+PATH = os.environ.get("LIBMU", os.path.join(TOP, "out", "libmu.so"))
+try:
+    library = ctypes.CDLL(PATH)
+except OSError as cause:
+    raise ImportError(f"there is no library at {PATH} that can be loaded: ./library builds it") from cause
 
 
 class Held(ctypes.Structure):

@@ -10,6 +10,7 @@ Each replica is a few generators that make one step at a time; a seeded dice say
 docs/TRACING.md says what the lines of a trace mean.
 """
 import random
+import signal
 import sys
 
 JOB = "mu 1\nreplicas 3\nring 8\nbudget 1000\nclient 0\nput a 5\nget a\nend\n"
@@ -127,7 +128,10 @@ def follower(r):
 
 def judge():
     """What the library says of the events, taken one after the other."""
-    import mu_library
+    try:
+        import mu_library
+    except ImportError as cause:
+        sys.exit(f"replicas.py: {cause}")
     with mu_library.Judge(JOB.encode()) as it:
         for event in events:
             if it.take(event.encode()) != mu_library.DONE:
@@ -137,6 +141,10 @@ def judge():
 
 def main():
     words = sys.argv[1:]
+    if not set(words) <= {"right", "early", "judged"}:
+        sys.exit(__doc__.strip())
+    # Who reads the trace may go before its end.
+    signal.signal(signal.SIGPIPE, signal.SIG_DFL)
     dice = random.Random(1)
     turns = [host(r) for r in REPLICAS] + [leader(0, "early" in words), follower(1), follower(2)]
     for _ in range(4000):
