@@ -118,10 +118,8 @@ fn reaches(taken: &AtomicU64, least: u64) -> bool {
     false
 }
 
-/// The round in which replicas that went on alone take this step; none before these rounds.
-fn round_of(step: u64) -> Option<u64> {
-    step.checked_sub(ALONE).filter(|round| *round < IN_TURNS)
-}
+/// The step after those that a replica takes alone and those in turns.
+const HELD: u64 = ALONE + IN_TURNS;
 
 impl Gate for FairAtLast {
     fn pass(&self, replica: u8, step: u32) {
@@ -134,21 +132,18 @@ impl Gate for FairAtLast {
             }
             1 => {
                 self.one.store(step, Ordering::SeqCst);
-                match round_of(step) {
-                    None => step > 0 || reaches(&self.two, ALONE),
-                    Some(round) => {
-                        reaches(&self.zero, round + 1) && reaches(&self.two, ALONE + round)
-                    }
+                if step < ALONE {
+                    step > 0 || reaches(&self.two, ALONE)
+                } else {
+                    step >= HELD
+                        || reaches(&self.zero, step - ALONE + 1) && reaches(&self.two, step)
                 }
             }
             _ => {
                 self.two.store(step, Ordering::SeqCst);
-                match round_of(step) {
-                    None => true,
-                    Some(round) => {
-                        reaches(&self.zero, round + 1) && reaches(&self.one, ALONE + round + 1)
-                    }
-                }
+                step < ALONE
+                    || step >= HELD
+                    || reaches(&self.zero, step - ALONE + 1) && reaches(&self.one, step + 1)
             }
         };
         if !held {
