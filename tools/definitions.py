@@ -1,18 +1,18 @@
 #!/usr/bin/env python3
-"""Makes docs/DEFINITIONS.md from the first lines of the files of definitions.
+"""Makes out/DEFINITIONS.md, the list of terms with their files, from the first lines of the files of definitions.
 
-    tools/definitions.py            writes the page
-    tools/definitions.py --check    prints what is stale; the last line is `definitions: N rows, N stale`
+    tools/definitions.py            writes the list
+    tools/definitions.py --check    prints which file has no row; the last line is `definitions: N rows, N wrong`
 
 A file of definitions (specs/ of each crate, but for the crates of tests) begins with a comment that
 names its terms and says in one sentence what they are:
 
     -- history, part, prefix: the list with the newest event first; the events of one replica, in order; ..
 
-Each paragraph of that form is a row of the page. What else the comment says begins with a capital
+Each paragraph of that form is a row of the list. What else the comment says begins with a capital
 letter, stands after an empty line `--`, and isn't taken over. If no paragraph names terms, the row has
-the name of the file in words, and the first sentence of the comment. The status of `--check` is 1 if a
-file begins with no comment, or if the page isn't the one that is made of the files.
+the name of the file in words, and the first sentence of the comment. The status is 1 if a file
+begins with no comment.
 """
 import os
 import re
@@ -22,14 +22,14 @@ import programs
 from beginning import begin
 from programs import CRATES, TOP
 
-PAGE = os.path.join(TOP, "docs", "DEFINITIONS.md")
+PAGE = os.path.join(TOP, "out", "DEFINITIONS.md")
 # The crates of tests, whose definitions serve only them.
 TESTS = "worked_"
 # A row: the terms, and after the first colon what they are.
 ROW = re.compile(r"(?P<terms>[a-z][a-z0-9 ,()'-]*): (?P<sentence>.+)\.")
 HEAD = """# Definitions
 
-A *history* is a list of events with the newest first; contracts cite the history of a list. The crates come from the ground up, and in a crate each file after those that it cites. `tools/definitions.py` makes this page: a row is the first comment of its file. `READING.md` tells how such a file is read.
+A *history* is a list of events with the newest first; contracts cite the history of a list. The crates come from the ground up, and in a crate each file after those that it cites. `tools/definitions.py` makes this list: a row is the first comment of its file. `docs/READING.md` tells how such a file is read.
 
 | term | in one sentence | file |
 |---|---|---|
@@ -99,12 +99,10 @@ def page(all_rows):
 
 
 def judged():
-    """How many rows the page has, and what is stale."""
+    """How many rows the list has, and which file has none."""
     all_rows = list(rows())
-    stale = [f"crates/{path}: no comment says what it defines" for path, them in all_rows if not them]
-    if text_of(PAGE) != page(all_rows):
-        stale.append("docs/DEFINITIONS.md isn't made of these files: run tools/definitions.py")
-    return sum(len(them) for _, them in all_rows), stale
+    silent = [f"crates/{path}: no comment says what it defines" for path, them in all_rows if not them]
+    return sum(len(them) for _, them in all_rows), silent
 
 
 def main():
@@ -113,10 +111,11 @@ def main():
         print("usage: tools/definitions.py [--check]")
         return 1
     if not sys.argv[1:]:
+        os.makedirs(os.path.dirname(PAGE), exist_ok=True)
         with open(PAGE, "w", encoding="utf-8") as out:
             out.write(page(rows()))
-    count, stale = judged()
-    return programs.tell(stale, f"definitions: {count} rows, {len(stale)} stale")
+    count, silent = judged()
+    return programs.tell(silent, f"definitions: {count} rows, {len(silent)} wrong")
 
 
 if __name__ == "__main__":

@@ -248,14 +248,9 @@ def tells_costs():
             yield len(cost_bounds.troubles("")) == wrong
 
 
-def tells_stale_definitions():
-    """The page of definitions is made of the files as they are, and each file says what it defines."""
+def tells_silent_definitions():
+    """Each file of definitions says what it defines."""
     yield definitions.judged()[1] == []
-    with tempfile.NamedTemporaryFile("w", encoding="utf-8") as page:
-        page.write(contents(definitions.PAGE).decode().replace("history", "list", 1))
-        page.flush()
-        with mock.patch.object(definitions, "PAGE", page.name):
-            yield len(definitions.judged()[1]) == 1
     with mock.patch.object(definitions, "paragraphs", return_value=[""]):
         yield len(definitions.judged()[1]) > 1
 
@@ -411,7 +406,7 @@ JUDGES = [
     tells_missing_answers, tells_statuses, tells_reports, tells_bounds,
     tells_own_traces, tells_pages, tells_clauses, tells_figures, tells_uncited_lemmas, tells_idle_imports,
     tells_stored_inputs, tells_rules, tells_breaks, tells_refused_memory, tells_finishers, tells_costs,
-    tells_stale_definitions, tells_hangs, tells_unfair_runs]
+    tells_silent_definitions, tells_hangs, tells_unfair_runs]
 
 
 def tried():
