@@ -16,7 +16,8 @@
  *   `out` has `room` bytes, and nothing that a call writes overlaps with anything else that it got.
  * - A `mu_judge` is MU_NO_JUDGE, or as the last call left it. It isn't copied. mu_judge_take,
  *   mu_judge_why and mu_judge_free get one that mu_judge_new made with MU_DONE and that wasn't freed
- *   since.
+ *   since; mu_judge_new gets one without a judge, since a judge that it had would be lost, with its
+ *   memory: free that first.
  * - One call at a time uses a judge. It may go from thread to thread, if a lock, a thread's start or
  *   join, or a sequentially consistent atomic orders the calls. Calls on other judges, and mu_answer
  *   and mu_draw_answer, may go on beside it.
@@ -80,7 +81,7 @@ typedef struct mu_judge {
 #define MU_NO_JUDGE { NULL }
 
 /* Makes a judge of a job: its text up to the first `end`. With MU_DONE it is there and `*taken` is 0;
- * else (MU_REFUSED, MU_NO_MEMORY, MU_TOO_LONG) there is none, and the text says why. */
+ * else (MU_REFUSED, MU_NO_MEMORY, MU_TOO_LONG) `*judge` is as it was, and the text says why. */
 uint32_t mu_judge_new(mu_judge *judge, const void *job, size_t length, void *out, size_t room,
                       size_t *taken);
 
@@ -90,7 +91,8 @@ uint32_t mu_judge_new(mu_judge *judge, const void *job, size_t length, void *out
 uint32_t mu_judge_take(mu_judge *judge, const void *line, size_t length);
 
 /* What `mu why` says of the trace so far: `legal N` with MU_DONE, or with MU_ILLEGAL which event broke
- * it, in which line of the trace, and why. A judge keeps no script: it notes no stop that isn't heeded. */
+ * it, in which line of the trace, and why; or MU_NO_MEMORY, and the judge goes on all the same. A
+ * judge keeps no script: it notes no stop that isn't heeded. */
 uint32_t mu_judge_why(mu_judge *judge, void *out, size_t room, size_t *taken);
 
 /* Lets a judge go, with its memory. It is MU_NO_JUDGE then. */

@@ -28,6 +28,8 @@ PROVED_LINE = re.compile(r"rt: (\w+) proved$")
 KEPT_LINE = re.compile(r"rt: (\w+) is kept: ")
 # What is read before the first line of a crate takes about as long as so many lines.
 LINES_BEFORE = 100
+# Before one of so many lines is proved, what they took says little about the others.
+LINES_A_TOLD_ONE = 20
 # How many processors a crate makes use of that nothing is proved beside.
 LANES_ALONE = 2
 # How many jobs the gate runs at once; else it chooses.
@@ -87,10 +89,11 @@ class Progress:
     def estimate(self):
         """About how long what is left takes, if anything of this run tells."""
         left, done = self.left(), sum(map(self.lines.get, self.proved))
-        if not left or not done:
+        ahead = sum(map(self.lines.get, left))
+        if not left or done * LINES_A_TOLD_ONE < done + ahead:
             return ""
         seconds_a_line = (time.monotonic() - self.began) * min(self.lanes, len(self.below)) / done
-        lines = max(sum(map(self.lines.get, left)) / self.lanes, self.longest_way(left) / min(self.lanes, LANES_ALONE))
+        lines = max(ahead / self.lanes, self.longest_way(left) / min(self.lanes, LANES_ALONE))
         minutes = seconds_a_line * lines / 60
         return f", about {minutes:.0f} minutes" if minutes >= 1.5 else ", about a minute"
 
