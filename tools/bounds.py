@@ -1,13 +1,21 @@
+#!/usr/bin/env python3
 """The bounds of docs/ALIVE.md, computed from their definitions in the sources.
 
-A definition is a sum: `name c x = ..` over numbers, `c.replicas`, `c.width` and other such definitions.
+    tools/bounds.py < JOB       prints what `mu enough` prints of the job
+    tools/bounds.py JOB         the same
+
+A definition is a sum: `name c x = ..` over numbers, `c.replicas`, `c.width` and other such definitions. What a
+case of a job is, is told here once more.
 """
 import os
 import re
+import sys
 
+from beginning import begin
 from programs import TOP
 
-FILES = ("mu_model/specs/Bounds.antt", "mu_pace/specs/Watches.antt", "mu_alive/specs", "mu_cluster/specs")
+FILES = ("mu_model/specs/Bounds.antt", "mu_pace/specs/Watches.antt", "mu_alive/specs", "mu_enough/specs",
+         "mu_cluster/specs")
 DEFINITION = re.compile(r"^abbrev pub (\w+) : Config (?:→ ℕ )*→ ℕ\n\1 c ?([\w ]*) =([^\n]*\n(?:    [^\n]*\n)*)",
                         re.M)
 TOKEN = re.compile(r"\d+|[\w.]+|[-+*()]")
@@ -88,3 +96,106 @@ def job_of(version, replicas, width, commands):
 def steps(name, version, replicas, width, commands, *values):
     """The bound of this name for such a job."""
     return bound(name, job_of(version, replicas, width, commands), *values)
+
+
+class Lines:
+    """The settings, the commands and the script of a job that is in the grammar."""
+
+    def __init__(self, text):
+        self.settings, self.stops, self.pauses, self.commands = {"batch": 1}, {}, [], 0
+        script = False
+        for words in (line.split(" ") for line in text.split("\n")):
+            if script and words[0] == "stop":
+                self.stops[int(words[1])] = int(words[2])
+            elif script and words[0] == "pause":
+                self.pauses.append(tuple(map(int, words[1:])))
+            elif words[0] in ("mu", "replicas", "ring", "budget", "batch"):
+                self.settings[words[0]] = int(words[1])
+            script = script or words == ["script"]
+            self.commands += words[0] in ("put", "get", "del", "swap", "cas")
+        self.version, self.replicas = self.settings["mu"], self.settings["replicas"]
+        self.job = job_of(self.version, self.replicas, self.settings["batch"], self.commands)
+        self.large_ring = self.commands + 2 * self.job["reserve"]
+        self.is_roomy = self.large_ring <= self.settings["ring"]
+        self.last_stop = max(self.stops.values(), default=0)
+        self.left = [r for r in range(self.replicas) if r not in self.stops]
+
+    def bound(self, name, *values):
+        return bound(name, self.job, *values)
+
+    def last_below(self):
+        """The last stop of a replica below the least that goes on."""
+        return max((steps for r, steps in self.stops.items() if r < self.left[0]), default=0)
+
+    def disturbed_until(self):
+        """The rounds after which no line disturbs a replay."""
+        paused = [sum(rounds for q, _, rounds in self.pauses if q == r) for r in range(self.replicas)]
+        return max([self.last_stop, *(steps for _, steps, _ in self.pauses)]) + max(paused) + 1
+
+
+class NotPromised(Exception):
+    """Why there is no number."""
+
+
+def committed_by(lines):
+    """The number of `committed_by` of mu_enough."""
+    if 2 * len(lines.left) <= lines.replicas:
+        raise NotPromised("half of the replicas are stopped")
+    if lines.pauses and not lines.is_roomy:
+        raise NotPromised(f"a line pauses and the ring is below {lines.large_ring}")
+    if lines.pauses:
+        return lines.disturbed_until() + lines.bound("steps_after_pauses")
+    if lines.is_roomy:
+        least = lines.left[0]
+        return lines.last_below() + lines.bound("steps_after", least) if least else lines.bound("steps_enough")
+    if not lines.stops:
+        return lines.bound("steps_in_any_ring")
+    if lines.version == 1:
+        raise NotPromised(f"a line stops, the ring is below {lines.large_ring}, version 1")
+    return lines.last_stop + lines.bound("steps_after_in_any_ring", lines.left[0])
+
+
+def finished_by(lines):
+    """That of `finished_by`."""
+    if 2 * len(lines.left) <= lines.replicas:
+        raise NotPromised("half of the replicas are stopped")
+    if lines.pauses:
+        raise NotPromised("a line pauses")
+    least = lines.left[0]
+    if lines.is_roomy:
+        led = lines.last_below() + lines.bound("finishing_after", least) if least else lines.bound("finishing_steps")
+        return max(led, lines.last_stop + lines.bound("failing_steps"))
+    if not lines.stops:
+        return lines.bound("finishing_in_any_ring")
+    if lines.version == 1:
+        raise NotPromised(f"a line stops, the ring is below {lines.large_ring}, version 1")
+    return lines.last_stop + lines.bound("finishing_after_in_any_ring", least)
+
+
+def told(text):
+    """What `mu enough` prints of a job."""
+    lines, out = Lines(text), []
+    budget = lines.settings["budget"]
+    for what, number, most in (("committed", committed_by, budget), ("finished", finished_by, budget - 1)):
+        try:
+            step = number(lines)
+        except NotPromised as why:
+            out.append(f"{what}: not promised, {why}\n")
+        else:
+            enough = "is enough" if step <= most else "is too small"
+            out.append(f"{what} by step {step}, budget {budget} {enough}\n")
+    return "".join(out)
+
+
+def main():
+    begin(__doc__)
+    if sys.argv[1:]:
+        with open(sys.argv[1], encoding="utf-8") as job:
+            text = job.read()
+    else:
+        text = sys.stdin.read()
+    print(told(text), end="")
+
+
+if __name__ == "__main__":
+    main()

@@ -1,13 +1,16 @@
 #!/usr/bin/env python3
-"""Checks that each clause that docs/PROVED.md names is one of the function that it names.
+"""Checks that each clause that docs/PROVED.md names is one of the function that it names, and that each name
+that tells its crate and file stands there.
 
     tools/clauses.py      prints what is stale; the last line is `clauses: N right, N stale`
 
 The second column of its tables names what carries a claim, as `f`, `Type::g`: `clause`, `other` (`Definition`).
-A clause is one of the `ensures` of a function of this name; of a type or a record it is a call or a part. The status
-is 1 if something is stale.
+A clause is one of the `ensures` of a function of this name; of a type or a record it is a call or a part. A name may
+begin with its place: `crate::file::f` (`crate::f` in src/lib.rt), `crate.File.Definition`. The status is 1 if
+something is stale.
 """
 import collections
+import functools
 import os
 import re
 import sys
@@ -21,6 +24,8 @@ BEGINS_TYPE = re.compile(r"(?:impl(?:<.*?>)? (?:[\w<>, ]+ for )?|pub record |pub
 BEGINS_CALL = re.compile(r"\s*(?:pub(?:\([^)]*\))? )?(?:unsafe )?(?:extern \"C\" )?fn (\w+)")
 CLAUSE = re.compile(r"\s*ensures (\w+) \{")
 PART = re.compile(r"  pub (\w+) :")
+# How a source begins a function or a type, and a file of definitions a definition.
+IN_CODE, IN_SPECS = r"\b(?:fn|struct|enum|trait) {}\b", r"^(?:abbrev )?pub (?:record |data )?{}\b"
 
 
 def parts_of(text):
@@ -53,14 +58,60 @@ def known():
     return found
 
 
+@functools.lru_cache(None)
+def source(*path):
+    """A file below crates/; nothing if there is none."""
+    try:
+        with open(os.path.join(CRATES, *path), encoding="utf-8") as text:
+            return text.read()
+    except OSError:
+        return ""
+
+
+def place_of(name):
+    """Where a name that begins with its crate says that it stands: the file and the rest of the name. None if it
+    doesn't begin so."""
+    crate, *rest = re.split(r"::|\.", name)
+    if not rest or not os.path.isdir(os.path.join(CRATES, crate)):
+        return None
+    if "." in name:
+        return (crate, "specs", rest[0] + ".antt"), rest[1:]
+    if len(rest) > 1 and source(crate, "src", rest[0] + ".rt"):
+        return (crate, "src", rest[0] + ".rt"), rest[1:]
+    return (crate, "src", "lib.rt"), rest
+
+
+def stands(name):
+    """Whether a name stands where it says."""
+    path, rest = place_of(name)
+    begins = (IN_SPECS if path[1] == "specs" else IN_CODE).format(rest[-1] if rest else "")
+    return bool(rest) and bool(re.search(begins, source(*path), re.M))
+
+
+def short(name):
+    """A name without its place."""
+    place = place_of(name)
+    return "::".join(place[1]) if place else name
+
+
+def carriers(line):
+    """The second column of a row of a table."""
+    cells = [it.strip() for it in line.strip().strip("|").split(" | ")]
+    return cells[1] if line.startswith("| ") and len(cells) > 1 else ""
+
+
+def placed_in(line):
+    """The names of a row that begin with their place."""
+    return [it for it in re.findall(r"`([^`]+)`", carriers(line)) if place_of(it)]
+
+
 def named_in(line):
     """What a row of a table names: pairs of a function, type or record and one of its clauses, calls or parts."""
-    cells = [it.strip() for it in line.strip().strip("|").split(" | ")]
-    for piece in cells[1].split(";") if line.startswith("| ") and len(cells) > 1 else []:
+    for piece in carriers(line).split(";"):
         owners, colon, parts = re.sub(r"\([^)]*\)", "", piece).replace("::", "@").partition(":")
         if colon:
             for owner in re.findall(r"`([^`]+)`", owners):
-                yield from ((owner.replace("@", "::"), part) for part in re.findall(r"`([^`]+)`", parts))
+                yield from ((short(owner.replace("@", "::")), part) for part in re.findall(r"`([^`]+)`", parts))
 
 
 def judged():
@@ -73,6 +124,11 @@ def judged():
                     right += 1
                 else:
                     stale.append(f"docs/PROVED.md:{number}: `{owner}` has no `{part}`")
+            for name in placed_in(line):
+                if stands(name):
+                    right += 1
+                else:
+                    stale.append(f"docs/PROVED.md:{number}: `{name}` doesn't stand there")
     return right, stale
 
 

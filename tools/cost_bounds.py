@@ -30,15 +30,20 @@ RUNS = [
     (["check"], "check", 77_500),
 ]
 # Two rows of which the first takes less time than the other, and how many times that it may take. If
-# leaders search all rows for a client's next batch, it takes about three times as many instructions.
-COMPARED = ("unequal", "7x1500", 1.5)
+# leaders search all rows for a client's next batch, the first of them takes about three times as many
+# instructions; so do the others if leaders go over all that they know at each of their steps.
+COMPARED = [
+    ("unequal", "7x1500", 1.5),
+    ("stopped", "5x1000", 1.5),
+    ("stops", "7x1500", 1.5),
+]
 # A row is run this often, and the least time is taken.
 TIMED_RUNS = 7
 KILOBYTE = 1024
 # The most that is tried, in kB.
 MOST = 1 << 20
 # How many bounds there are.
-COUNT = len(RUNS) + 1
+COUNT = len(RUNS) + len(COMPARED)
 
 
 def ends(program, words, given, most):
@@ -78,10 +83,8 @@ def troubles(program):
     """A line for each run that wants more than its bound."""
     wrong = [f"{' '.join(words)} over {row}: more than {most} kB" for words, row, most in RUNS
              if not ends(program, words, given_to(row), most)]
-    row, other, most = COMPARED
-    if seconds(program, row) > most * seconds(program, other):
-        wrong.append(f"replay over {row}: more than {most} times the time of {other}")
-    return wrong
+    return wrong + [f"replay over {row}: more than {most} times the time of {other}" for row, other, most in COMPARED
+                    if seconds(program, row) > most * seconds(program, other)]
 
 
 def main():
@@ -95,7 +98,9 @@ def main():
     if measures:
         for command, row, most in RUNS:
             print(f"{' '.join(command)} over {row}: {least(program, command, given_to(row))} kB, bound {most} kB")
-        print(*(f"replay over {row}: {seconds(program, row):.3f} s" for row in COMPARED[:2]), sep="\n")
+        for row, other, most in COMPARED:
+            print(f"replay over {row}: {seconds(program, row):.3f} s, over {other}: {seconds(program, other):.3f} s, "
+                  f"bound {most} times")
         return 0
     wrong = troubles(program)
     print(*wrong, f"{COUNT - len(wrong)} passed, {len(wrong)} failed", sep="\n")

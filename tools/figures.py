@@ -3,11 +3,12 @@
 
     tools/figures.py      prints what is stale; the last line is `figures: N right, N stale`
 
-The tables of docs/ALIVE.md are computed from the definitions of the bounds, limits are the constants of the
-crates, and counts are those of what is stored or run. What was measured is checked by nobody. The status is 1
-if something is stale.
+The table and the formulas of docs/ALIVE.md are computed from the definitions of the bounds, limits are the
+constants of the crates, and counts are those of what is stored or run. What was measured is checked by nobody.
+The status is 1 if something is stale.
 """
 import functools
+import itertools
 import os
 import re
 import sys
@@ -22,10 +23,8 @@ from bounds import DEFINITIONS, MOST_BUDGET, steps
 from programs import TOP
 
 CONSTANT = re.compile(r"^pub const (\w+): \w+ = ([\d_]+);", re.M)
-LARGEST_RING, MOST_COMMANDS, MOST_WIDTH = 1_024, 1_500, 4
-# The bounds that have tables.
-BOUNDS = {"steps_enough", "steps_after", "steps_in_any_ring", "finishing_steps", "finishing_after",
-          "finishing_in_any_ring", "steps_after_in_any_ring", "finishing_after_in_any_ring", "steps_after_pauses"}
+# The columns of the table of bounds: how many replicas, and the least that goes on at worst.
+COLUMNS = ((3, 1), (5, 2), (7, 3))
 
 
 def contents(path):
@@ -89,6 +88,8 @@ STATED = [
      lambda: [jobs_at_bounds("bound_jobs")]),
     ("docs/WORKING.md", r"runs `replay` over ([\d,]+) jobs at exactly a bound",
      lambda: [jobs_at_bounds("stop_jobs")]),
+    ("docs/MEASURED.md", r"([\d,]+) jobs at a bound",
+     lambda: [jobs_at_bounds("bound_jobs") + jobs_at_bounds("stop_jobs")]),
     ("docs/MEASURED.md", r"([\d,]+) jobs of `tools/bound_jobs.py`", lambda: [jobs_at_bounds("bound_jobs")]),
     ("docs/MEASURED.md", r"`tools/stop_jobs.py` runs ([\d,]+) jobs", lambda: [jobs_at_bounds("stop_jobs")]),
     ("docs/MEASURED.md", r"(\d+) in `cases/replay` and \d+ in `cases/more.table`",
@@ -96,18 +97,15 @@ STATED = [
                   for name in os.listdir(os.path.join(TOP, "cases", "replay")))]),
     ("docs/MEASURED.md", r"(\d+) judged traces in `crates/mu_judge/stdin`",
      lambda: [sum(name.startswith("check/") for name in contents("cases/judged.names").split("\n"))]),
-    # What ALIVE and PACE say in short of three replicas. A part that is left out may stand between two figures.
-    ("docs/ALIVE.md", r"(?s)has a place for each command \| ([\d,]+) \|.*?stops after at most ([\d,]+) steps \| ([\d,]+) \|",
-     lambda: [most("steps_enough"), MOST_BUDGET - steps("failing_steps", 1, 3, 1, 0) - 1, most("finishing_steps")]),
-    ("docs/ALIVE.md", r"(?s)such a ring \| \(([\d,]+) - k\) / ([\d,]+) .*?such a ring \| \(([\d,]+) - k\) / ([\d,]+) ",
-     lambda: [*after_stops("steps_after", 1), *after_stops("finishing_after", 1)]),
-    ("docs/ALIVE.md", r"(?s)nobody stops; any ring \| ([\d,]+) \|.*?nobody stops; any ring \| ([\d,]+) \|",
-     lambda: [most("steps_in_any_ring"), most("finishing_in_any_ring")]),
-    ("docs/ALIVE.md", r"(?s)on; any ring \| \(([\d,]+) - k\) / ([\d,]+) .*?on; any ring \| \(([\d,]+) - k\) / ([\d,]+) ",
-     lambda: [*after_stops("steps_after_in_any_ring", 2), *after_stops("finishing_after_in_any_ring", 2)]),
+    # What ALIVE and PACE say of three replicas.
+    ("docs/ALIVE.md", r"enough for ([\d,]+) commands by `steps_enough`, ([\d,]+) by `steps_in_any_ring`, "
+                      r"([\d,]+) by `finishing_steps` and ([\d,]+) by `finishing_in_any_ring`",
+     lambda: [most(it) for it in ("steps_enough", "steps_in_any_ring", "finishing_steps", "finishing_in_any_ring")]),
     ("docs/ALIVE.md", r"status is 0 up to N = ([\d,]+), and each replica finishes up to N = ([\d,]+)",
      lambda: [most("steps_in_any_ring"), most("finishing_in_any_ring")]),
     ("docs/ALIVE.md", r"a budget of 100,000; ([\d,]+) is enough", lambda: [steps("steps_enough", 1, 3, 1, 2)]),
+    ("docs/ALIVE.md", r"`stop 0 200` and `pause 1 40 300`: its number is ([\d,]+)",
+     lambda: [200 + 300 + 1 + steps("steps_after_pauses", 1, 3, 1, 2)]),
     ("docs/PACE.md", r"56 steps of each a command. The bound that is proved pays for ([\d,]+)",
      lambda: [steps("steps_enough", 1, 3, 1, 1) - steps("steps_enough", 1, 3, 1, 0)]),
     ("docs/PACE.md", r"a budget of ([\d,]+) steps is enough for 2 commands, ([\d,]+) for 10, ([\d,]+) for 100",
@@ -123,20 +121,6 @@ def number(text):
     return int(found.group().replace(",", "")) if found else None
 
 
-def fair():
-    """Each row of the table of the steps of a fair run: what a unit of the ratio takes, the rest, and a command."""
-    rows = re.findall(r"(?m)^\| (\d) \| ([\d,]+) f \| 3 d \| ([\d,]+) \| ([\d,]+) \|$", contents("docs/ALIVE.md"))
-    for row in rows:
-        replicas, *figures = [number(it) for it in row]
-
-        def taken(commands, ratio, lag, replicas=replicas):
-            return steps("steps_if_fair", 1, replicas, 1, commands, ratio, lag)
-
-        yield (f"docs/ALIVE.md: a fair run of {replicas}", [*figures, 3],
-               [taken(0, 1, 0) - taken(0, 0, 0), taken(0, 0, 0), taken(1, 0, 0) - taken(0, 0, 0),
-                taken(0, 0, 1) - taken(0, 0, 0)])
-
-
 def stated():
     """Each figure that is stated in a sentence: where, what stands there and what has to."""
     for page, pattern, wanted in STATED:
@@ -148,88 +132,34 @@ def stated():
             yield f"{page}: `{pattern}`", figures, wanted()
 
 
-class Table:
-    """The bound that a table of docs/ALIVE.md is of, and for which version and width of a batch."""
-
-    def __init__(self, name, version, width):
-        self.name, self.version, self.width = name, version, width
-
-    def steps(self, replicas, commands, values):
-        return steps(self.name, self.version, replicas, self.width, commands, *values)
-
-    def spared(self):
-        """How many steps the budget has above the bound."""
-        return 1 if self.name.startswith("finishing") else 0
-
-    def most_commands(self, replicas, values):
-        """For how many commands the greatest budget is enough; the ring has a place for each position."""
-        reserve = replicas if self.version == 2 else 0
-        most = MOST_COMMANDS if self.name.endswith("any_ring") else LARGEST_RING - 2 * reserve
-        enough, too_many = 0, most + 1
-        while enough + 1 < too_many:
-            middle = (enough + too_many) // 2
-            if self.steps(replicas, middle, values) + self.spared() <= MOST_BUDGET:
-                enough = middle
-            else:
-                too_many = middle
-        return enough
-
-    def cell(self, column, replicas, values):
-        """What a column holds; None for a number above the greatest budget."""
-        if column.startswith("most"):
-            return self.most_commands(replicas, values)
-        if column == "a command":
-            return self.steps(replicas, 1, values) - self.steps(replicas, 0, values)
-        found = self.steps(replicas, 0 if column == "fixed" else number(column), values)
-        return found if found <= MOST_BUDGET else None
+def fixed(name, version, replicas, s, commands=0):
+    """A bound for so many commands, with one command in a batch."""
+    return steps(name, version, replicas, 1, commands, *given(name, s, 1, 1))
 
 
 def most(name):
     """For how many commands of three replicas, in version 1, the greatest budget is enough by a bound."""
-    return Table(name, 1, 1).most_commands(3, [])
+    spared = 1 if name.startswith("finishing") else 0
+    commands = 0
+    while fixed(name, 1, 3, 1, commands + 1) + spared <= MOST_BUDGET:
+        commands += 1
+    return commands
 
 
-def after_stops(name, version):
-    """For three replicas, of which 1 goes on: what the greatest budget leaves for commands, and what each takes."""
-    table = Table(name, version, 1)
-    fixed = table.steps(3, 0, [1])
-    return [MOST_BUDGET - fixed - table.spared(), table.steps(3, 1, [1]) - fixed]
-
-
-def tables():
-    """Each figure of the tables of bounds: of the bound stated last before it, and of the version named last."""
-    name, version, columns = None, (1, 1), []
-    for at, line in enumerate(contents("docs/ALIVE.md").split("\n"), 1):
+def table_of_bounds():
+    """Each cell of the table of bounds: the fixed steps in version 1 and in version 2, and what a command adds."""
+    for line in contents("docs/ALIVE.md").split("\n"):
         cells = [it.strip() for it in line.strip("|").split("|")]
-        begins = re.match(r"    (\w+) += ", line)
-        if begins and begins.group(1) in BOUNDS:
-            name = begins.group(1)
-        elif line.startswith("In version "):
-            width = MOST_WIDTH if line.startswith("In version 2 with batches of up to four") else 1
-            version = (2 if line.startswith("In version 2") else 1, width)
-        elif line.startswith("| replicas |") and "fixed" in cells:
-            columns = cells
-        elif columns and line.startswith("|") and cells[0].isdigit():
-            values = [int(cells[1])] if columns[1] == "s" else []
-            for column, text in list(zip(columns, cells))[1 + len(values):]:
-                wanted = Table(name, *version).cell(column, int(cells[0]), values)
-                yield f"docs/ALIVE.md:{at}: {column}", number(text), wanted
-        elif not line.startswith("|"):
-            columns = []
-
-
-def in_version_two():
-    """Each figure of the table whose rows name their bound: in version 2 with one command in a batch."""
-    columns = []
-    for at, line in enumerate(contents("docs/ALIVE.md").split("\n"), 1):
-        cells = [it.strip() for it in line.strip("|").split("|")]
-        if line.startswith("| bound | replicas | s |"):
-            columns = cells
-        elif line.startswith("| `") and cells[0].strip("`") in BOUNDS:
-            values = [int(cells[2])] if cells[2] else []
-            for column, text in list(zip(columns, cells))[3:]:
-                wanted = Table(cells[0].strip("`"), 2, 1).cell(column, int(cells[1]), values)
-                yield f"docs/ALIVE.md:{at}: {cells[0]}, {column}", number(text), wanted
+        name = re.search(r"`(\w+)`$", cells[1]) if len(cells) == 5 else None
+        if name and name.group(1) in DEFINITIONS:
+            name = name.group(1)
+            versions = (2,) if "after_in_any_ring" in name else (1, 2)
+            for (replicas, s), cell in zip(COLUMNS, cells[2:]):
+                wanted = [fixed(name, it, replicas, s) for it in versions]
+                wanted.append(fixed(name, 2, replicas, s, 1) - fixed(name, 2, replicas, s))
+                found = [number(it) for it in re.split(r" [/+] ", cell)]
+                yield from ((f"docs/ALIVE.md: {name} of {replicas}", *it)
+                            for it in itertools.zip_longest(found, wanted))
 
 
 class Formula:
@@ -281,7 +211,7 @@ def formulas():
 
 def judged():
     """How many figures are right, and which are stale."""
-    found = [*stated(), *tables(), *in_version_two(), *fair(), *formulas()]
+    found = [*stated(), *table_of_bounds(), *formulas()]
     stale = [f"{where}: {stands}, and {wanted} is right" for where, stands, wanted in found if stands != wanted]
     return len(found) - len(stale), stale
 

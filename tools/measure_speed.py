@@ -21,10 +21,10 @@ TOP = os.path.dirname(os.path.dirname(os.path.abspath(__file__)))
 RING, BUDGET = 64, 131071
 
 
-def job(replicas, shares, version=1, batch=None):
+def job(replicas, shares, version=1, batch=None, ring=RING, stops=()):
     """A job of clients that send `put kK K`, with K counted over all commands as they come in turn.
 
-    shares has the number of commands of each client.
+    shares has the number of commands of each client, stops the replicas that stop and after how many steps.
     """
     sent = [[] for _ in shares]
     count = 0
@@ -33,10 +33,11 @@ def job(replicas, shares, version=1, batch=None):
             if len(own) < share:
                 own.append(f"put k{count} {count}")
                 count += 1
-    lines = [f"mu {version}", f"replicas {replicas}", f"ring {RING}", f"budget {BUDGET}"]
+    lines = [f"mu {version}", f"replicas {replicas}", f"ring {ring}", f"budget {BUDGET}"]
     lines += [f"batch {batch}"] if batch else []
     for client, own in enumerate(sent):
         lines += [f"client {client}", *own]
+    lines += ["script", *(f"stop {replica} {steps}" for replica, steps in stops)] if stops else []
     return "\n".join([*lines, "end", ""]).encode()
 
 
@@ -55,6 +56,11 @@ ROWS = {
     "sixteen": ("replay", job(3, even(1500, 16))),
     "3x400": ("replay", job(3, even(400))),
     "batches": ("replay", job(3, even(1500, 16), 2, 4)),
+    "5x1000": ("replay", job(5, even(1000, 5))),
+    "stopped": ("replay", job(5, even(1000, 5), ring=1024, stops=[(0, 500)])),
+    "stopped few": ("replay", job(5, even(125, 5), ring=1024, stops=[(0, 500)])),
+    "stops": ("replay", job(7, even(1490, 5), 2, 1, 1024, [(0, 500), (1, 4000), (2, 9000)])),
+    "no majority": ("replay", job(5, even(900, 5), stops=[(2, 10), (3, 10), (4, 10)])),
     "trace": ("trace", job(7, even(400))),
     "check": ("check", None),
     "broken": ("check", None),

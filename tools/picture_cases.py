@@ -14,6 +14,7 @@ import sys
 import beginning
 
 COLOURS = ("#e69f00", "#56b4e9", "#009e73", "#f0e442", "#0072b2", "#d55e00", "#cc79a7")
+TITLE = "<title>A run of replicas: their steps from top to bottom</title>"
 STYLE = ("text{font:9px sans-serif;paint-order:stroke;stroke:#fff;stroke-width:5px}"
          ".t{font-family:monospace}.s{text-anchor:end;fill:#555}path{stroke:#000;fill:none}"
          "rect,circle{stroke:#000;stroke-width:.6}.w,.l,.z{stroke:none}.w,.c{fill:#fff}"
@@ -582,8 +583,9 @@ def drawn(text, first=0, last=9999999, brief=False, broken=None):
     over.label(4, 14, f"version {job.version}, {n} replicas, ring {job.ring}: {rows} of {stop - start} steps drawn"
                       f"{', in brief' if brief else ''}, from step {start} on")
     legend(over)
-    return (f"<svg xmlns='http://www.w3.org/2000/svg' viewBox='0 0 {width} {height}' width='{width}' "
-            f"height='{height}'>\n<style>{STYLE}</style>\n{HATCHING}" + "".join(over.parts + head + out.parts) + "</svg>\n")
+    return (f"<svg xmlns='http://www.w3.org/2000/svg' role='img' viewBox='0 0 {width} {height}' "
+            f"width='{width}' height='{height}'>\n{TITLE}\n<style>{STYLE}</style>\n{HATCHING}"
+            + "".join(over.parts + head + out.parts) + "</svg>\n")
 
 
 def parts_of(text):

@@ -12,6 +12,7 @@ A job, as examples/put-and-get.job, is read by
     run        the same with a thread for each replica
     trace      prints the job and each event of its replay: a trace
     eager trace    the same of the replay by such replicas
+    enough     runs nothing: by which step of its replay all is committed, and finished, and whether the budget is enough
     live K     a run, and then K readers of the longest log on threads of their own (K from 1 to 4)
     desk       a run whose clients send their commands from threads
     book       takes commands for orders, and prints the trades and what rests

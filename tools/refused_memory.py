@@ -26,6 +26,7 @@ NO_MEMORY, SAID = 6, b"no memory\n"
 COMMANDS = [
     ("mu", ["replay"], "put-and-get.job"), ("mu", ["run"], "put-and-get.job"), ("mu", ["trace"], "put-and-get.job"),
     ("mu", ["eager"], "put-and-get.job"), ("mu", ["eager", "trace"], "put-and-get.job"),
+    ("mu", ["enough"], "put-and-get.job"),
     ("mu", ["check"], "late-exchange.trace"), ("mu", ["check"], "grant-before-drain.trace"),
     ("mu", ["why"], "late-exchange.trace"), ("mu", ["why"], "grant-before-drain.trace"),
     ("mu", ["tell"], "late-exchange.trace"), ("mu", ["show", "20"], "late-exchange.trace"), ("mu", ["bulk", "3"], None),

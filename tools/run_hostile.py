@@ -351,6 +351,7 @@ def main():
         jobs = [(["replay"], TWO_CLIENTS), (["run"], TWO_CLIENTS), (["trace"], TWO_CLIENTS), (["check"], trace),
                 (["check"], judged), (["check"], broken), (["why"], judged), (["why"], broken), (["tell"], trace),
                 (["show", "9"], trace), (["replay"], BATCHED), (["eager"], TWO_CLIENTS), (["eager", "trace"], BATCHED),
+                (["enough"], BATCHED),
                 (["desk"], TWO_CLIENTS), (["book"], TWO_CLIENTS), (["live", "2"], TWO_CLIENTS), (["bulk", "10"], b"")]
         for words, given in jobs:
             if given:

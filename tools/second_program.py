@@ -26,7 +26,7 @@ from stop_jobs import stop_cases
 
 ANCHORS = os.path.join(TOP, "tools", "anchors")
 SOURCES = {"plain_mu": "plain_mu/main.rs", "locked_log": "locked_log.rs", "rings": "rings.rs"}
-STORED = ("replay", "trace", "more.table", "astray", "astray.table")
+STORED = ("replay", "trace", "more.table", "astray", "astray.table", "enough.table")
 # The report and the trace of a replay by plain nodes, and by eager ones.
 REPLAYS = ((["replay"], ["trace"]), (["eager"], ["eager", "trace"]))
 REFUSED = 2
@@ -122,6 +122,7 @@ def compare(programs, jobs, seed):
     for _ in range(jobs):
         given = random_job(chance)
         is_same = all([are_same(programs, chance, given, *words) for words in REPLAYS])
+        is_same = is_same and len({printed(program, ["enough"], given) for program in programs}) == 1
         if not is_same:
             print(f"not the same of this job:\n{given.decode()}")
         same += is_same
@@ -135,7 +136,7 @@ def stored_cases():
         if line.startswith((b"legal", b"illegal")):
             wanted = line.rstrip(b"\n") + b"\n"
             cases.append(trying.Case(name, ["check"], trace, wanted, run_cases.wanted_status(wanted)))
-    return [case for case in cases if case.words[0] in ("replay", "eager", "trace", "check")]
+    return [case for case in cases if case.words[0] in ("replay", "eager", "trace", "check", "enough")]
 
 
 def main():
@@ -153,8 +154,8 @@ def main():
         if given.jobs:
             same = compare((given.program, plain), given.jobs, given.seed)
             failed += given.jobs - same
-            print(f"random: of {same} of {given.jobs} jobs, by plain and by eager nodes, report, trace and "
-                  f"{1 + BROKEN} verdicts are the same")
+            print(f"random: of {same} of {given.jobs} jobs what is enough, and by plain and by eager nodes report, "
+                  f"trace and {1 + BROKEN} verdicts are the same")
     return 1 if failed else 0
 
 

@@ -1,3 +1,4 @@
 mod Views
 pub mod Runs
 pub mod InSession
+pub mod PartsBack

@@ -2,7 +2,8 @@
 use Rattle.std.specs.Prelude.{ℕ, List, ◌≤◌, length, ⊤}
 use Rattle.kv_store.specs.declared.TheConstants.{LAST_CLIENT, LAST_NUMBER, CAS_TEXT_BYTES}
 use Rattle.kv_store.specs.declared.command.Op.{Op}
-use Rattle.kv_store.specs.declared.command.Op.TheVariants.{Put, Get, Del, Swap, Cas}
+use Rattle.kv_store.specs.declared.command.Arguments.{Arguments}
+use Rattle.kv_store.specs.Kinds.{parts_of}
 
 -- what a client asks for: the client, the number of the command among those of this client, and the
 -- operation
@@ -13,19 +14,16 @@ pub record Request : Type 0 where
 
 -- the key that an operation is of
 abbrev pub key_of : Op → List ℕ
-key_of (Put key text) = key
-key_of (Get key) = key
-key_of (Del key) = key
-key_of (Swap key text) = key
-key_of (Cas key old new) = key
+key_of op = (parts_of op).key
 
 -- both texts of a cas are short, so that they stand side by side in the place of one text
+abbrev pub AreShort : Arguments → Type 0
+AreShort (Arguments.Texts first second) =
+    (length first ≤ CAS_TEXT_BYTES) × (length second ≤ CAS_TEXT_BYTES)
+AreShort _ = ⊤
+
 abbrev pub HasShortTexts : Op → Type 0
-HasShortTexts (Put key text) = ⊤
-HasShortTexts (Get key) = ⊤
-HasShortTexts (Del key) = ⊤
-HasShortTexts (Swap key text) = ⊤
-HasShortTexts (Cas key old new) = (length old ≤ CAS_TEXT_BYTES) × (length new ≤ CAS_TEXT_BYTES)
+HasShortTexts op = AreShort (parts_of op).arguments
 
 -- what a command may be
 pub record IsAllowed (client number : ℕ) (op : Op) : Type 0 where

@@ -1,5 +1,6 @@
 pub mod Words
 pub mod Padding
+pub mod Kinds
 pub mod Commands
 pub mod Tables
 pub mod Texts

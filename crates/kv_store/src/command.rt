@@ -1,6 +1,7 @@
-//! What clients ask for.
-ghost use Rattle.std.specs.Prelude.{◌≡◌, ◌↔◌, IsTrue, IsSome, IfSome};
-ghost use Rattle.kv_store.specs.Commands.{IsAllowed, HasShortTexts};
+//! What clients ask for: operations, each also by its parts, and commands.
+ghost use Rattle.std.specs.Prelude.{◌≡◌, ◌↔◌, ◌≤◌, length, IsTrue, IsSome, IfSome};
+ghost use Rattle.kv_store.specs.Commands.{AreShort, HasShortTexts, IsAllowed};
+ghost use Rattle.kv_store.specs.Kinds.{code_of_kind, kind_of_code, kind_of_name, name_of_kind, op_with, parts_of, shape_of_kind};
 
 use crate::{CAS_TEXT_BYTES, Key, LAST_CLIENT, LAST_NUMBER, Text};
 use std::marker::Model;
@@ -18,6 +19,168 @@ pub enum Op {
     Swap(Key, Text),
     /// Sets the second text if the key has the first.
     Cas(Key, Text, Text),
+}
+
+/// Which operation it is.
+#[derive(Clone, Copy)]
+pub enum OpKind {
+    /// `Op::Put`.
+    Put,
+    /// `Op::Get`.
+    Get,
+    /// `Op::Del`.
+    Del,
+    /// `Op::Swap`.
+    Swap,
+    /// `Op::Cas`.
+    Cas,
+}
+
+/// All kinds, in the order in which they are told.
+pub const OP_KINDS: [OpKind; 5] = [
+    OpKind::Put,
+    OpKind::Get,
+    OpKind::Del,
+    OpKind::Swap,
+    OpKind::Cas,
+];
+
+/// What an operation has besides its key.
+#[derive(Clone, Copy)]
+pub enum Arguments {
+    /// Nothing.
+    Nothing,
+    /// A text.
+    Text(Text),
+    /// Two texts.
+    Texts(Text, Text),
+}
+
+/// Which arguments these are.
+#[derive(Clone, Copy)]
+pub enum OpShape {
+    /// `Arguments::Nothing`.
+    Nothing,
+    /// `Arguments::Text`.
+    Text,
+    /// `Arguments::Texts`.
+    Texts,
+}
+
+/// An operation by its parts.
+#[derive(Clone, Copy)]
+pub struct OpParts {
+    /// Which operation.
+    pub kind: OpKind,
+    /// On which key.
+    pub key: Key,
+    /// With what.
+    pub arguments: Arguments,
+}
+
+impl OpKind {
+    /// Its number in a row.
+    pub fn code(self) -> u8
+        ensures { result ≡ code_of_kind self }
+    {
+        match self {
+            OpKind::Put => 1,
+            OpKind::Get => 2,
+            OpKind::Del => 3,
+            OpKind::Swap => 4,
+            OpKind::Cas => 5,
+        }
+    }
+
+    /// The kind with this number, if there is one.
+    pub fn of_code(code: u64) -> Option<OpKind>
+        ensures kind { result ≡ kind_of_code code }
+        ensures code { IfSome result (λ kind. code_of_kind kind ≡ code) }
+    {
+        match code {
+            1 => Some(OpKind::Put),
+            2 => Some(OpKind::Get),
+            3 => Some(OpKind::Del),
+            4 => Some(OpKind::Swap),
+            5 => Some(OpKind::Cas),
+            _ => None,
+        }
+    }
+
+    /// Its name in a line: at most 5 bytes.
+    pub fn name(self) -> &'static [u8]
+        ensures name { result.now ≡ name_of_kind self }
+        ensures short { length result.now ≤ 5 }
+    {
+        match self {
+            OpKind::Put => b"put",
+            OpKind::Get => b"get",
+            OpKind::Del => b"del",
+            OpKind::Swap => b"swap",
+            OpKind::Cas => b"cas",
+        }
+    }
+
+    /// The kind with this name, if there is one.
+    pub fn of_name(name: &[u8]) -> Option<OpKind>
+        ensures { result ≡ kind_of_name name.now }
+    {
+        match name {
+            b"put" => Some(OpKind::Put),
+            b"get" => Some(OpKind::Get),
+            b"del" => Some(OpKind::Del),
+            b"swap" => Some(OpKind::Swap),
+            b"cas" => Some(OpKind::Cas),
+            _ => None,
+        }
+    }
+
+    /// What it has besides its key.
+    pub fn shape(self) -> OpShape
+        ensures { result ≡ shape_of_kind self }
+    {
+        match self {
+            OpKind::Get | OpKind::Del => OpShape::Nothing,
+            OpKind::Put | OpKind::Swap => OpShape::Text,
+            OpKind::Cas => OpShape::Texts,
+        }
+    }
+}
+
+impl Op {
+    /// Its parts.
+    pub fn parts(&self) -> OpParts
+        ensures { result ≡ parts_of self.now }
+    {
+        let (kind, key, arguments) = match *self {
+            Op::Put(key, text) => (OpKind::Put, key, Arguments::Text(text)),
+            Op::Get(key) => (OpKind::Get, key, Arguments::Nothing),
+            Op::Del(key) => (OpKind::Del, key, Arguments::Nothing),
+            Op::Swap(key, text) => (OpKind::Swap, key, Arguments::Text(text)),
+            Op::Cas(key, old, new) => (OpKind::Cas, key, Arguments::Texts(old, new)),
+        };
+        OpParts {
+            kind,
+            key,
+            arguments,
+        }
+    }
+
+    /// The operation with these parts, if the kind has such arguments.
+    pub fn of_parts(key: Key, kind: OpKind, arguments: Arguments) -> Option<Op>
+        ensures op { result ≡ op_with key kind arguments }
+        ensures parts { IfSome result (λ op. parts_of op
+            ≡ record { kind = kind; key = key; arguments = arguments }) }
+    {
+        match (kind, arguments) {
+            (OpKind::Put, Arguments::Text(text)) => Some(Op::Put(key, text)),
+            (OpKind::Get, Arguments::Nothing) => Some(Op::Get(key)),
+            (OpKind::Del, Arguments::Nothing) => Some(Op::Del(key)),
+            (OpKind::Swap, Arguments::Text(text)) => Some(Op::Swap(key, text)),
+            (OpKind::Cas, Arguments::Texts(old, new)) => Some(Op::Cas(key, old, new)),
+            _ => None,
+        }
+    }
 }
 
 /// An operation that a client asks for. Contracts see a `Request`.
@@ -64,14 +227,22 @@ impl Command {
     }
 }
 
-/// Whether the texts of a `Cas` are short. Others may have any text.
+/// Whether the texts of an operation are short, if it has two.
 fn has_short_texts(op: &Op) -> bool
     ensures { IsTrue result ↔ HasShortTexts op.now }
 {
-    match op {
-        Op::Cas(_, old, new) => {
-            old.as_bytes().len() <= CAS_TEXT_BYTES && new.as_bytes().len() <= CAS_TEXT_BYTES
+    let parts = op.parts();
+    are_short(&parts.arguments)
+}
+
+/// Whether two texts are short. Others may have any length.
+fn are_short(arguments: &Arguments) -> bool
+    ensures { IsTrue result ↔ AreShort arguments.now }
+{
+    match arguments {
+        Arguments::Texts(first, second) => {
+            first.as_bytes().len() <= CAS_TEXT_BYTES && second.as_bytes().len() <= CAS_TEXT_BYTES
         }
-        Op::Put(_, _) | Op::Get(_) | Op::Del(_) | Op::Swap(_, _) => true,
+        Arguments::Nothing | Arguments::Text(_) => true,
     }
 }

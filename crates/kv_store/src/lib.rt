@@ -9,7 +9,7 @@ pub mod store;
 pub mod text;
 mod word;
 
-pub use command::{Command, Op};
+pub use command::{Arguments, Command, OP_KINDS, Op, OpKind, OpParts, OpShape};
 pub use key::Key;
 pub use store::{NoMemory, Reply, Store};
 pub use text::Text;

@@ -6,18 +6,15 @@ use Rattle.std.proofs.lemmas.Bool.Decides.{nat_tests}
 use Rattle.std.proofs.lemmas.List.Elements.{filter_map-append}
 use Rattle.std.proofs.lemmas.List.Filters.{sum_by-filter_both}
 use Rattle.std.proofs.lemmas.List.Sums.{sum_by-append, sum_by-cons}
-use Rattle.kv_store.specs.Commands.{Request}
-use Rattle.kv_store.specs.declared.command.Op.{Op}
-use Rattle.kv_store.specs.declared.command.Op.TheVariants.{Put, Get, Del, Swap, Cas}
+use Rattle.kv_store.specs.Commands.{Request, key_of}
 use Rattle.match_book.specs.declared.instruction.Instruction.{Instruction}
 use Rattle.match_book.specs.declared.instruction.Instruction.TheVariants.{Order, Cancel}
 use Rattle.match_book.specs.declared.order.Id.{Id}
 use Rattle.match_book.specs.declared.order.Resting.{Resting}
 use Rattle.match_book.specs.declared.order.Trade.{Trade}
 use Rattle.match_book.specs.Filling.{before_others, filled, from_others}
-use Rattle.match_book.specs.Laws.{left_of, quantity_of, quantity_of_op, quantity_placed}
-use Rattle.match_book.specs.Ledgers.{HaveDifferentIds, IsLedgerOf, IsMatched, IsObeyed, IsOpStep, Ledger, after_other, after_trades, id_of, is_named, leaving, remaining, takes_part, traded, with_left}
-use Rattle.match_book.specs.Orders.{instruction_of}
+use Rattle.match_book.specs.Laws.{left_of, quantity_of, quantity_placed}
+use Rattle.match_book.specs.Ledgers.{HaveDifferentIds, IsLedgerOf, IsMatched, IsObeyed, Ledger, after_other, after_trades, asked_by, id_of, is_named, leaving, remaining, takes_part, traded, with_left}
 use Rattle.match_book.specs.Places.{arranged, is_same}
 use Rattle.match_book.proofs.Parting.{all_back, not_both, by_cases}
 use Rattle.match_book.proofs.Arranging.{arranged_lessened}
@@ -93,9 +90,9 @@ left_with id order left =
 abbrev pub HasAll : List Request → Ledger → Type 0
 HasAll commands ledger = (id : Id) → quantity_of id commands ≡ traded id ledger.trades + left_of id ledger.book + left_of id ledger.cancelled
 
-placed_on : (id : Id) (commands : List Request) (command : Request) → quantity_of id (commands ++ command ∷ []) ≡ quantity_of id commands + own id (id_of command) (quantity_of_op command.op)
+placed_on : (id : Id) (commands : List Request) (command : Request) → quantity_of id (commands ++ command ∷ []) ≡ quantity_of id commands + own id (id_of command) (quantity_placed (asked_by command.op))
 placed_on id commands command =
-    let f : Request → ℕ = λ c. cond (is_same id (id_of c)) (quantity_of_op c.op) 0 in
+    let f : Request → ℕ = λ c. cond (is_same id (id_of c)) (quantity_placed (asked_by c.op)) 0 in
     omega (arith, sum_by-append f commands (command ∷ []), sum_by-cons f command [])
 
 traded_on : (id : Id) (trades more : List Trade) → traded id (trades ++ more) ≡ traded id trades + traded id more
@@ -156,19 +153,11 @@ obeyed_adds_up done command symbol (Some (Cancel number)) before after once soun
     omega arith
 obeyed_adds_up done command symbol None before after once sound step id = unchanged_adds_up id (id_of command) before after step
 
-op_adds_up : (done : List Request) (command : Request) (op : Op) (before after : Ledger) → HaveDifferentIds (done ++ command ∷ []) → IsSound done before → IsOpStep (id_of command) op before after → (id : Id) →
-    traded id after.trades + left_of id after.book + left_of id after.cancelled ≡ traded id before.trades + left_of id before.book + left_of id before.cancelled + own id (id_of command) (quantity_of_op op)
-op_adds_up done command (Put symbol text) before after once sound step id = obeyed_adds_up done command symbol (instruction_of text) before after once sound step id
-op_adds_up done command (Get key) before after once sound step id = unchanged_adds_up id (id_of command) before after step
-op_adds_up done command (Del key) before after once sound step id = unchanged_adds_up id (id_of command) before after step
-op_adds_up done command (Swap key text) before after once sound step id = unchanged_adds_up id (id_of command) before after step
-op_adds_up done command (Cas key old new) before after once sound step id = unchanged_adds_up id (id_of command) before after step
-
 -- in the ledger of commands with different ids all that was placed is somewhere
 pub ledger_has_all : (commands : List Request) (ledger : Ledger) → HaveDifferentIds commands → IsLedgerOf commands ledger → HasAll commands ledger
 ledger_has_all commands ledger once is =
     ledger_keeps HasAll (λ done command before after different sound has step id.
-    let one = op_adds_up done command command.op before after different sound step id in
+    let one = obeyed_adds_up done command (key_of command.op) (asked_by command.op) before after different sound step id in
     let now = has id in
     let more = placed_on id done command in
     omega arith) (λ id. refl) commands ledger once is

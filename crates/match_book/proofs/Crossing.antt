@@ -7,17 +7,14 @@ use Rattle.std.proofs.lemmas.Slice.Eq.{bytes_eq-Decides}
 use Rattle.std.specs.Cmp.Lexicographic.{nat_list_eq_equiv}
 use Rattle.std.proofs.lemmas.Bool.Decides.{nat_tests}
 use Rattle.std.proofs.lemmas.List.Elements.{All-from_recursion, filter_map-append}
-use Rattle.kv_store.specs.Commands.{Request}
-use Rattle.kv_store.specs.declared.command.Op.{Op}
-use Rattle.kv_store.specs.declared.command.Op.TheVariants.{Put, Get, Del, Swap, Cas}
+use Rattle.kv_store.specs.Commands.{Request, key_of}
 use Rattle.match_book.specs.declared.instruction.Instruction.{Instruction}
 use Rattle.match_book.specs.declared.instruction.Instruction.TheVariants.{Order, Cancel}
 use Rattle.match_book.specs.declared.order.Resting.{Resting}
 use Rattle.match_book.specs.declared.order.Side.{Side}
 use Rattle.match_book.specs.declared.order.Side.TheVariants.{Buy, Sell}
 use Rattle.match_book.specs.Filling.{before_others, filled, from_others, is_ahead}
-use Rattle.match_book.specs.Ledgers.{HaveDifferentIds, IsLedgerOf, IsMatched, IsObeyed, IsOpStep, Ledger, after_trades, id_of, is_named, leaving, remaining, traded, with_left}
-use Rattle.match_book.specs.Orders.{instruction_of}
+use Rattle.match_book.specs.Ledgers.{HaveDifferentIds, IsLedgerOf, IsMatched, IsObeyed, Ledger, after_trades, asked_by, id_of, is_named, leaving, remaining, traded, with_left}
 use Rattle.match_book.specs.Places.{IsInOrder, arranged, crosses, goes_first, is_equal_side, meet, other}
 use Rattle.match_book.proofs.Parting.{all_append, all_fail, all_filter, all_imply, all_pass, by_cases, parted_all}
 use Rattle.match_book.proofs.Arranging.{Lessens, arranged_in_order, arranged_lessened, in_order_filter}
@@ -142,16 +139,9 @@ obeyed_free done command symbol (Some (Cancel number)) before after once sound a
     subst AreFree (sym (ap (λ l. l.book) step)) (are_filtered (λ order. not (is_named (record { client = command.client; number = number }) symbol order)) before.book are)
 obeyed_free done command symbol None before after once sound are step = subst AreFree (sym (ap (λ l. l.book) step)) are
 
-op_free : (done : List Request) (command : Request) (op : Op) (before after : Ledger) → HaveDifferentIds (done ++ command ∷ []) → IsSound done before → AreFree before.book → IsOpStep (id_of command) op before after → AreFree after.book
-op_free done command (Put symbol text) before after once sound are step = obeyed_free done command symbol (instruction_of text) before after once sound are step
-op_free done command (Get key) before after once sound are step = subst AreFree (sym (ap (λ l. l.book) step)) are
-op_free done command (Del key) before after once sound are step = subst AreFree (sym (ap (λ l. l.book) step)) are
-op_free done command (Swap key text) before after once sound are step = subst AreFree (sym (ap (λ l. l.book) step)) are
-op_free done command (Cas key old new) before after once sound are step = subst AreFree (sym (ap (λ l. l.book) step)) are
-
 -- no two orders of a ledger's book cross
 pub ledger_is_free : (commands : List Request) (ledger : Ledger) → HaveDifferentIds commands → IsLedgerOf commands ledger → AreFree ledger.book
-ledger_is_free commands ledger once is = ledger_keeps (λ done l. AreFree l.book) (λ done command before after different sound are step. op_free done command command.op before after different sound are step) tt commands ledger once is
+ledger_is_free commands ledger once is = ledger_keeps (λ done l. AreFree l.book) (λ done command before after different sound are step. obeyed_free done command (key_of command.op) (asked_by command.op) before after different sound are step) tt commands ledger once is
 
 free_of : (orders : List Resting) (first : Resting) (k : ℕ) (d : Resting) → IsFree first orders → k < length orders → crosses first (get_or orders k d) ≡ false
 free_of orders first k d free below = All-from_recursion (λ (r : Resting). crosses first r ≡ false) orders free k d below

@@ -1,15 +1,12 @@
 -- Ledgers are determined, and go on command by command.
 use Rattle.std.proofs.Common.{◌≡◌, ℕ, List, [], ◌∷◌, ◌++◌, None, Some, refl, sym, ap, subst, ◌∙◌}
 use Rattle.std.specs.declared.option.Option.{Option}
-use Rattle.kv_store.specs.Commands.{Request}
-use Rattle.kv_store.specs.declared.command.Op.{Op}
-use Rattle.kv_store.specs.declared.command.Op.TheVariants.{Put, Get, Del, Swap, Cas}
+use Rattle.kv_store.specs.Commands.{Request, key_of}
 use Rattle.match_book.specs.declared.instruction.Instruction.{Instruction}
 use Rattle.match_book.specs.declared.instruction.Instruction.TheVariants.{Order, Cancel}
 use Rattle.match_book.specs.declared.order.Id.{Id}
 use Rattle.match_book.specs.declared.order.Resting.{Resting}
-use Rattle.match_book.specs.Ledgers.{IsMatched, IsObeyed, IsOpStep, IsStep, LeadsTo, Ledger, after_trades, id_of, queue_for, trades_with}
-use Rattle.match_book.specs.Orders.{instruction_of}
+use Rattle.match_book.specs.Ledgers.{IsMatched, IsObeyed, IsStep, LeadsTo, Ledger, after_trades, asked_by, id_of, queue_for, trades_with}
 use Rattle.match_book.proofs.Trading.{amounts_are_all}
 
 pub matched_determined : (order : Resting) (before one another : Ledger) → IsMatched order before one → IsMatched order before another → one ≡ another
@@ -23,18 +20,11 @@ obeyed_determined id symbol (Some (Order side price quantity)) before one anothe
 obeyed_determined id symbol (Some (Cancel number)) before one another first second = first ∙ sym second
 obeyed_determined id symbol None before one another first second = first ∙ sym second
 
-op_determined : (id : Id) (op : Op) (before one another : Ledger) → IsOpStep id op before one → IsOpStep id op before another → one ≡ another
-op_determined id (Put symbol text) before one another first second = obeyed_determined id symbol (instruction_of text) before one another first second
-op_determined id (Get key) before one another first second = first ∙ sym second
-op_determined id (Del key) before one another first second = first ∙ sym second
-op_determined id (Swap key text) before one another first second = first ∙ sym second
-op_determined id (Cas key old new) before one another first second = first ∙ sym second
-
 -- commands lead from one ledger to only one other
 pub leads_determined : (commands : List Request) (before one another : Ledger) → LeadsTo before commands one → LeadsTo before commands another → one ≡ another
 leads_determined [] before one another first second = first ∙ sym second
 leads_determined (command ∷ commands) before one another first second =
-    let same = op_determined (id_of command) command.op before first.0 second.0 first.1 second.1 in
+    let same = obeyed_determined (id_of command) (key_of command.op) (asked_by command.op) before first.0 second.0 first.1 second.1 in
     leads_determined commands second.0 one another (subst (λ middle. LeadsTo middle commands one) same first.2) second.2
 
 -- one more command

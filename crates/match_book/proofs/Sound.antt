@@ -4,15 +4,12 @@ use Rattle.std.specs.declared.option.Option.{Option}
 use Rattle.std.specs.List.{AllByRecursion, cons_option, count_by, filter, filter_map, sum_by}
 use Rattle.std.proofs.lemmas.List.Sums.{sum_by-append, sum_by-cons}
 use Rattle.std.proofs.lemmas.List.Filters.{sum_by-filter_both}
-use Rattle.kv_store.specs.Commands.{Request}
-use Rattle.kv_store.specs.declared.command.Op.{Op}
-use Rattle.kv_store.specs.declared.command.Op.TheVariants.{Put, Get, Del, Swap, Cas}
+use Rattle.kv_store.specs.Commands.{Request, key_of}
 use Rattle.match_book.specs.declared.instruction.Instruction.{Instruction}
 use Rattle.match_book.specs.declared.instruction.Instruction.TheVariants.{Order, Cancel}
 use Rattle.match_book.specs.declared.order.Id.{Id}
 use Rattle.match_book.specs.declared.order.Resting.{Resting}
-use Rattle.match_book.specs.Ledgers.{HaveDifferentIds, IsLedgerOf, IsMatched, IsObeyed, IsOpStep, IsStep, LeadsTo, Ledger, empty_ledger, id_of, is_named, leaving, queue_for, remaining, trades_with}
-use Rattle.match_book.specs.Orders.{instruction_of}
+use Rattle.match_book.specs.Ledgers.{HaveDifferentIds, IsLedgerOf, IsMatched, IsObeyed, IsStep, LeadsTo, Ledger, asked_by, empty_ledger, id_of, is_named, leaving, queue_for, remaining, trades_with}
 use Rattle.match_book.specs.Places.{arranged, goes_first, is_same}
 use Rattle.match_book.proofs.Parting.{all_append, all_filter, by_cases}
 use Rattle.match_book.proofs.Arranging.{Lessens}
@@ -114,17 +111,10 @@ obeyed_sound commands command symbol (Some (Cancel number)) before after sound s
     kept_sound commands command before (filter p before.book) sound (λ id. times_filtered p id before.book) (all_filter (λ (o : Resting). 1 ≤ o.left) p before.book sound.some) after (ap (λ l. l.book) step)
 obeyed_sound commands command symbol None before after sound step = kept_sound commands command before before.book sound (λ id. omega arith) sound.some after (ap (λ l. l.book) step)
 
-op_sound : (commands : List Request) (command : Request) (op : Op) (before after : Ledger) → IsSound commands before → IsOpStep (id_of command) op before after → IsSound (commands ++ command ∷ []) after
-op_sound commands command (Put symbol text) before after sound step = obeyed_sound commands command symbol (instruction_of text) before after sound step
-op_sound commands command (Get key) before after sound step = kept_sound commands command before before.book sound (λ id. omega arith) sound.some after (ap (λ l. l.book) step)
-op_sound commands command (Del key) before after sound step = kept_sound commands command before before.book sound (λ id. omega arith) sound.some after (ap (λ l. l.book) step)
-op_sound commands command (Swap key text) before after sound step = kept_sound commands command before before.book sound (λ id. omega arith) sound.some after (ap (λ l. l.book) step)
-op_sound commands command (Cas key old new) before after sound step = kept_sound commands command before before.book sound (λ id. omega arith) sound.some after (ap (λ l. l.book) step)
-
 leads_sound : (done commands : List Request) (before after : Ledger) → IsSound done before → LeadsTo before commands after → IsSound (done ++ commands) after
 leads_sound done [] before after sound leads = subst (λ cs. IsSound cs after) (sym (append-nil done)) (subst (IsSound done) (sym leads) sound)
 leads_sound done (command ∷ commands) before after sound leads =
-    subst (λ cs. IsSound cs after) (append_assoc done (command ∷ []) commands) (leads_sound (done ++ command ∷ []) commands leads.0 after (op_sound done command command.op before leads.0 sound leads.1) leads.2)
+    subst (λ cs. IsSound cs after) (append_assoc done (command ∷ []) commands) (leads_sound (done ++ command ∷ []) commands leads.0 after (obeyed_sound done command (key_of command.op) (asked_by command.op) before leads.0 sound leads.1) leads.2)
 
 pub ledger_is_sound : (commands : List Request) (ledger : Ledger) → IsLedgerOf commands ledger → IsSound commands ledger
 ledger_is_sound commands ledger is = leads_sound [] commands empty_ledger ledger (record { few = λ id. omega arith; some = tt }) is
@@ -166,7 +156,7 @@ leads_kept K step done (command ∷ commands) before after once sound now leads 
     let whole : HaveDifferentIds ((done ++ command ∷ []) ++ commands) = subst HaveDifferentIds (sym (append_assoc done (command ∷ []) commands)) once in
     let next = step done command before leads.0 (different_front (done ++ command ∷ []) commands whole) sound now leads.1 in
     subst (λ cs. K cs after) (append_assoc done (command ∷ []) commands)
-    (leads_kept K step (done ++ command ∷ []) commands leads.0 after whole (op_sound done command command.op before leads.0 sound leads.1) next leads.2)
+    (leads_kept K step (done ++ command ∷ []) commands leads.0 after whole (obeyed_sound done command (key_of command.op) (asked_by command.op) before leads.0 sound leads.1) next leads.2)
 
 -- holds of the ledger of all commands with different ids
 pub ledger_keeps : (K : List Request → Ledger → Type 0) → IsKept K → K [] empty_ledger → (commands : List Request) (ledger : Ledger) → HaveDifferentIds commands → IsLedgerOf commands ledger → K commands ledger

@@ -1,15 +1,15 @@
 -- A book goes on standing for its commands, step by step.
-use Rattle.std.proofs.Common.{◌≡◌, ℕ, ◌+◌, ◌≤◌, not, List, [], ◌∷◌, ◌++◌, refl, sym, ap, subst, ◌∙◌}
+use Rattle.std.proofs.Common.{◌≡◌, ℕ, ◌+◌, ◌≤◌, not, List, [], ◌∷◌, ◌++◌, None, refl, sym, ap, subst, ◌∙◌}
 use Rattle.std.specs.declared.option.Option.{Option}
 use Rattle.std.specs.List.{position_or_len, remove}
-use Rattle.kv_store.specs.Commands.{Request}
+use Rattle.kv_store.specs.Commands.{Request, key_of}
 use Rattle.kv_store.specs.declared.command.Op.{Op}
-use Rattle.kv_store.specs.declared.command.Op.TheVariants.{Put, Get, Del, Swap, Cas}
+use Rattle.kv_store.specs.declared.command.Op.TheVariants.{Put}
 use Rattle.match_book.specs.declared.instruction.Instruction.{Instruction}
 use Rattle.match_book.specs.declared.order.Id.{Id}
 use Rattle.match_book.specs.declared.order.Resting.{Resting}
 use Rattle.match_book.specs.Filling.{before_others, filled, from_others, rested}
-use Rattle.match_book.specs.Ledgers.{HaveDifferentIds, IsMatched, IsObeyed, IsOpStep, IsStep, Ledger, after_cancel, after_other, after_trades, empty_ledger, id_of, is_named}
+use Rattle.match_book.specs.Ledgers.{HaveDifferentIds, IsMatched, IsObeyed, IsStep, Ledger, after_cancel, after_other, after_trades, asked_by, empty_ledger, id_of, is_named}
 use Rattle.match_book.specs.Orders.{instruction_of}
 use Rattle.match_book.specs.Places.{IsInOrder, arranged}
 use Rattle.match_book.specs.Stands.{Held, StandsFor}
@@ -77,19 +77,14 @@ order_stands commands command order old new mine step once stands applied trades
     }
 
 -- the step of a put, by what its text asks for
-obeyed_put : (id : Id) (symbol : List ℕ) (text : List ℕ) (asked : Option Instruction) (before after : Ledger) → asked ≡ instruction_of text → IsObeyed id symbol asked before after → IsOpStep id (Put symbol text) before after
-obeyed_put id symbol text asked before after is step = subst (λ i. IsObeyed id symbol i before after) is step
-
 pub put_steps : (command : Request) (symbol text : List ℕ) (asked : Option Instruction) → command.op ≡ Put symbol text → asked ≡ instruction_of text → (before after : Ledger) → IsObeyed (id_of command) symbol asked before after → IsStep command before after
-put_steps command symbol text asked op is before after step = subst (λ o. IsOpStep (id_of command) o before after) (sym op) (obeyed_put (id_of command) symbol text asked before after is step)
+put_steps command symbol text asked op is before after step =
+    subst (λ o. IsObeyed (id_of command) (key_of o) (asked_by o) before after) (sym op) (subst (λ i. IsObeyed (id_of command) symbol i before after) is step)
 
-by_op : (op : Op) (id : Id) (before : Ledger) → ((symbol text : List ℕ) → op ≡ Put symbol text → ⊥) → IsOpStep id op before (after_other before)
-by_op (Put symbol text) id before none = absurd (none symbol text refl)
-by_op (Get key) id before none = refl
-by_op (Del key) id before none = refl
-by_op (Swap key text) id before none = refl
-by_op (Cas key old new) id before none = refl
+asks_nothing : (op : Op) → ((symbol text : List ℕ) → op ≡ Put symbol text → ⊥) → asked_by op ≡ None
+asks_nothing (Put symbol text) none = absurd (none symbol text refl)
+asks_nothing op none = refl
 
 -- the step of a command that isn't a put
 pub other_steps : (command : Request) → ((symbol text : List ℕ) → command.op ≡ Put symbol text → ⊥) → (before : Ledger) → IsStep command before (after_other before)
-other_steps command none before = by_op command.op (id_of command) before none
+other_steps command none before = subst (λ asked. IsObeyed (id_of command) (key_of command.op) asked before (after_other before)) (sym (asks_nothing command.op none)) refl

@@ -4,16 +4,13 @@ use Rattle.std.specs.Prelude.{ℕ, ◌≡◌, ◌+◌, ◌<◌, ◌&&◌, Bool, 
 use Rattle.std.specs.declared.option.Option.{Option}
 use Rattle.std.specs.List.Sorted.{IsPermutation}
 use Rattle.kv_store.specs.Commands.{Request}
-use Rattle.kv_store.specs.declared.command.Op.{Op}
-use Rattle.kv_store.specs.declared.command.Op.TheVariants.{Put}
 use Rattle.kv_store.specs.Sessions.{IsInSession}
 use Rattle.match_book.specs.declared.instruction.Instruction.{Instruction}
 use Rattle.match_book.specs.declared.instruction.Instruction.TheVariants.{Order, Cancel}
 use Rattle.match_book.specs.declared.order.Id.{Id}
 use Rattle.match_book.specs.declared.order.Resting.{Resting}
 use Rattle.match_book.specs.declared.order.Side.TheVariants.{Buy, Sell}
-use Rattle.match_book.specs.Ledgers.{HaveDifferentIds, IsLedgerOf, Ledger, id_of, traded}
-use Rattle.match_book.specs.Orders.{instruction_of}
+use Rattle.match_book.specs.Ledgers.{HaveDifferentIds, IsLedgerOf, Ledger, asked_by, id_of, traded}
 use Rattle.match_book.specs.Places.{IsInOrder, arranged, goes_first, is_same}
 
 -- the two orders are of one symbol, side and price
@@ -55,15 +52,12 @@ quantity_placed (Some (Order side price quantity)) = quantity
 quantity_placed (Some (Cancel number)) = 0
 quantity_placed None = 0
 
-abbrev pub quantity_of_op : Op → ℕ
-quantity_of_op (Put symbol text) = quantity_placed (instruction_of text)
-quantity_of_op _ = 0
-
 -- the quantity of the order of this id, 0 if the command placed none
 abbrev pub quantity_of : Id → List Request → ℕ
 quantity_of id commands =
     sum_by
-    (λ (command : Request). if is_same id (id_of command) then quantity_of_op command.op else 0)
+    (λ (command : Request).
+    if is_same id (id_of command) then quantity_placed (asked_by command.op) else 0)
     commands
 
 -- what is left of the order of this id, 0 if it isn't there

@@ -3,7 +3,7 @@
 use Rattle.std.specs.Prelude.{ℕ, ◌≡◌, ◌⊎◌, ◌+◌, ◌-◌, ◌<◌, ◌≤◌, ◌==◌, Bool, not, if◌then◌else◌, ◌&&◌, ◌||◌, List, [], ◌∷◌, ◌++◌, length, map, sum, sum_by, count_by, filter, filter_map, slice_index, slice_index_or, None, Some}
 use Rattle.std.specs.declared.option.Option.{Option}
 use Rattle.std.specs.Str.{bytes_eq}
-use Rattle.kv_store.specs.Commands.{Request}
+use Rattle.kv_store.specs.Commands.{Request, key_of}
 use Rattle.kv_store.specs.declared.command.Op.{Op}
 use Rattle.kv_store.specs.declared.command.Op.TheVariants.{Put}
 use Rattle.match_book.specs.declared.instruction.Instruction.{Instruction}
@@ -143,7 +143,7 @@ after_other before =
       cancelled = before.cancelled;
     }
 
--- the step of a put, by what its text asks for; the id is that of the command
+-- the step of a command with this id and key, by what it asks for
 abbrev pub IsObeyed : Id → List ℕ → Option Instruction → Ledger → Ledger → Type 0
 IsObeyed id symbol (Some (Order side price quantity)) before after =
     IsMatched (record { id = id; symbol = symbol; side = side; price = price; left = quantity })
@@ -152,10 +152,11 @@ IsObeyed id symbol (Some (Cancel number)) before after =
     after ≡ after_cancel (record { client = id.client; number = number }) symbol before
 IsObeyed id symbol None before after = after ≡ after_other before
 
--- what an operation asks of the book
-abbrev pub IsOpStep : Id → Op → Ledger → Ledger → Type 0
-IsOpStep id (Put symbol text) before after = IsObeyed id symbol (instruction_of text) before after
-IsOpStep id _ before after = after ≡ after_other before
+-- what an operation asks of the book: only a put may ask for something, of the symbol that is its
+-- key
+abbrev pub asked_by : Op → Option Instruction
+asked_by (Put symbol text) = instruction_of text
+asked_by _ = None
 
 -- the id of the order that a command places, if it places one
 abbrev pub id_of : Request → Id
@@ -163,7 +164,8 @@ id_of command = record { client = command.client; number = command.number }
 
 -- the step of a command
 abbrev pub IsStep : Request → Ledger → Ledger → Type 0
-IsStep command before after = IsOpStep (id_of command) command.op before after
+IsStep command before after =
+    IsObeyed (id_of command) (key_of command.op) (asked_by command.op) before after
 
 -- commands lead from one ledger to another
 abbrev pub LeadsTo : Ledger → List Request → Ledger → Type 0

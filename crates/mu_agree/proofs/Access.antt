@@ -11,7 +11,7 @@ use Rattle.mu_model.specs.declared.event.Answer.{Answer}
 use Rattle.mu_agree.specs.Laws.{OnlyOwnersPut, is_landing}
 use Rattle.mu_model.specs.Allowed.{Needs}
 use Rattle.mu_model.specs.Answers.{answer_of, drained, entered_or_lost, put_answer}
-use Rattle.mu_model.specs.Entering.{MayEnter, enter_open, open_target}
+use Rattle.mu_model.specs.Entering.{enter_open, open_target}
 use Rattle.mu_model.specs.Histories.{has, newest, part, since}
 use Rattle.mu_model.specs.Leaderships.{begins_leadership, grant_for, is_first_ask, noted_grant, owner_is}
 use Rattle.mu_model.specs.Legal.{IsLegalHistory, MayFollow}
@@ -23,6 +23,7 @@ use mathlib.Core.List.{reverse}
 use Rattle.mu_agree.proofs.Entering.{slot_entered}
 use Rattle.mu_agree.proofs.Legal.{event_after, legal_induction, legal_older}
 use Rattle.mu_model.proofs.Basics.{same_some}
+use Rattle.mu_model.proofs.Putting.{MayEnter, put_facts, min_facts}
 
 -- what r noted of p is a grant that was given, and while it stands r is the owner
 abbrev pub NotedIs : ℕ → Option ℕ → ℕ → Option ℕ → Type 0
@@ -151,7 +152,7 @@ opened_drain c r p by past o false h = rw h o
 -- what allows a `Grant`
 pub grant_needs : (c : Config) (p w : ℕ) (past : List Event) → Needs c p (part p past) (Verb.Grant w) → (fence_closing p past ≡ true) × (must_drain p past ≡ true → drained_since_close p past ≡ true)
 grant_needs c p w past may =
-    (sym (closing-part p past) ∙ may.1, λ m. sym (drained_since-part p past) ∙ may.2 (must_drain-part p past ∙ m))
+    (sym (closing-part p past) ∙ may.1.0, λ m. sym (drained_since-part p past) ∙ may.1.1.0 (must_drain-part p past ∙ m))
 
 pub not_granted : (p r : ℕ) (past : List Event) → Holds r p past → (fence_closing p past ≡ true) × (must_drain p past ≡ true → drained_since_close p past ≡ true) → ⊥
 not_granted p r past k needs =
@@ -179,7 +180,7 @@ entered_facts (Some g) f e = go f.closing refl (f.grant == g) refl e
     go false h false k e = cc
 
 pub enter_target : (c : Config) (r : ℕ) (past : List Event) (p : ℕ) (t : Target) → MayEnter c r past p t → has_target t ≡ true
-enter_target c r past p Target.None h = absurd h
+enter_target c r past p Target.None h = absurd h.0
 enter_target c r past p Target.Min h = refl
 enter_target c r past p (Target.Place s) h = refl
 
@@ -277,10 +278,10 @@ put_done_undrained true e = cc
 put_done_undrained false e = refl
 
 pub min_holds : (c : Config) (r p b : ℕ) (past : List Event) → IsLegalHistory c past → Needs c r (part r past) (Verb.PutMin p b) → put_answer (drained r p past) ≡ Answer.Done → Holds r p past
-min_holds c r p b past h may e = opened_is_held c r p past h Target.Min (sym (open_target-part r p past) ∙ may.1.entered) refl (put_done_undrained (drained r p past) e)
+min_holds c r p b past h may e = opened_is_held c r p past h Target.Min (sym (open_target-part r p past) ∙ (min_facts c r (part r past) p b may).entered) refl (put_done_undrained (drained r p past) e)
 
 pub slot_holds : (c : Config) (r p i b v : ℕ) (past : List Event) → IsLegalHistory c past → Needs c r (part r past) (Verb.PutSlot p i b v) → put_answer (drained r p past) ≡ Answer.Done → Holds r p past
-slot_holds c r p i b v past h may e = opened_is_held c r p past h (Target.Place (i % c.ring)) (sym (open_target-part r p past) ∙ slot_entered c r p i b v (part r past) may.2) refl (put_done_undrained (drained r p past) e)
+slot_holds c r p i b v past h may e = opened_is_held c r p past h (Target.Place (i % c.ring)) (sym (open_target-part r p past) ∙ slot_entered c r p i b v (part r past) (put_facts c r (part r past) p i b v may)) refl (put_done_undrained (drained r p past) e)
 
 landing_answer : (p q b : ℕ) (a : Answer) → is_landing p (Verb.PutMin q b) a ≡ true → (a ≡ Answer.Done) × (q ≡ p)
 landing_answer p q b Answer.Done e = (refl, eqb-true q p e)

@@ -15,7 +15,6 @@ use Rattle.mu_model.specs.Knowledge.{grown, known, learnt_by}
 use Rattle.mu_model.specs.Leaderships.{grant_at_joining, is_first_ask, is_member, lands_min, leadership, noted_grant}
 use Rattle.mu_model.specs.Legal.{IsLegalHistory}
 use Rattle.mu_model.specs.Picks.{first_value, value_put}
-use Rattle.mu_model.specs.Placing.{MayPutSlot}
 use Rattle.mu_model.specs.Regions.{region_log}
 use Rattle.mu_agree.proofs.Legal.{event_after, legal_induction}
 use Rattle.mu_agree.proofs.Knowing.{Teaches, teaches, by_put, by_look}
@@ -25,6 +24,7 @@ use Rattle.mu_agree.proofs.Late.{Base, chosen_is}
 use Rattle.mu_agree.proofs.Tame.{known_longer}
 use Rattle.mu_agree.proofs.Settled.{Late, Know}
 use Rattle.mu_model.proofs.Basics.{same_some, none_some}
+use Rattle.mu_model.proofs.Putting.{MayPutSlot, put_facts}
 
 pub get_more : (xs : List ℕ) (i v x : ℕ) → slice_get (xs ++ v ∷ []) i ≡ Some x → (slice_get xs i ≡ Some x) ⊎ ((i ≡ length xs) × (x ≡ v))
 get_more [] zero v x e = inr (refl, sym (same_some v x e))
@@ -91,7 +91,7 @@ firsts_slot c r i x by q j n w past a h may s hx false hj f = rw (hx, hj) (λ e 
 firsts_slot c r i x by q j n w past a h may s hx true hj f = rw (hx, hj) (λ e m. go (first_value r i (part r past)) refl e (w == x) refl m)
   where
     at : PutValue c r i n w past
-    at = put_value c r q i n w past h (subst (λ z. MayPutSlot c r (part r past) q z n w) (eqb-true j i hj) may.2)
+    at = put_value c r q i n w past h (subst (λ z. MayPutSlot c r (part r past) q z n w) (eqb-true j i hj) (put_facts c r (part r past) q j n w may))
 
     go : (o : Option ℕ) → first_value r i (part r past) ≡ o → earlier_or (Some w) o ≡ Some f → (u : Bool) → (w == x) ≡ u → cond u true (has (λ e. value_at r i x e.by e.verb) (leadership r (part r past))) ≡ true
         → (f ≡ x) ⊎ (i < length (known c r (record { by = by; verb = Verb.PutSlot q j n w; answer = a } ∷ part r past)))
@@ -127,7 +127,7 @@ at_ask c r p by q past J s true h = rw h (λ m. absurd (true≢false (sym m)))
 at_ask c r p by q past J s false h = rw h s
 
 at_slot : (c : Config) (r p by q j n w : ℕ) (past : List Event) → Needs c r (part r past) (Verb.PutSlot q j n w) → PutsAtMembers r p (part r past) → (by == r) ≡ true → (t : Bool) → (q == p) ≡ t → PutsAtMembers r p (event_after c past by (Verb.PutSlot q j n w) ∷ part r past)
-at_slot c r p by q j n w past may s hx true hq = rw (hx, hq) (λ m. subst (λ z. is_member r z (part r past) ≡ true) (eqb-true q p hq) may.2.member)
+at_slot c r p by q j n w past may s hx true hq = rw (hx, hq) (λ m. subst (λ z. is_member r z (part r past) ≡ true) (eqb-true q p hq) (put_facts c r (part r past) q j n w may).member)
 at_slot c r p by q j n w past may s hx false hq = rw (hx, hq) s
 
 joined_more : (o : Option (Option ℕ)) (n : Option ℕ) (t : Bool) → is_some o ≡ true → is_some (cond t (newer_or o (Some n)) o) ≡ true

@@ -12,7 +12,6 @@ use Rattle.mu_model.specs.Histories.{all_below, count_below, has, newer_or, newe
 use Rattle.mu_model.specs.Leaderships.{begins_leadership, is_member, leadership, majority_of, proposal_number}
 use Rattle.mu_model.specs.Legal.{IsLegalHistory}
 use Rattle.mu_model.specs.Picks.{entry_of, first_value, highest_accepted, is_joining, is_past_look, larger, last_look, look_answer, may_pick_at, may_propose, pick, since_last_joining}
-use Rattle.mu_model.specs.Placing.{IsNew, MayPutSlot}
 use Rattle.mu_model.specs.Regions.{region_min}
 use Rattle.mu_agree.proofs.Legal.{event_after}
 use Rattle.mu_agree.proofs.Minimum.{rises_step}
@@ -22,6 +21,7 @@ use Rattle.mu_agree.proofs.Landed.{has_landed, lands_no_more}
 use Rattle.mu_agree.proofs.Looks.{LookSays, looks_say, member_reached}
 use Rattle.mu_agree.proofs.Offers.{first_offered, offer_stays}
 use Rattle.mu_model.proofs.Basics.{same_some}
+use Rattle.mu_model.proofs.Putting.{MayPutSlot, IsNew}
 
 -- v is chosen at i under the number b
 abbrev pub Chosen : Config → ℕ → ℕ → ℕ → List Event → Type 0

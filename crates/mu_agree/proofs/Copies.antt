@@ -11,7 +11,6 @@ use Rattle.mu_model.specs.Answers.{drained, put_answer}
 use Rattle.mu_model.specs.Histories.{has, part}
 use Rattle.mu_model.specs.Leaderships.{is_first_ask, leadership, proposal_number}
 use Rattle.mu_model.specs.Legal.{IsLegalHistory}
-use Rattle.mu_model.specs.Placing.{MayPutSlot}
 use Rattle.mu_model.specs.Regions.{region_log, region_min}
 use Rattle.mu_agree.proofs.Legal.{event_after}
 use Rattle.mu_agree.proofs.Numbers.{number-part, numbered}
@@ -26,6 +25,7 @@ use Rattle.mu_agree.proofs.Early.{PutValue, copies_known, repeats_offer, offers_
 use Rattle.mu_agree.proofs.Settled.{Late, Copied, puts_it, has_put_it, min_of}
 use Rattle.mu_agree.proofs.Agreement.{value_at, put_first, firsts, slot_at, puts_at_members}
 use Rattle.mu_model.proofs.Basics.{same_some}
+use Rattle.mu_model.proofs.Putting.{MayPutSlot, put_facts, min_facts}
 
 it_is_value : (i V r p by : ℕ) (v : Verb) (a : Answer) → puts_it i V r p by v a ≡ true → value_at r i V by v ≡ true
 it_is_value i V r p by (Verb.PutSlot q j n w) Answer.Done m =
@@ -57,7 +57,7 @@ copied_put : (c : Config) (i V B : ℕ) (maj : ℕ → Bool) (r p by q j n w : �
 copied_put c i V B maj r p by q j n w past h may s a e t hq u hj = at_part' (Copied i V r p (record { by = by; verb = Verb.PutSlot q j n w; answer = a } ∷ past)) r (record { by = by; verb = Verb.PutSlot q j n w; answer = a }) past (λ hx. other a t u e hq hj hx) (λ hx. own a t u e hq hj hx)
   where
     other : (a : Answer) (t u : Bool) → put_answer (drained by q past) ≡ a → (q == p) ≡ t → (j == i) ≡ u → (by == r) ≡ false → Copied i V r p (record { by = by; verb = Verb.PutSlot q j n w; answer = a } ∷ past) (part r past)
-    other Answer.Done true u e hq hj hx = λ m o. absurd (eqb-false by r hx (of_one c r by n past h (sym (number-part r past) ∙ o ∙ ap Some (sym (slot_number c by q j n w past h may e ∙ ap (λ z. region_min z past) (eqb-true q p hq)))) (sym (number-part by past) ∙ may.2.numbered)))
+    other Answer.Done true u e hq hj hx = λ m o. absurd (eqb-false by r hx (of_one c r by n past h (sym (number-part r past) ∙ o ∙ ap Some (sym (slot_number c by q j n w past h may e ∙ ap (λ z. region_min z past) (eqb-true q p hq)))) (sym (number-part by past) ∙ (put_facts c by (part by past) q j n w may).numbered)))
     other Answer.Done false u e hq hj hx = rw hq (s.copied r p)
     other a t u e hq hj hx = s.copied r p
 
@@ -73,7 +73,7 @@ copied_put c i V B maj r p by q j n w past h may s a e t hq u hj = at_part' (Cop
         value : cond (w == V) true (has_put_it i V r p (part r past)) ≡ true → w ≡ V
         value m = elim (has_cases (w == V) (has_put_it i V r p (part r past)) m) [
           | inl k ↦ eqb-true w V k
-          | inr k ↦ only_it c i V B maj r p q n w past h s k (subst (λ z. MayPutSlot c r (part r past) q z n w) (eqb-true j i hj) may_r.2)
+          | inr k ↦ only_it c i V B maj r p q n w past h s k (subst (λ z. MayPutSlot c r (part r past) q z n w) (eqb-true j i hj) (put_facts c r (part r past) q j n w may_r))
         ]
 
         at : cond (w == V) true (has_put_it i V r p (part r past)) ≡ true → (y : ℕ × ℕ) → slice_get (put_in' (region_log p past) j (n, w)) i ≡ Some y → y.1 ≡ V
@@ -97,7 +97,7 @@ copied_min c i V B maj r p by q b past h may s a e t hq = at_part' (Copied i V r
     member m = member_reached c r p past h (puts_at_members c r p past h (has_implied (λ e. puts_it i V r p e.by e.verb e.answer) (λ e. slot_at r p e.by e.verb) (λ e k. it_is_at i V r p e.by e.verb e.answer k) (leadership r (part r past)) m))
 
     other : (a : Answer) (t : Bool) → put_answer (drained by q past) ≡ a → (q == p) ≡ t → (by == r) ≡ false → Copied i V r p (record { by = by; verb = Verb.PutMin q b; answer = a } ∷ past) (part r past)
-    other Answer.Done true e hq hx = rw hq (λ m o. absurd (eqb-false by r hx (sym (min_of c by q b past h may.1) ∙ (numbered c r past h).own b (sym (number-part r past) ∙ o))))
+    other Answer.Done true e hq hx = rw hq (λ m o. absurd (eqb-false by r hx (sym (min_of c by q b past h (min_facts c by (part by past) q b may)) ∙ (numbered c r past h).own b (sym (number-part r past) ∙ o))))
     other Answer.Done false e hq hx = rw hq (s.copied r p)
     other a t e hq hx = s.copied r p
 

@@ -17,7 +17,6 @@ use Rattle.mu_model.specs.Knowledge.{entry_seen, greatest_fuo_read, grown, is_ac
 use Rattle.mu_model.specs.Leaderships.{begins_leadership, has_quorum, is_member, is_over, leadership, majority_of, proposal_number}
 use Rattle.mu_model.specs.Legal.{IsLegalHistory}
 use Rattle.mu_model.specs.Picks.{first_value, joined_since_first_put, may_propose}
-use Rattle.mu_model.specs.Placing.{IsNew, MayPutSlot}
 use Rattle.mu_model.specs.Regions.{region_fuo, region_log}
 use Rattle.mu_agree.proofs.Joins.{joined_late, not_late}
 use Rattle.mu_agree.proofs.Legal.{event_after, legal_induction}
@@ -30,6 +29,7 @@ use Rattle.mu_agree.proofs.Landed.{has_landed, slot_landed, is_put}
 use Rattle.mu_agree.proofs.Offers.{first_offered, offer_stays, first_is}
 use Rattle.mu_agree.proofs.Choice.{Chosen, Blocked, blocked_stays, Found, none_accepted, takes_highest, found, Seeing, seeing}
 use Rattle.mu_model.proofs.Basics.{same_some}
+use Rattle.mu_model.proofs.Putting.{MayPutSlot, IsNew, put_facts}
 
 -- what every member of a leadership took is chosen
 pub done_lands : (r p i b v by : ℕ) (verb : Verb) (a : Answer) → is_put_done r p i b v by verb a ≡ true → slot_landed p i b v verb a ≡ true
@@ -207,7 +207,7 @@ early_own c i by q j n w past h s may Answer.Done p b v m = go ((q == p) && ((j 
     go false k l = offer_stays i b v (record { by = by; verb = Verb.PutSlot q j n w; answer = Answer.Done }) past (s.own p b v l)
     go true k l =
         let x = is_put p i b v q j n w k in
-        let at : MayPutSlot c by (part by past) q i b w = subst (λ z. MayPutSlot c by (part by past) q i z w) x.number (subst (λ z. MayPutSlot c by (part by past) q z n w) x.position may.2) in
+        let at : MayPutSlot c by (part by past) q i b w = subst (λ z. MayPutSlot c by (part by past) q i z w) x.number (subst (λ z. MayPutSlot c by (part by past) q z n w) x.position (put_facts c by (part by past) q j n w may)) in
         let e1 : (j == i) ≡ true = eq-eqb j i x.position in
         let e2 : (n == b) ≡ true = eq-eqb n b x.number in
         rw (e1, e2) (offered_now w (first_offered i b past) (elim (early_value c i by q b w past h s at) [ inl o ↦ inl o | inr o ↦ inr o.0 ]) ∙ ap Some x.value)
@@ -221,7 +221,7 @@ early_safe c i by q j n w past h s may b v m x e l d = blocked_stays c i m x by 
     go o k false ht e' = s.safe b v m x (k ∙ e') l d
     go None k true ht e' =
         let y = and_parts (j == i) (n == b) ht in
-        let at : MayPutSlot c by (part by past) q i b w = subst (λ z. MayPutSlot c by (part by past) q i z w) (eqb-true n b y.1) (subst (λ z. MayPutSlot c by (part by past) q z n w) (eqb-true j i y.0) may.2) in
+        let at : MayPutSlot c by (part by past) q i b w = subst (λ z. MayPutSlot c by (part by past) q i z w) (eqb-true n b y.1) (subst (λ z. MayPutSlot c by (part by past) q z n w) (eqb-true j i y.0) (put_facts c by (part by past) q j n w may)) in
         elim (early_value c i by q b w past h s at) [
           | inl o ↦ (let z : None ≡ Some w = sym k ∙ o in cc)
           | inr o ↦ o.1 m x l (λ z. d (sym (same_some w v e') ∙ z))
@@ -252,7 +252,7 @@ early_step c i by (Verb.PutSlot q j n w) past h may s open' = record {
   unknown = unknown_kept c i by (Verb.PutSlot q j n w) past h s open';
   own = early_own c i by q j n w past h s may (put_answer (drained by q past));
   safe = early_safe c i by q j n w past h s may;
-  short = λ p. early_short c i by q j n w p past s (let k = position_within c by q j n w (part by past) may.2 in let l = s.unknown by in omega arith) (put_answer (drained by q past));
+  short = λ p. early_short c i by q j n w p past s (let k = position_within c by q j n w (part by past) (put_facts c by (part by past) q j n w may) in let l = s.unknown by in omega arith) (put_answer (drained by q past));
   fuo = s.fuo;
 }
 early_step c i by (Verb.RaiseFuo q u) past h may s open' = record {
@@ -260,7 +260,7 @@ early_step c i by (Verb.RaiseFuo q u) past h may s open' = record {
   own = s.own;
   safe = λ b x m y e l d. blocked_stays c i m y by (Verb.RaiseFuo q u) past h may (s.safe b x m y e l d);
   short = s.short;
-  fuo = λ p. early_fuo c i by q u p past s (let k = may.1 in let l = s.unknown by in omega arith) (q == p);
+  fuo = λ p. early_fuo c i by q u p past s (let k = may.1.0 in let l = s.unknown by in omega arith) (q == p);
 }
 early_step c i by v past h may s open' = record {
   unknown = unknown_kept c i by v past h s open';

@@ -11,7 +11,8 @@ use Rattle.mu_model.specs.Entering.{enter_open, last_opened, open_target}
 use Rattle.mu_model.specs.Histories.{before, has, newer_or, newest, since}
 use Rattle.mu_model.specs.Leaderships.{begins_leadership, is_member}
 use Rattle.mu_model.specs.Picks.{look_answer}
-use Rattle.mu_model.specs.Placing.{MayPutSlot, is_good_look, is_slot_put_at, since_joining}
+use Rattle.mu_model.specs.Placing.{is_good_look, is_slot_put_at, since_joining}
+use Rattle.mu_model.proofs.Putting.{MayPutSlot}
 
 same_entered : (r p by : ℕ) (v : Verb) (a : Answer) (x y : Option Target) → is_enter_by r p by v ≡ true → newer_or (enter_open r p by v a) x ≡ newer_or (enter_open r p by v a) y
 same_entered r p by (Verb.Enter q t) Answer.Entered x y h = rw h refl

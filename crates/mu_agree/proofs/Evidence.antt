@@ -25,6 +25,7 @@ use Rattle.mu_agree.proofs.Legal.{event_after, legal_induction, legal_older}
 use Rattle.mu_agree.specs.Laws.{IsShutOut, MissesShutOut}
 use Rattle.mu_agree.specs.Possible.{PartsShowMisses, entered_under}
 use Rattle.mu_agree.proofs.Possible.{answered, at_event, earlier, same_fence}
+use Rattle.mu_model.proofs.Putting.{put_facts, min_facts}
 
 -- the region is closing, or was granted on since the grant g
 abbrev pub IsMoved : ℕ → ℕ → List Event → Type 0
@@ -198,9 +199,9 @@ opened_under c r p = legal_induction c (OpenedUnder r p) (λ t e. cc) (λ past b
 -- who misses at p had entered it under a noted grant
 put_entered : (c : Config) (p by : ℕ) (v : Verb) (a : Answer) (past : List Event) → IsLegalHistory c past → Needs c by (part by past) v → is_missed_at_verb p v a ≡ true → HasEntered by p past
 put_entered c p by (Verb.PutMin q b) Answer.Missed past h may m =
-    subst (λ z. HasEntered by z past) (eqb-true q p m) (opened_under c by q past h Target.Min (sym (open_target-part by q past) ∙ may.1.entered) refl)
+    subst (λ z. HasEntered by z past) (eqb-true q p m) (opened_under c by q past h Target.Min (sym (open_target-part by q past) ∙ (min_facts c by (part by past) q b may).entered) refl)
 put_entered c p by (Verb.PutSlot q i b w) Answer.Missed past h may m =
-    subst (λ z. HasEntered by z past) (eqb-true q p m) (opened_under c by q past h (Target.Place (i % c.ring)) (sym (open_target-part by q past) ∙ slot_entered c by q i b w (part by past) may.2) refl)
+    subst (λ z. HasEntered by z past) (eqb-true q p m) (opened_under c by q past h (Target.Place (i % c.ring)) (sym (open_target-part by q past) ∙ slot_entered c by q i b w (part by past) (put_facts c by (part by past) q i b w may)) refl)
 put_entered c p by v a past h may m = absurd (true≢false (sym m))
 
 shut_out : (c : Config) (p : ℕ) (e : Event) (newer older : List Event) → IsLegalHistory c older → MayFollow c older e → is_missed_at p e ≡ true → IsShutOut e.by p older (newer ++ e ∷ older)

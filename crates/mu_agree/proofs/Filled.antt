@@ -15,7 +15,6 @@ use Rattle.mu_model.specs.Histories.{has, part}
 use Rattle.mu_model.specs.Knowledge.{grown, is_accepted_by_all, is_filled, is_known_decided, is_value, known, lands_entry, learnt_by}
 use Rattle.mu_model.specs.Leaderships.{begins_leadership, is_member, leadership, proposal_number}
 use Rattle.mu_model.specs.Legal.{IsLegalHistory}
-use Rattle.mu_model.specs.Placing.{MayPutSlot}
 use Rattle.mu_model.specs.Regions.{region_fuo, region_log, region_min}
 use Rattle.mu_agree.proofs.Legal.{event_after}
 use Rattle.mu_agree.proofs.Numbers.{number-part}
@@ -33,6 +32,7 @@ use Rattle.mu_agree.proofs.Settled.{Late, Settled, Know, Shows, settled_kept, se
 use Rattle.mu_agree.proofs.Agreement.{knows_kept}
 use Rattle.mu_agree.proofs.Copies.{copied_step}
 use Rattle.mu_model.proofs.Basics.{same_some}
+use Rattle.mu_model.proofs.Putting.{MayPutSlot, put_facts}
 
 abbrev put : ℕ → ℕ → ℕ → ℕ → ℕ → Event
 put by q j n w = record { by = by; verb = Verb.PutSlot q j n w; answer = Answer.Done }
@@ -45,7 +45,7 @@ put_settles c i V B maj p by q j n w past h may low lower after sh = record { sh
   where
     other : (r : ℕ) → (by == r) ≡ false → proposal_number r (part r past) ≡ Some (region_min p past) → Tame c i V B maj r (part r past) (record { by = by; verb = Verb.PutSlot q j n w; answer = Answer.Done } ∷ past)
     other r hx o = elim (cases_eq n (region_min p past)) [
-      | inl e ↦ absurd (eqb-false by r hx (of_one c r by n past h (sym (number-part r past) ∙ o ∙ ap Some (sym e)) (sym (number-part by past) ∙ may.2.numbered)))
+      | inl e ↦ absurd (eqb-false by r hx (of_one c r by n past h (sym (number-part r past) ∙ o ∙ ap Some (sym e)) (sym (number-part by past) ∙ (put_facts c by (part by past) q j n w may).numbered)))
       | inr d ↦ (let l : n < region_min p past = omega arith in let k = lower l in under (record { b = n; m = region_min p past; num = o; less = l; mine = k.0; chosen = k.1 }))
     ]
 
@@ -105,7 +105,7 @@ there_settles c i V B maj p by q j n w past h al ans base' len len' hp = go (lea
         mine =
             let e1 : (j == i) ≡ true = eq-eqb j i ej in
             let e2 : (n == n) ≡ true = eq-eqb n n refl in
-            rw (e1, e2) (offered_now w (first_offered i n past) (offer (subst (λ z. MayPutSlot c by (part by past) q z n w) ej al.may.2)) ∙ ap Some is)
+            rw (e1, e2) (offered_now w (first_offered i n past) (offer (subst (λ z. MayPutSlot c by (part by past) q z n w) ej (put_facts c by (part by past) q j n w al.may))) ∙ ap Some is)
 
         sh : Shows i V p (record { by = by; verb = Verb.PutSlot q j n w; answer = Answer.Done } ∷ past)
         sh y k = elim (cases_eq y.1 V) [

@@ -17,6 +17,7 @@ use Rattle.mu_agree.proofs.Members.{slot_number}
 use Rattle.mu_agree.proofs.Slots.{put_in', get_put}
 use Rattle.mu_agree.proofs.Landings.{no_gaps, has_more, has_implied, is_landed_at, below_all}
 use Rattle.mu_model.proofs.Basics.{same_some}
+use Rattle.mu_model.proofs.Putting.{put_facts}
 
 -- (b, v) landed at p in position i
 abbrev pub slot_landed : ℕ → ℕ → ℕ → ℕ → Verb → Answer → Bool
@@ -64,7 +65,7 @@ get_put_same log j z h = go (j == length log) refl
 
 -- the place of a landing put is within the log or at its end
 pub lands_within : (c : Config) (p by i b v : ℕ) (past : List Event) → IsLegalHistory c past → Needs c by (part by past) (Verb.PutSlot p i b v) → i ≤ length (region_log p past)
-lands_within c p by i b v past h may = below_all c by p i 0 past (no_gaps c p past h) may.2.caught_up
+lands_within c p by i b v past h may = below_all c by p i 0 past (no_gaps c p past h) (put_facts c by (part by past) p i b v may).caught_up
 
 pub record LandedFacts (p : ℕ) (past : List Event) : Type 0 where
   pub in_log : (i b v : ℕ) → slice_get (region_log p past) i ≡ Some (b, v) → has_landed p i b v past ≡ true

@@ -20,6 +20,7 @@ use Rattle.mu_model.specs.Placing.{is_caught_up_at, is_known_put}
 use Rattle.mu_model.specs.Regions.{region_fuo, region_log}
 use Rattle.mu_agree.proofs.Legal.{event_after, legal_induction}
 use Rattle.mu_agree.proofs.Slots.{put_in'}
+use Rattle.mu_model.proofs.Putting.{put_facts, raise_facts}
 
 -- a put landed at p in position i
 abbrev pub is_landed_at : ℕ → ℕ → Verb → Answer → Bool
@@ -156,7 +157,7 @@ gaps_raise c p by q u past may g = record {
     below (suc j) h = g.filled by j (and_parts (is_filled c by p (part by past) j) (all_below j (is_filled c by p (part by past))) h).0
 
     fuo_kept : (t : Bool) → (q == p) ≡ t → max_with (cond t (Some u) None) (region_fuo p past) ≤ length (region_log p past)
-    fuo_kept true h = let k = below u (subst (λ x. all_below u (is_filled c by x (part by past)) ≡ true) (eqb-true q p h) may.2) in let f = g.fuo in omega arith
+    fuo_kept true h = let k = below u (subst (λ x. all_below u (is_filled c by x (part by past)) ≡ true) (eqb-true q p h) (raise_facts c by (part by past) q u may)) in let f = g.fuo in omega arith
     fuo_kept false h = g.fuo
 
 entry_stands : (log : List (ℕ × ℕ)) (i b v : ℕ) → shown (slice_get log i) ≡ Answer.Entry b v → slice_get log i ≡ Some (b, v)
@@ -261,7 +262,7 @@ gaps_put c p by q i b v past may g Answer.Done = record {
 
     stands_at : (j : ℕ) (t : Bool) → (q == p) ≡ t → (u : Bool) → (i == j) ≡ u → cond (t && u) true (landed_at p j past) ≡ true → j < length (cond t (put_in' (region_log p past) i (b, v)) (region_log p past))
     stands_at j true h true k m =
-        let f : i ≤ length (region_log p past) = below_all c by p i 0 past g (subst (λ x. (j : ℕ) → j < i → is_caught_up_at c by x (part by past) j ≡ true) (eqb-true q p h) may.2.caught_up) in
+        let f : i ≤ length (region_log p past) = below_all c by p i 0 past g (subst (λ x. (j : ℕ) → j < i → is_caught_up_at c by x (part by past) j ≡ true) (eqb-true q p h) (put_facts c by (part by past) q i b v may).caught_up) in
         let l = (length_put (region_log p past) i (b, v)).1 f in let n = eqb-true i j k in omega arith
     stands_at j true h false k m = let l = (length_put (region_log p past) i (b, v)).0 in let s = g.stands j m in omega arith
     stands_at j false h u k m = g.stands j m

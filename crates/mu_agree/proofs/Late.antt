@@ -13,7 +13,6 @@ use Rattle.mu_model.specs.Histories.{count_below, earlier_or, part}
 use Rattle.mu_model.specs.Knowledge.{known}
 use Rattle.mu_model.specs.Leaderships.{majority_of}
 use Rattle.mu_model.specs.Legal.{IsLegalHistory}
-use Rattle.mu_model.specs.Placing.{MayPutSlot}
 use Rattle.mu_agree.proofs.Legal.{event_after}
 use Rattle.mu_agree.proofs.Counting.{count_more}
 use Rattle.mu_agree.proofs.Landed.{has_landed, is_put, landed_stays}
@@ -21,6 +20,7 @@ use Rattle.mu_agree.proofs.Offers.{first_offered, offer_stays}
 use Rattle.mu_agree.proofs.Choice.{Chosen, Blocked, blocked_stays, not_chosen, chosen_somewhere, Found, none_accepted, takes_highest}
 use Rattle.mu_agree.proofs.Early.{Safe, PutValue, copies_known, repeats_offer, offers_first, put_value, fresh_safe, offered_now}
 use Rattle.mu_model.proofs.Basics.{same_some}
+use Rattle.mu_model.proofs.Putting.{MayPutSlot, put_facts}
 
 pub record Base (c : Config) (i V B : ℕ) (maj : ℕ → Bool) (past : List Event) : Type 0 where
   pub many : majority_of c.replicas ≤ count_below c.replicas maj
@@ -91,7 +91,7 @@ base_put c i V B maj by q j n w past h s kn may a ans = record {
     stays m x k = subst (λ z. Blocked c i m x (record { by = by; verb = Verb.PutSlot q j n w; answer = z } ∷ past)) ans (blocked_stays c i m x by (Verb.PutSlot q j n w) past h may k)
 
     at : (b : ℕ) → (j ≡ i) → (n ≡ b) → (w ≡ V) ⊎ ((w ≡ V → ⊥) × LowValue c i B b w past)
-    at b e1 e2 = late_value c i V B maj by q b w past h s kn (subst (λ z. MayPutSlot c by (part by past) q i z w) e2 (subst (λ z. MayPutSlot c by (part by past) q z n w) e1 may.2))
+    at b e1 e2 = late_value c i V B maj by q b w past h s kn (subst (λ z. MayPutSlot c by (part by past) q i z w) e2 (subst (λ z. MayPutSlot c by (part by past) q z n w) e1 (put_facts c by (part by past) q j n w may)))
 
     offers' : (b x : ℕ) → B ≤ b → first_offered i b (record { by = by; verb = Verb.PutSlot q j n w; answer = a } ∷ past) ≡ Some x → x ≡ V
     offers' b x l e = go (first_offered i b past) refl ((j == i) && (n == b)) refl e

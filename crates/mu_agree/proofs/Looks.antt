@@ -10,7 +10,7 @@ use Rattle.mu_model.specs.declared.event.Verb.{Verb}
 use Rattle.mu_model.specs.declared.event.Answer.{Answer}
 use Rattle.mu_model.specs.Allowed.{Needs}
 use Rattle.mu_model.specs.Answers.{drained, put_answer, shown}
-use Rattle.mu_model.specs.Entering.{MayPutMin, number_allowed}
+use Rattle.mu_model.specs.Entering.{number_allowed}
 use Rattle.mu_model.specs.Histories.{earlier_or, part}
 use Rattle.mu_model.specs.Leaderships.{is_first_ask, is_member, proposal_number}
 use Rattle.mu_model.specs.Legal.{IsLegalHistory}
@@ -22,6 +22,7 @@ use Rattle.mu_agree.proofs.Members.{number_with, number_stays}
 use Rattle.mu_agree.proofs.Landings.{at_part, look_reply}
 use Rattle.mu_agree.proofs.Landed.{has_landed, landed_facts, landed_within, lands_no_more, landed_stays}
 use Rattle.mu_model.proofs.Basics.{same_some}
+use Rattle.mu_model.proofs.Putting.{MayPutMin, min_facts}
 
 -- a member's leadership has a number, which the member's minimum has reached
 pub record Reached (num : Option ℕ) (least : ℕ) : Type 0 where
@@ -55,7 +56,7 @@ member_put c r p by q b past h may s =
     let l : region_min p past ≤ region_min p (f ∷ past) = rises_step c p by (region_min p past) (Verb.PutMin q b) past h may (omega arith) in
     at_part (λ J. is_member r p J ≡ true → Reached (proposal_number r J) (region_min p (f ∷ past))) r f past
     (λ m. let t = s m in record { b = t.b; is = t.is; below = (let k = t.below in omega arith) })
-    (λ hx. member_own r p by q b (region_min p past) (region_min p (f ∷ past)) (part r past) l (own_number r by q b past may.1 hx) s (put_answer (drained by q past)) (min_here p by q b past (put_answer (drained by q past))) hx (q == p) refl)
+    (λ hx. member_own r p by q b (region_min p past) (region_min p (f ∷ past)) (part r past) l (own_number r by q b past (min_facts c by (part by past) q b may) hx) s (put_answer (drained by q past)) (min_here p by q b past (put_answer (drained by q past))) hx (q == p) refl)
 
 member_ask : (c : Config) (r p by q : ℕ) (past : List Event) → MemberReached r p past → (t : Bool) → is_first_ask r by (Verb.Ask q) ≡ t → is_member r p (event_after c past by (Verb.Ask q) ∷ part r past) ≡ true → Reached (proposal_number r (event_after c past by (Verb.Ask q) ∷ part r past)) (region_min p past)
 member_ask c r p by q past s true h = rw h (λ m. cc)

@@ -11,7 +11,7 @@ use Rattle.mu_model.specs.declared.event.Verb.{Verb}
 use Rattle.mu_model.specs.declared.event.Answer.{Answer}
 use Rattle.mu_model.specs.Allowed.{Needs}
 use Rattle.mu_model.specs.Answers.{drained, entered_or_lost, put_answer}
-use Rattle.mu_model.specs.Entering.{MayEnter, open_target}
+use Rattle.mu_model.specs.Entering.{open_target}
 use Rattle.mu_model.specs.Histories.{earlier_or, newer_or, part}
 use Rattle.mu_model.specs.Leaderships.{begins_leadership, ends_leadership, grant_at_joining, grant_for, is_above, is_changed, is_first_ask, is_member, is_over, lands_min, noted_grant, owner_is, proposal_number}
 use Rattle.mu_model.specs.Legal.{IsLegalHistory}
@@ -24,6 +24,7 @@ use Rattle.mu_agree.proofs.Access.{opened_is_held, min_holds, put_done_undrained
 use Rattle.mu_agree.proofs.Minimum.{first_by, not_other}
 use Rattle.mu_model.proofs.Basics.{same_some}
 use Rattle.mu_model.proofs.Owned.{begins-own, noted-part}
+use Rattle.mu_model.proofs.Putting.{MayEnter, min_facts, put_facts}
 
 lands_min-own : (r p by : ℕ) (v : Verb) (a : Answer) → (by == r) ≡ false → lands_min r p by v a ≡ false
 lands_min-own r p by (Verb.PutMin q b) Answer.Done h = rw h refl
@@ -105,7 +106,7 @@ owner_lands c r p by q b past h may e hx hy =
 joining_put : (c : Config) (r p by q b : ℕ) (past : List Event) → IsLegalHistory c past → Needs c by (part by past) (Verb.PutMin q b) → Joining r p past
     → (a : Answer) → put_answer (drained by q past) ≡ a → (x : Bool) → (by == r) ≡ x → (y : Bool) → (q == p) ≡ y
     → Joining r p (record { by = by; verb = Verb.PutMin q b; answer = a } ∷ past)
-joining_put c r p by q b past h may s Answer.Done e true hx true hy = rw (hx, hy) (joined_lands r b (fence_grant p past) (fence_owner p past) (earlier_or (Some b) (proposal_number r past)) (proposal_number r past) (region_min p past) (join_grant r p past) (owner_lands c r p by q b past h may e hx hy) (number_with b (proposal_number r past) (first_by r by q b past may.1 hx)) s)
+joining_put c r p by q b past h may s Answer.Done e true hx true hy = rw (hx, hy) (joined_lands r b (fence_grant p past) (fence_owner p past) (earlier_or (Some b) (proposal_number r past)) (proposal_number r past) (region_min p past) (join_grant r p past) (owner_lands c r p by q b past h may e hx hy) (number_with b (proposal_number r past) (first_by r by q b past (min_facts c by (part by past) q b may) hx)) s)
 joining_put c r p by q b past h may s Answer.Done e true hx false hy = rw (hx, hy) (λ g k. ((s g k).0, λ i. (((s g k).1 i).0, number_stays b (region_min p past) (proposal_number r past) ((s g k).1 i).1)))
 joining_put c r p by q b past h may s Answer.Done e false hx true hy = rw (hx, hy) (λ g k. ((s g k).0, λ i. absurd (not_other c r p by q b past h may e hx hy ((s g k).1 i).0)))
 joining_put c r p by q b past h may s Answer.Done e false hx false hy = rw (hx, hy) s
@@ -211,7 +212,7 @@ lands_noted c r p by q b past h may e hx hy g n =
     let at_r = subst (λ z. Needs c z (part z past) (Verb.PutMin q b)) (eqb-true by r hx) may in
     let at_p = subst (λ z. Needs c r (part r past) (Verb.PutMin z b)) (eqb-true q p hy) at_r in
     let d = subst (λ z. drained r z past ≡ false) (eqb-true q p hy) (subst (λ z. drained z q past ≡ false) (eqb-true by r hx) (put_done_undrained (drained by q past) e)) in
-    open_noted c r p past h Target.Min g (sym (open_target-part r p past) ∙ at_p.1.entered) refl d n
+    open_noted c r p past h Target.Min g (sym (open_target-part r p past) ∙ at_p.1.1.0) refl d n
 
 pair_put : (c : Config) (r p by q b : ℕ) (past : List Event) → IsLegalHistory c past → Needs c by (part by past) (Verb.PutMin q b) → JoinNoted r p past
     → (a : Answer) → put_answer (drained by q past) ≡ a → (x : Bool) → (by == r) ≡ x → (y : Bool) → (q == p) ≡ y
@@ -323,9 +324,9 @@ place_put c r p by q b past h may s a e false hx y hy = rw hx s
 
 -- what allows an `Enter` for a place
 pub place_needs : (c : Config) (r p s : ℕ) (t : Target) (past : List Event) → MayEnter c r (part r past) p t → t ≡ Target.Place s → (is_member r p past ≡ true) × (is_over r past ≡ false)
-place_needs c r p s Target.None past may e = absurd may
+place_needs c r p s Target.None past may e = absurd may.0
 place_needs c r p s Target.Min past may e = cc
-place_needs c r p s (Target.Place x) past may e = (ap is_some (sym (joined_under-part r p past)) ∙ may.0, sym (over-part r past) ∙ may.1)
+place_needs c r p s (Target.Place x) past may e = (ap is_some (sym (joined_under-part r p past)) ∙ may.0, sym (over-part r past) ∙ may.1.0)
 
 place_enter : (c : Config) (r p by q : ℕ) (t : Target) (past : List Event) → IsLegalHistory c past → MayEnter c by (part by past) q t → OpenPlace r p past
     → (a : Answer) → entered_or_lost (noted_grant by q past) (fence q past) ≡ a → (x : Bool) → (by == r) ≡ x → (y : Bool) → (q == p) ≡ y
@@ -357,5 +358,5 @@ open_place c r p = legal_induction c (OpenPlace r p) (λ t e. cc) (λ past by v 
 -- the number of a slot that lands is the region's minimum
 pub slot_number : (c : Config) (r p i b v : ℕ) (past : List Event) → IsLegalHistory c past → Needs c r (part r past) (Verb.PutSlot p i b v) → put_answer (drained r p past) ≡ Answer.Done → b ≡ region_min p past
 slot_number c r p i b v past h may e =
-    same_some b (region_min p past) (sym may.2.numbered ∙ number-part r past
-    ∙ open_place c r p past h (i % c.ring) (sym (open_target-part r p past) ∙ slot_entered c r p i b v (part r past) may.2) (put_done_undrained (drained r p past) e))
+    same_some b (region_min p past) (sym (put_facts c r (part r past) p i b v may).numbered ∙ number-part r past
+    ∙ open_place c r p past h (i % c.ring) (sym (open_target-part r p past) ∙ slot_entered c r p i b v (part r past) (put_facts c r (part r past) p i b v may)) (put_done_undrained (drained r p past) e))

@@ -13,7 +13,7 @@ use Rattle.mu_model.specs.declared.event.Answer.{Answer}
 use Rattle.mu_agree.specs.Laws.{MinimumRises}
 use Rattle.mu_model.specs.Allowed.{Needs}
 use Rattle.mu_model.specs.Answers.{drained, entered_or_lost, put_answer}
-use Rattle.mu_model.specs.Entering.{MayEnter, MayPutMin, grant_seen, min_read, min_read_since, min_read_under, number_allowed, open_target}
+use Rattle.mu_model.specs.Entering.{grant_seen, min_read, min_read_since, min_read_under, number_allowed, open_target}
 use Rattle.mu_model.specs.Histories.{earlier_or, has, newest, or_zero, part}
 use Rattle.mu_model.specs.Leaderships.{begins_leadership, is_first_ask, leadership, noted_grant, proposal_number}
 use Rattle.mu_model.specs.Legal.{IsLegalHistory}
@@ -23,6 +23,7 @@ use Rattle.mu_agree.proofs.Legal.{event_after, legal_induction, legal_onward}
 use Rattle.mu_agree.proofs.Numbers.{greatest_own_put, number-part, fresh_by, fresh}
 use Rattle.mu_agree.proofs.Access.{noted_grant_is_owned, opened_is_held, min_holds, put_done_undrained, entered_holds, entered_facts, open_target-part}
 use Rattle.mu_model.proofs.Basics.{same_some}
+use Rattle.mu_model.proofs.Putting.{MayPutMin, MayEnter, min_facts}
 
 -- the number of the leadership is the greatest that was put
 abbrev pub TopIs : ℕ → List Event → Type 0
@@ -52,7 +53,7 @@ top_ask c r by q past s false h = rw h s
 
 top_step : (c : Config) (r by : ℕ) (v : Verb) (past : List Event) → Needs c by (part by past) v → TopIs r past → TopIs r (event_after c past by v ∷ past)
 top_step c r by (Verb.Ask q) past may s = top_ask c r by q past s (is_first_ask r by (Verb.Ask q)) refl
-top_step c r by (Verb.PutMin p b) past may s = top_put c r by p b past may.1 s (by == r) refl
+top_step c r by (Verb.PutMin p b) past may s = top_put c r by p b past (min_facts c by (part by past) p b may) s (by == r) refl
 top_step c r by v past may s = s
 
 pub top_is : (c : Config) (r : ℕ) (past : List Event) → IsLegalHistory c past → TopIs r past
@@ -195,10 +196,10 @@ since_under r p past g (Some x) e h = subst (λ z. min_read_under r p z past ≡
 
 -- who enters for the minimum has read it under the grant
 pub entered_read : (c : Config) (r p g : ℕ) (t : Target) (past : List Event) → MayEnter c r (part r past) p t → t ≡ Target.Min → noted_grant r p past ≡ Some g → min_read_under r p g past ≡ true
-entered_read c r p g Target.None past may e n = absurd may
+entered_read c r p g Target.None past may e n = absurd may.0
 entered_read c r p g (Target.Place s) past may e n = cc
 entered_read c r p g Target.Min past may e n =
-    sym (read_under-part r p g past) ∙ since_under r p (part r past) g (noted_grant r p (part r past)) (noted-part r p past ∙ n) may.2
+    sym (read_under-part r p g past) ∙ since_under r p (part r past) g (noted_grant r p (part r past)) (noted-part r p past ∙ n) may.1.1.0
 
 abbrev pub OpenMin : ℕ → ℕ → List Event → Type 0
 OpenMin r p past = open_target r p past ≡ Some Target.Min → drained r p past ≡ false → region_min p past ≤ max (last_read r p past) (greatest_own_put r past)
@@ -263,9 +264,9 @@ open_min_law c r p = legal_induction c (OpenMin r p) (λ e d. cc) (λ past by v 
 -- a minimum that lands is at least the one before
 pub min_lands : (c : Config) (r p b : ℕ) (past : List Event) → IsLegalHistory c past → Needs c r (part r past) (Verb.PutMin p b) → put_answer (drained r p past) ≡ Answer.Done → region_min p past ≤ b
 min_lands c r p b past h may e =
-    let k = open_min_law c r p past h (sym (open_target-part r p past) ∙ may.1.entered) (put_done_undrained (drained r p past) e) in
-    let t = top_below c r p b past h may.1 in
-    let l : last_read r p past ≤ b = rw (← last_read-part r p past) may.1.read in
+    let k = open_min_law c r p past h (sym (open_target-part r p past) ∙ (min_facts c r (part r past) p b may).entered) (put_done_undrained (drained r p past) e) in
+    let t = top_below c r p b past h (min_facts c r (part r past) p b may) in
+    let l : last_read r p past ≤ b = rw (← last_read-part r p past) (min_facts c r (part r past) p b may).read in
     omega arith
 
 rises_put : (c : Config) (p by q b m : ℕ) (past : List Event) → IsLegalHistory c past → Needs c by (part by past) (Verb.PutMin q b) → m ≤ region_min p past

@@ -7,7 +7,7 @@ use Rattle.mu_model.specs.declared.event.Verb.{Verb}
 use Rattle.mu_model.specs.declared.event.Answer.{Answer}
 use Rattle.mu_agree.specs.Laws.{NumbersDiffer}
 use Rattle.mu_model.specs.Allowed.{Needs}
-use Rattle.mu_model.specs.Entering.{MayPutMin, number_allowed}
+use Rattle.mu_model.specs.Entering.{number_allowed}
 use Rattle.mu_model.specs.Histories.{earlier_or, greatest, oldest, part, since}
 use Rattle.mu_model.specs.Leaderships.{begins_leadership, is_first_ask, leaderships, number_put, proposal_number}
 use Rattle.mu_model.specs.Legal.{IsLegalHistory}
@@ -15,6 +15,7 @@ use Rattle.std.proofs.lemmas.List.{reverse-append}
 use mathlib.Core.List.{reverse}
 use Rattle.mu_model.proofs.Owned.{IsOwn, oldest-part, greatest-part, since-part, begins-own}
 use Rattle.mu_model.proofs.Basics.{same_some}
+use Rattle.mu_model.proofs.Putting.{MayPutMin, min_facts}
 
 number_put-own_at : (r by : ℕ) (v : Verb) → (by == r) ≡ false → number_put r by v ≡ None
 number_put-own_at r by (Verb.PutMin p b) h = rw h refl
@@ -74,7 +75,7 @@ step_put r b n by p b' a past new s false h = record { put = rw h s.put; own = s
 
 step : (c : Config) (r b n by : ℕ) (v : Verb) (a : Answer) (past : List Event) → Needs c by (part by past) v → Stands r b n past → Stands r b n (record { by = by; verb = v; answer = a } ∷ past)
 step c r b n by (Verb.Ask p) a past may s = step_ask r b n by p a past s (is_first_ask r by (Verb.Ask p)) refl
-step c r b n by (Verb.PutMin p b') a past may s = step_put r b n by p b' a past (fresh_by r by p b' past may.1) s (by == r) refl
+step c r b n by (Verb.PutMin p b') a past may s = step_put r b n by p b' a past (fresh_by r by p b' past (min_facts c by (part by past) p b' may)) s (by == r) refl
 step c r b n by v a past may s = record { put = s.put; own = s.own; case = s.case }
 
 number_ask : (r by p : ℕ) (a : Answer) (past : List Event) → Numbered r past → (t : Bool) → is_first_ask r by (Verb.Ask p) ≡ t → Numbered r (record { by = by; verb = Verb.Ask p; answer = a } ∷ past)
@@ -95,7 +96,7 @@ number_step_put r by p b a past new s false h = record { put = rw h s.put; own =
 
 number_step : (c : Config) (r by : ℕ) (v : Verb) (a : Answer) (past : List Event) → Needs c by (part by past) v → Numbered r past → Numbered r (record { by = by; verb = v; answer = a } ∷ past)
 number_step c r by (Verb.Ask p) a past may s = number_ask r by p a past s (is_first_ask r by (Verb.Ask p)) refl
-number_step c r by (Verb.PutMin p b) a past may s = number_step_put r by p b a past (fresh_by r by p b past may.1) s (by == r) refl
+number_step c r by (Verb.PutMin p b) a past may s = number_step_put r by p b a past (fresh_by r by p b past (min_facts c by (part by past) p b may)) s (by == r) refl
 number_step c r by v a past may s = record { put = s.put; own = s.own }
 
 pub numbered : (c : Config) (r : ℕ) (past : List Event) → IsLegalHistory c past → Numbered r past

@@ -15,6 +15,7 @@ use Rattle.mu_agree.proofs.Numbers.{number-part, numbered, greatest_own_put, fre
 use Rattle.mu_agree.proofs.Members.{number_stays}
 use Rattle.mu_agree.proofs.Landings.{at_part}
 use Rattle.mu_model.proofs.Basics.{same_some}
+use Rattle.mu_model.proofs.Putting.{put_facts, min_facts}
 
 abbrev pub slot_value : ℕ → ℕ → Verb → Option ℕ
 slot_value i b (Verb.PutSlot p j n w) = if (j == i) && (n == b) then Some w else None
@@ -37,7 +38,7 @@ offer_stays i b v e past h = go (slot_value i b e.verb)
 
 -- the number that a put carries
 pub put_number : (c : Config) (by q j n w : ℕ) (past : List Event) → Needs c by (part by past) (Verb.PutSlot q j n w) → proposal_number by past ≡ Some n
-put_number c by q j n w past may = sym (number-part by past) ∙ may.2.numbered
+put_number c by q j n w past may = sym (number-part by past) ∙ (put_facts c by (part by past) q j n w may).numbered
 
 abbrev pub OfferBelow : ℕ → ℕ → List Event → Type 0
 OfferBelow i b past = (v : ℕ) → first_offered i b past ≡ Some v → b ≤ greatest_own_put (b % 8) past
@@ -77,7 +78,7 @@ no_first_ask c r i by q past J s true h = rw h (λ e. refl)
 no_first_ask c r i by q past J s false h = rw h s
 
 no_first_slot : (c : Config) (r i by q j n w : ℕ) (past : List Event) → Needs c by (part by past) (Verb.PutSlot q j n w) → (by == r) ≡ true → NoFirst r i (event_after c past by (Verb.PutSlot q j n w) ∷ part r past)
-no_first_slot c r i by q j n w past may hx = λ e. (let k : proposal_number r (part r past) ≡ Some n = subst (λ z. proposal_number z (part z past) ≡ Some n) (eqb-true by r hx) may.2.numbered in let l : None ≡ Some n = sym e ∙ k in cc)
+no_first_slot c r i by q j n w past may hx = λ e. (let k : proposal_number r (part r past) ≡ Some n = subst (λ z. proposal_number z (part z past) ≡ Some n) (eqb-true by r hx) (put_facts c by (part by past) q j n w may).numbered in let l : None ≡ Some n = sym e ∙ k in cc)
 
 no_first_step : (c : Config) (r i by : ℕ) (v : Verb) (past : List Event) → Needs c by (part by past) v → NoFirst r i (part r past) → NoFirst r i (part r (event_after c past by v ∷ past))
 no_first_step c r i by (Verb.Ask q) past may s = at_part (NoFirst r i) r (event_after c past by (Verb.Ask q)) past s (λ _. no_first_ask c r i by q past (part r past) s (is_first_ask r by (Verb.Ask q)) refl)
@@ -106,7 +107,7 @@ first_other c r i by q j n w past h may s hx b e = go (j == i) (n == b) refl
 
 first_own : (c : Config) (r i by q j n w : ℕ) (past : List Event) → Needs c by (part by past) (Verb.PutSlot q j n w) → FirstIs r i past (part r past) → (by == r) ≡ true → FirstIs r i (event_after c past by (Verb.PutSlot q j n w) ∷ past) (event_after c past by (Verb.PutSlot q j n w) ∷ part r past)
 first_own c r i by q j n w past may s hx b e =
-    let k : proposal_number r (part r past) ≡ Some n = subst (λ z. proposal_number z (part z past) ≡ Some n) (eqb-true by r hx) may.2.numbered in
+    let k : proposal_number r (part r past) ≡ Some n = subst (λ z. proposal_number z (part z past) ≡ Some n) (eqb-true by r hx) (put_facts c by (part by past) q j n w may).numbered in
     let same : n ≡ b = same_some n b (sym k ∙ e) in
     let t : (n == b) ≡ true = eq-eqb n b same in
     rw (hx, t) (go (j == i) (first_offered i b past) (first_value r i (part r past)) (s b e))
@@ -125,7 +126,7 @@ first_min c r i by q b' past h may s hx = rw hx (λ b e. go (proposal_number r (
     go : (o : Option ℕ) → proposal_number r (part r past) ≡ o → (b : ℕ) → earlier_or (Some b') o ≡ Some b → first_offered i b past ≡ first_value r i (part r past)
     go (Some x) k b e = s b (k ∙ e)
     go None k b e =
-        let f = fresh_by r by q b' past may.1 hx (sym (number-part r past) ∙ k) in
+        let f = fresh_by r by q b' past (min_facts c by (part by past) q b' may) hx (sym (number-part r past) ∙ k) in
         let same : b' ≡ b = same_some b' b e in
         subst (λ z. first_offered i z past ≡ first_value r i (part r past)) same (offer_none c i b' r past (first_offered i b' past) h refl f.1 f.0 ∙ sym (no_first c r i past h k))
 

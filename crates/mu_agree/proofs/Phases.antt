@@ -33,6 +33,7 @@ use Rattle.mu_agree.proofs.Agreement.{get_more, slot_at, puts_at_members}
 use Rattle.mu_agree.proofs.Copies.{it_is_at}
 use Rattle.mu_agree.proofs.Filled.{filled_put, late_step, value_is}
 use Rattle.mu_model.proofs.Basics.{same_some}
+use Rattle.mu_model.proofs.Putting.{put_facts}
 
 -- a put of a leadership carries its number
 abbrev pub Carries : ℕ → ℕ → ℕ → ℕ → List Event → List Event → Type 0
@@ -49,7 +50,7 @@ carries_put c i V r p by q j n w past may s hx Answer.Done b m o =
       | inl k ↦ (let x = and_parts (by == r) ((q == p) && ((j == i) && (w == V))) k in
           let y = and_parts (q == p) ((j == i) && (w == V)) x.1 in
           let z = and_parts (j == i) (w == V) y.1 in
-          let u : (n == b) ≡ true = eq-eqb n b (same_some n b (sym may.2.numbered ∙ o)) in rw (y.0, z.0, u, z.1) refl)
+          let u : (n == b) ≡ true = eq-eqb n b (same_some n b (sym (put_facts c r (part r past) q j n w may).numbered ∙ o)) in rw (y.0, z.0, u, z.1) refl)
       | inr k ↦ landed_stays p i b V (record { by = by; verb = Verb.PutSlot q j n w; answer = Answer.Done }) past (s b k o)
     ]
 carries_put c i V r p by q j n w past may s hx a b m o = s b m o
@@ -146,7 +147,7 @@ late_start c i by q j n w past h al s ch = record { base = base'; knows = knows'
     base' = base_start c i w n (event_after c past by (Verb.PutSlot q j n w) ∷ past) own' (early_safe c i by q j n w past h s al.may) ch
 
     within : j ≤ i
-    within = let k = position_within c by q j n w (part by past) al.may.2 in let l = s.unknown by in omega arith
+    within = let k = position_within c by q j n w (part by past) (put_facts c by (part by past) q j n w al.may) in let l = s.unknown by in omega arith
 
     none : (p : ℕ) → Protected p i (event_after c past by (Verb.PutSlot q j n w) ∷ past) → ⊥
     none p (inl k) = let l = s.fuo p in omega arith

@@ -217,7 +217,7 @@ no_own_beat : (c : Config) (r by q : ℕ) (a : Answer) (past : List Event) → N
 no_own_beat c r by q (Answer.Number x) past may own = go (by == r) (q == r) refl
   where
     go : (t u : Bool) → (q == r) ≡ u → (if t && u then Some x else None) ≡ None
-    go true true e = absurd (may.1 (eqb-true q r e ∙ sym (eqb-true by r own)))
+    go true true e = absurd (may.1.0 (eqb-true q r e ∙ sym (eqb-true by r own)))
     go true false e = refl
     go false u e = refl
 no_own_beat c r by q a past may own = refl

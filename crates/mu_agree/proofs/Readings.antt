@@ -29,6 +29,7 @@ use Rattle.mu_agree.proofs.Legal.{legal_induction, event_after}
 use Rattle.mu_agree.proofs.Numbers.{number-part, numbered, greatest_own_put, greatest_own_put-part}
 use Rattle.mu_agree.proofs.Possible.{at_event, parts_shorten_law, same_fence}
 use Rattle.mu_model.proofs.Budgets.{part_within_budget}
+use Rattle.mu_model.proofs.Putting.{min_facts}
 
 -- a head that was read is at most the head
 abbrev pub HeadLow : ℕ → ℕ → List Event → Type 0
@@ -96,7 +97,7 @@ fuo_step : (c : Config) (p by : ℕ) (v : Verb) (past : List Event) → IsLegalH
 fuo_step c p by (Verb.RaiseFuo q u) past legal may h = go (q == p)
   where
     go : (t : Bool) → max_with (cond t (Some u) None) (region_fuo p past) ≤ row_count c + reserve c + 1
-    go true = let most = known_within c by (part by past) (record { past = past; legal = legal; is = refl }) in let low = may.1 in let old : region_fuo p past ≤ row_count c + reserve c + 1 = h in omega arith
+    go true = let most = known_within c by (part by past) (record { past = past; legal = legal; is = refl }) in let low = may.1.0 in let old : region_fuo p past ≤ row_count c + reserve c + 1 = h in omega arith
     go false = h
 fuo_step c p by v past legal may h = h
 
@@ -194,7 +195,7 @@ number_low c r b m past (Some first) few inside legal low is allowed =
 
 count_step : (c : Config) (by : ℕ) (v : Verb) (past : List Event) → c.replicas ≤ 7 → IsLegalHistory c past → Allowed c by (part by past) v → CountLow past → CountLow (event_after c past by v ∷ past)
 count_step c by (Verb.PutMin p b) past few legal may h =
-    let m = may.may.1 in
+    let m = min_facts c by (part by past) p b may.may in
     let low = number_low c by b (length past) past (proposal_number by (part by past)) few may.replica legal h refl m.numbered in
     let old : greatest_put past ≤ 8 * length past + 7 = h in
     omega (arith, low, old)

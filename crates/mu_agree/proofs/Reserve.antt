@@ -23,7 +23,6 @@ use Rattle.mu_model.specs.Histories.{history, part}
 use Rattle.mu_model.specs.Knowledge.{known}
 use Rattle.mu_model.specs.Legal.{IsLegalHistory}
 use Rattle.mu_model.specs.Picks.{highest_accepted}
-use Rattle.mu_model.specs.Placing.{IsNew, MayPutSlot}
 use Rattle.mu_model.specs.Regions.{head_raised, region_head}
 use Rattle.mu_model.specs.Room.{has_room, last_head, reserve}
 use Rattle.mu_agree.proofs.Legal.{event_after, legal_induction}
@@ -41,6 +40,7 @@ use Rattle.mu_model.proofs.Lists.{item_below}
 use Rattle.std.proofs.lemmas.Option.{slice_get_within}
 use Rattle.mu_agree.proofs.Fitting.{among_keys, apart, distinct_keys, keys, keys_short, mark_within, reserve_is}
 use Rattle.mu_model.proofs.Scans.{all_at}
+use Rattle.mu_model.proofs.Putting.{MayPutSlot, IsNew, put_facts}
 
 -- what holds of each position at which a value that passes the test was put
 abbrev EachTried : (ℕ → Bool) → (ℕ → List Event → Type 0) → List Event → Type 0
@@ -75,7 +75,7 @@ slot_tried : (c : Config) (test : ℕ → Bool) (P : ℕ → List Event → Type
 slot_tried c test P stays holds by p j n w past h may s a i v m passes = stays i (record { by = by; verb = Verb.PutSlot p j n w; answer = a }) past (elim (has_cases ((j == i) && (w == v)) (tried i v past) m) [
   | inl k ↦ (let x = and_parts (j == i) (w == v) k in
       subst (λ z. P z past) (eqb-true j i x.0)
-      (put_tried c test P holds by p j n w past h s may.2 (subst (λ z. test z ≡ true) (sym (eqb-true w v x.1)) passes)))
+      (put_tried c test P holds by p j n w past h s (put_facts c by (part by past) p j n w may) (subst (λ z. test z ≡ true) (sym (eqb-true w v x.1)) passes)))
   | inr k ↦ s i v k passes
 ])
 
@@ -228,7 +228,7 @@ pub parts_leave_room_law : PartsLeaveRoom
 parts_leave_room_law c r q h mine e g poss two v a unmarked =
     let s = at_event c r mine e poss in
     let is : h ≡ region_head q s.older = number_is h (region_head q s.older) (sym a ∙ answered c r mine e (Verb.Head q) poss v) in
-    let low : q < c.replicas = subst (λ z. Needs c e.by (part e.by s.older) z) v s.follows.allowed.may in
+    let low : q < c.replicas = (subst (λ z. Needs c e.by (part e.by s.older) z) v s.follows.allowed.may).0 in
     let k = known_leaves c q r s.older g s.legal two low (subst (λ z. marked c q (known c r z) ≡ false) (sym s.part_is) unmarked) in
     let same : length (known c r (part r s.older)) ≡ length (known c r mine) = ap (λ z. length (known c r z)) s.part_is in
     omega (arith, is, k, same)

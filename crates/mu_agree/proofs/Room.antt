@@ -17,7 +17,7 @@ use Rattle.mu_model.specs.Histories.{has, history, max_with, newer_or, newest, o
 use Rattle.mu_model.specs.Knowledge.{known}
 use Rattle.mu_model.specs.Leaderships.{begins_leadership, leadership}
 use Rattle.mu_model.specs.Legal.{IsLegalHistory, MayFollow}
-use Rattle.mu_model.specs.Placing.{IsNew, MayPutSlot, fuo_read_or_raised, is_within_ring, reaches_head}
+use Rattle.mu_model.specs.Placing.{fuo_read_or_raised, is_within_ring, reaches_head}
 use Rattle.mu_model.specs.Regions.{region_fuo, region_head, region_log}
 use Rattle.mu_model.specs.Room.{head_read, last_head}
 use Rattle.mu_agree.proofs.Legal.{event_after, legal_induction, legal_older}
@@ -29,6 +29,7 @@ use Rattle.mu_agree.proofs.Landed.{lands_within, landed_within}
 use Rattle.mu_agree.proofs.Choice.{chosen_somewhere}
 use Rattle.mu_agree.proofs.Tame.{chosen_stays, known_longer}
 use Rattle.mu_agree.proofs.Phases.{known_chosen}
+use Rattle.mu_model.proofs.Putting.{IsNew, MayPutSlot, head_applied, head_reached, put_facts}
 
 -- a mark stays
 pub marked_stays : (c : Config) (q : ℕ) (e : Event) (past : List Event) → IsMarked c q past → IsMarked c q (e ∷ past)
@@ -108,7 +109,7 @@ length_put_room log i n z l m k = go (i == length log) refl
     go false h = let e = length-set log i z in omega arith
 
 room_slot : (c : Config) (q by p' j n w : ℕ) (past : List Event) → q < c.replicas → IsLegalHistory c past → Needs c by (part by past) (Verb.PutSlot p' j n w) → HasRoom c q past → (a : Answer) → HasRoom c q (record { by = by; verb = Verb.PutSlot p' j n w; answer = a } ∷ past)
-room_slot c q by p' j n w past l h may s Answer.Done p = elim (room_to_put c q by p' j n w past l h s may.2) [
+room_slot c q by p' j n w past l h may s Answer.Done p = elim (room_to_put c q by p' j n w past l h s (put_facts c by (part by past) p' j n w may)) [
   | inr m ↦ inr (marked_stays c q (record { by = by; verb = Verb.PutSlot p' j n w; answer = Answer.Done }) past m)
   | inl k ↦ elim (s p) [
     | inr m ↦ inr (marked_stays c q (record { by = by; verb = Verb.PutSlot p' j n w; answer = Answer.Done }) past m)
@@ -173,7 +174,7 @@ HeadBelow r past = region_head r past ≤ region_fuo r past
 head_raise : (c : Config) (r by k : ℕ) (past : List Event) → IsLegalHistory c past → Needs c by (part by past) (Verb.RaiseHead k) → HeadBelow r past → (t : Bool) → (by == r) ≡ t → max_with (cond t (Some k) None) (region_head r past) ≤ region_fuo r past
 head_raise c r by k past h may s true hx =
     let m = subst (λ z. Needs c z (part z past) (Verb.RaiseHead k)) (eqb-true by r hx) may in
-    let l = covers_below c r r past h k m.1 in omega arith
+    let l = covers_below c r r past h k (head_reached c r (part r past) k m) in omega arith
 head_raise c r by k past h may s false hx = s
 
 head_step : (c : Config) (r by : ℕ) (v : Verb) (past : List Event) → IsLegalHistory c past → Needs c by (part by past) v → HeadBelow r past → HeadBelow r (event_after c past by v ∷ past)
@@ -194,7 +195,7 @@ HeadKnown c r past = region_head r past ≤ length (known c r (part r past))
 head_known_raise : (c : Config) (r by k : ℕ) (past : List Event) → Needs c by (part by past) (Verb.RaiseHead k) → HeadKnown c r past → (t : Bool) → (by == r) ≡ t → max_with (cond t (Some k) None) (region_head r past) ≤ length (known c r (part r past))
 head_known_raise c r by k past may s true hx =
     let m = subst (λ z. Needs c z (part z past) (Verb.RaiseHead k)) (eqb-true by r hx) may in
-    let l = m.0 in
+    let l = head_applied c r (part r past) k m in
     let f = front_length c r (part r past) (known c r (part r past)) in omega arith
 head_known_raise c r by k past may s false hx = s
 
@@ -255,7 +256,7 @@ LogNear c p past = length (region_log p past) ≤ region_fuo p past + c.ring
 log_put : (c : Config) (p by p' j n w : ℕ) (past : List Event) → c.version ≡ 2 → IsLegalHistory c past → Needs c by (part by past) (Verb.PutSlot p' j n w) → LogNear c p past → (a : Answer) → (t : Bool) → (p' == p) ≡ t
     → LogNear c p (record { by = by; verb = Verb.PutSlot p' j n w; answer = a } ∷ past)
 log_put c p by p' j n w past two h may s Answer.Done true e =
-    let k : j < region_fuo p past + c.ring = subst (λ z. j < region_fuo z past + c.ring) (eqb-true p' p e) (near_put c by p' j n w past two h may.2) in
+    let k : j < region_fuo p past + c.ring = subst (λ z. j < region_fuo z past + c.ring) (eqb-true p' p e) (near_put c by p' j n w past two h (put_facts c by (part by past) p' j n w may)) in
     let within : j ≤ length (region_log p past) = subst (λ z. j ≤ length (region_log z past)) (eqb-true p' p e) (lands_within c p' by j n w past h may) in
     rw e (length_put_room (region_log p past) j (region_fuo p past + c.ring) (n, w) within s k)
 log_put c p by p' j n w past two h may s Answer.Done false e = rw e s

@@ -26,6 +26,7 @@ use Rattle.mu_agree.proofs.Phases.{one_chosen, known_chosen}
 use Rattle.mu_agree.proofs.Sound.{Fits, by_batch, by_mark, Sound, chosen_sound, all_sound, put_sound}
 use Rattle.mu_model.proofs.Basics.{same_some}
 use Rattle.mu_model.proofs.Lists.{get_front, item_below}
+use Rattle.mu_model.proofs.Putting.{put_facts}
 
 -- laws of lists of numbers
 pub length_counted : (n k : ℕ) → length (counted n k) ≡ n
@@ -227,7 +228,7 @@ rows_first : (c : Config) (p i b v : ℕ) (e : Event) (newer older all : List Ev
 rows_first c p i b v e newer older all is g h ev k =
     let legal : IsLegalHistory c (e ∷ older) = legal_older c newer (e ∷ older) (subst (IsLegalHistory c) is h) in
     let may : Needs c e.by (part e.by older) (Verb.PutSlot p i b v) = subst (λ z. Needs c e.by (part e.by older) z) ev legal.1.allowed.may in
-    let s = put_sound c e.by p i b v older legal.0 (all_sound c older legal.0) may.2 in
+    let s = put_sound c e.by p i b v older legal.0 (all_sound c older legal.0) (put_facts c e.by (part e.by older) p i b v may) in
     fits_written c v s.values older g s.fits k
 
 pub rows_come_first_law : RowsComeFirst
@@ -244,7 +245,7 @@ word_step c r j k by (Verb.WriteRow row word x) past may s = go ((by == r) && ((
     go true h m =
         let y = and_parts (by == r) ((row == j) && (word == k)) h in
         let z = and_parts (row == j) (word == k) y.1 in
-        ap Some (may.2 ∙ ap (λ a. config_word c a word) (eqb-true row j z.0) ∙ ap (λ a. config_word c j a) (eqb-true word k z.1))
+        ap Some (may.1.1.0 ∙ ap (λ a. config_word c a word) (eqb-true row j z.0) ∙ ap (λ a. config_word c j a) (eqb-true word k z.1))
     go false h m = s m
 word_step c r j k by v past may s = s
 

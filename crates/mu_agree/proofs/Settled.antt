@@ -10,12 +10,11 @@ use Rattle.mu_model.specs.declared.event.Verb.{Verb}
 use Rattle.mu_model.specs.declared.event.Answer.{Answer}
 use Rattle.mu_model.specs.Allowed.{Needs}
 use Rattle.mu_model.specs.Answers.{drained, put_answer}
-use Rattle.mu_model.specs.Entering.{MayPutMin}
 use Rattle.mu_model.specs.Histories.{all_below, earlier_or, has, max_with, part}
 use Rattle.mu_model.specs.Knowledge.{fuo_read, greatest_fuo_read, is_filled, is_value, known}
 use Rattle.mu_model.specs.Leaderships.{begins_leadership, is_first_ask, is_member, leadership, proposal_number}
 use Rattle.mu_model.specs.Legal.{IsLegalHistory}
-use Rattle.mu_model.specs.Placing.{MayPutSlot, is_known_put}
+use Rattle.mu_model.specs.Placing.{is_known_put}
 use Rattle.mu_model.specs.Regions.{region_fuo, region_log, region_min}
 use Rattle.mu_agree.proofs.Legal.{event_after}
 use Rattle.mu_agree.proofs.Numbers.{number-part, numbered, fresh_by}
@@ -30,6 +29,7 @@ use Rattle.mu_agree.proofs.Early.{Protected, position_within, length_most}
 use Rattle.mu_agree.proofs.Late.{Base}
 use Rattle.mu_agree.proofs.Tame.{Tame, knowing, tame_put, tame_own, join_tame, other_tame}
 use Rattle.mu_model.proofs.Basics.{same_some}
+use Rattle.mu_model.proofs.Putting.{MayPutMin, MayPutSlot, put_facts, min_facts, raise_facts}
 
 abbrev pub Shows : ℕ → ℕ → ℕ → List Event → Type 0
 Shows i V p past = (y : ℕ × ℕ) → slice_get (region_log p past) i ≡ Some y → y.1 ≡ V
@@ -59,7 +59,7 @@ shows_put c i V B maj p by q j n w past h may s kn z Answer.Done e true hq = rw 
   where
     put_is : j ≡ i → w ≡ V
     put_is k =
-        let at : MayPutSlot c by (part by past) p i n w = subst (λ x. MayPutSlot c by (part by past) p x n w) k (subst (λ x. MayPutSlot c by (part by past) x j n w) (eqb-true q p hq) may.2) in
+        let at : MayPutSlot c by (part by past) p i n w = subst (λ x. MayPutSlot c by (part by past) p x n w) k (subst (λ x. MayPutSlot c by (part by past) x j n w) (eqb-true q p hq) (put_facts c by (part by past) q j n w may)) in
         let num : n ≡ region_min p past = slot_number c by q j n w past h may e ∙ ap (λ x. region_min x past) (eqb-true q p hq) in
         tame_put c i V B maj by p n w past h s (kn by) (z.tame by at.member (at.numbered ∙ ap Some num)) at
 shows_put c i V B maj p by q j n w past h may s kn z Answer.Done e false hq = rw hq z.shows
@@ -94,7 +94,7 @@ TameAt c i V B maj r p now J = is_member r p J ≡ true → proposal_number r J 
 
 other_min : (c : Config) (i V B : ℕ) (maj : ℕ → Bool) (p by q b r : ℕ) (past : List Event) → IsLegalHistory c past → Needs c by (part by past) (Verb.PutMin q b) → Settled c i V B maj p past → (by == r) ≡ false
     → (a : Answer) → (y : Bool) → (q == p) ≡ y → TameAt c i V B maj r p (record { by = by; verb = Verb.PutMin q b; answer = a } ∷ past) (part r past)
-other_min c i V B maj p by q b r past h may z hx Answer.Done true hq = rw hq (λ m o. absurd (eqb-false by r hx (sym (min_of c by q b past h may.1) ∙ (numbered c r past h).own b (sym (number-part r past) ∙ o))))
+other_min c i V B maj p by q b r past h may z hx Answer.Done true hq = rw hq (λ m o. absurd (eqb-false by r hx (sym (min_of c by q b past h (min_facts c by (part by past) q b may)) ∙ (numbered c r past h).own b (sym (number-part r past) ∙ o))))
 other_min c i V B maj p by q b r past h may z hx Answer.Done false hq = rw hq (λ m o. other_tame c i V B maj r (record { by = by; verb = Verb.PutMin q b; answer = Answer.Done }) (part r past) past (z.tame r m o))
 other_min c i V B maj p by q b r past h may z hx a y hq = λ m o. other_tame c i V B maj r (record { by = by; verb = Verb.PutMin q b; answer = a }) (part r past) past (z.tame r m o)
 
@@ -172,13 +172,13 @@ pub record Late (c : Config) (i V B : ℕ) (maj : ℕ → Bool) (past : List Eve
 -- a put at the next position lands only if i shows the chosen value
 next_settled : (c : Config) (i V B : ℕ) (maj : ℕ → Bool) (p by j n w : ℕ) (past : List Event) → IsLegalHistory c past → Needs c by (part by past) (Verb.PutSlot p j n w) → put_answer (drained by p past) ≡ Answer.Done → Late c i V B maj past → i < j → Settled c i V B maj p past
 next_settled c i V B maj p by j n w past h may e s l =
-    elim (or_cases (nat_lt i (greatest_fuo_read by p (leadership by (part by past)))) (has (λ e. is_known_put (known c by (part by past)) by p i e.by e.verb e.answer) (leadership by (part by past))) (may.2.caught_up i l)) [
+    elim (or_cases (nat_lt i (greatest_fuo_read by p (leadership by (part by past)))) (has (λ e. is_known_put (known c by (part by past)) by p i e.by e.verb e.answer) (leadership by (part by past))) ((put_facts c by (part by past) p j n w may).caught_up i l)) [
       | inl k ↦ (let x = ltb-true i (greatest_fuo_read by p (leadership by (part by past))) k in
           let y = greatest_since (λ e. fuo_read by p e.by e.verb e.answer) (begins_leadership by) (part by past) in
           let z = (no_gaps c p past h).read by in s.settled p (inl (omega arith)))
       | inr k ↦ record {
-        shows = s.copied by p (has_implied (λ e. is_known_put (known c by (part by past)) by p i e.by e.verb e.answer) (λ e. puts_it i V by p e.by e.verb e.answer) (λ e m. known_put_it i V (known c by (part by past)) (s.knows by) by p e.by e.verb e.answer m) (leadership by (part by past)) k) (may.2.numbered ∙ ap Some num);
-        tame = λ r m o. knowing (subst (λ x. i < length (known c x (part x past))) (of_one c r by n past h (sym (number-part r past) ∙ o ∙ ap Some (sym num)) (sym (number-part by past) ∙ may.2.numbered)) within);
+        shows = s.copied by p (has_implied (λ e. is_known_put (known c by (part by past)) by p i e.by e.verb e.answer) (λ e. puts_it i V by p e.by e.verb e.answer) (λ e m. known_put_it i V (known c by (part by past)) (s.knows by) by p e.by e.verb e.answer m) (leadership by (part by past)) k) ((put_facts c by (part by past) p j n w may).numbered ∙ ap Some num);
+        tame = λ r m o. knowing (subst (λ x. i < length (known c x (part x past))) (of_one c r by n past h (sym (number-part r past) ∙ o ∙ ap Some (sym num)) (sym (number-part by past) ∙ (put_facts c by (part by past) p j n w may).numbered)) within);
       }
     ]
   where
@@ -186,7 +186,7 @@ next_settled c i V B maj p by j n w past h may e s l =
     num = slot_number c by p j n w past h may e
 
     within : i < length (known c by (part by past))
-    within = let k = position_within c by p j n w (part by past) may.2 in omega arith
+    within = let k = position_within c by p j n w (part by past) (put_facts c by (part by past) p j n w may) in omega arith
 
 settled_raise : (c : Config) (i V B : ℕ) (maj : ℕ → Bool) (p by q u : ℕ) (past : List Event) → Needs c by (part by past) (Verb.RaiseFuo q u) → Late c i V B maj past → (t : Bool) → (q == p) ≡ t
     → (i < max_with (cond t (Some u) None) (region_fuo p past)) ⊎ (i + 1 < length (region_log p past)) → Settled c i V B maj p past
@@ -195,7 +195,7 @@ settled_raise c i V B maj p by q u past may s false hq (inl k) = s.settled p (in
 settled_raise c i V B maj p by q u past may s true hq (inl k) =
     elim (cases_lt i (region_fuo p past)) [
       | inl l ↦ s.settled p (inl l)
-      | inr l ↦ s.filled by p (all_at u (is_filled c by p (part by past)) (subst (λ x. all_below u (is_filled c by x (part by past)) ≡ true) (eqb-true q p hq) may.2) i (omega arith))
+      | inr l ↦ s.filled by p (all_at u (is_filled c by p (part by past)) (subst (λ x. all_below u (is_filled c by x (part by past)) ≡ true) (eqb-true q p hq) (raise_facts c by (part by past) q u may)) i (omega arith))
     ]
 
 settled_slot : (c : Config) (i V B : ℕ) (maj : ℕ → Bool) (p by q j n w : ℕ) (past : List Event) → IsLegalHistory c past → Needs c by (part by past) (Verb.PutSlot q j n w) → Late c i V B maj past

@@ -17,7 +17,6 @@ use Rattle.mu_model.specs.Knowledge.{is_written, known, wrote, wrote_batch}
 use Rattle.mu_model.specs.Leaderships.{begins_leadership}
 use Rattle.mu_model.specs.Legal.{IsLegalHistory}
 use Rattle.mu_model.specs.Picks.{is_mark_offer, is_offer, pick}
-use Rattle.mu_model.specs.Placing.{MayPutSlot}
 use Rattle.mu_model.specs.Room.{head_read, is_mark_candidate, lacks_room, reserve}
 use Rattle.mu_model.specs.Scores.{is_failed}
 use Rattle.mu_agree.specs.Agreement.{WasHeldFailed}
@@ -29,6 +28,7 @@ use Rattle.mu_agree.proofs.Choice.{Found, none_accepted, takes_highest, Seeing, 
 use Rattle.mu_agree.proofs.Tame.{chosen_stays}
 use Rattle.mu_agree.proofs.Early.{PutValue, copies_known, repeats_offer, offers_first, put_value}
 use Rattle.mu_agree.proofs.Phases.{known_chosen}
+use Rattle.mu_model.proofs.Putting.{MayPutSlot, put_facts}
 
 -- v was put at i, whether it landed or not
 abbrev pub is_try : ℕ → ℕ → Verb → Bool
@@ -209,7 +209,7 @@ sound_put : (c : Config) (by p j n w : ℕ) (past : List Event) → IsLegalHisto
 sound_put c by p j n w past h may s a i v m = elim (has_cases ((j == i) && (w == v)) (tried i v past) m) [
   | inl k ↦ (let x = and_parts (j == i) (w == v) k in
       sound_stays c i v (record { by = by; verb = Verb.PutSlot p j n w; answer = a }) past
-      (subst (λ z. Sound c z v past) (eqb-true j i x.0) (subst (λ z. Sound c j z past) (eqb-true w v x.1) (put_sound c by p j n w past h s may.2))))
+      (subst (λ z. Sound c z v past) (eqb-true j i x.0) (subst (λ z. Sound c j z past) (eqb-true w v x.1) (put_sound c by p j n w past h s (put_facts c by (part by past) p j n w may)))))
   | inr k ↦ sound_stays c i v (record { by = by; verb = Verb.PutSlot p j n w; answer = a }) past (s i v k)
 ]
 

@@ -17,7 +17,6 @@ use Rattle.mu_model.specs.Knowledge.{grown, known, learnt_by}
 use Rattle.mu_model.specs.Leaderships.{is_first_ask, is_member, proposal_number}
 use Rattle.mu_model.specs.Legal.{IsLegalHistory}
 use Rattle.mu_model.specs.Picks.{entry_of, first_value, last_look, since_last_joining, value_put}
-use Rattle.mu_model.specs.Placing.{MayPutSlot}
 use Rattle.mu_model.specs.Regions.{region_log}
 use Rattle.mu_agree.proofs.Legal.{event_after}
 use Rattle.mu_agree.proofs.Joins.{joined_late}
@@ -30,6 +29,7 @@ use Rattle.mu_agree.proofs.Choice.{Chosen, not_chosen, none_accepted, takes_high
 use Rattle.mu_agree.proofs.Early.{PutValue, copies_known, repeats_offer, offers_first, put_value, fresh_safe}
 use Rattle.mu_agree.proofs.Late.{Base}
 use Rattle.mu_model.proofs.Basics.{same_some, none_some}
+use Rattle.mu_model.proofs.Putting.{MayPutSlot, put_facts}
 
 pub record LateEntry (B : ℕ) (a : Answer) : Type 0 where
   pub m : ℕ
@@ -175,7 +175,7 @@ slot_tame c i V B maj r by q j n w past h s kn t may hx a = go t (j == i) refl
     e = record { by = by; verb = Verb.PutSlot q j n w; answer = a }
 
     at : j ≡ i → MayPutSlot c r (part r past) q i n w
-    at k = subst (λ z. MayPutSlot c r (part r past) q z n w) k may.2
+    at k = subst (λ z. MayPutSlot c r (part r past) q z n w) k (put_facts c r (part r past) q j n w may)
 
     go : Tame c i V B maj r (part r past) past → (u : Bool) → (j == i) ≡ u → Tame c i V B maj r (record { by = by; verb = Verb.PutSlot q j n w; answer = a } ∷ part r past) (record { by = by; verb = Verb.PutSlot q j n w; answer = a } ∷ past)
     go (knowing l) u hj = knowing (let k = known_longer c r (record { by = by; verb = Verb.PutSlot q j n w; answer = a }) (part r past) in omega arith)

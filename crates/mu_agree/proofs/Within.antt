@@ -1,13 +1,13 @@
 -- What a possible part puts is there, it is short, and what it knows grows.
-use Rattle.std.proofs.Common.{Bool, List, None, Some, [], ap, arith, false, length, subst, sym, take, true, ℕ, ◌<◌, ◌==◌, ◌∷◌, ◌≡◌, ◌≤◌}
-use Rattle.std.specs.Prelude.{IsTrue, if◌then◌else◌, ◌↔◌}
+use Rattle.std.proofs.Common.{Bool, List, None, Some, [], ap, arith, false, length, subst, take, true, ℕ, ◌<◌, ◌==◌, ◌∷◌, ◌≡◌, ◌≤◌}
+use Rattle.std.specs.Prelude.{if◌then◌else◌}
 use Rattle.std.specs.declared.option.Option.{Option}
 use Rattle.std.proofs.lemmas.List.{length-append}
 use Rattle.std.proofs.Math.Seq.{take-append_seam, take-length}
 use Rattle.mu_model.specs.declared.config.Config.{Config}
 use Rattle.mu_model.specs.declared.event.Event.{Event}
 use Rattle.mu_model.specs.declared.event.Verb.{Verb}
-use Rattle.mu_model.specs.Allowed.{Allowed, Needs}
+use Rattle.mu_model.specs.Allowed.{Allowed}
 use Rattle.mu_model.specs.Contents.{IsConfig}
 use Rattle.mu_model.specs.Knowledge.{grown, known, learnt_by}
 use Rattle.mu_model.specs.Parts.{IsPossible}
@@ -43,10 +43,6 @@ known_few c r mine config possible =
     let spare : reserve c ≤ c.replicas = reserve_few (c.version == 2) c.replicas in
     let few = config.replicas.1 in
     omega (arith, most, rows, spare, few)
-
--- the needs of a verb that is another by name
-pub needs_of : (c : Config) (r : ℕ) (mine : List Event) (verb same : Verb) (result : Bool) → verb ≡ same → (IsTrue result ↔ Needs c r mine same) → (IsTrue result ↔ Needs c r mine verb)
-needs_of c r mine verb same result is met = subst (λ v. (IsTrue result ↔ Needs c r mine v)) (sym is) met
 
 grown_front : (values : List ℕ) (o : Option ℕ) → take (length values) (grown values o) ≡ values
 grown_front values None = take-length values

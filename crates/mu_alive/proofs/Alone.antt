@@ -10,7 +10,7 @@ use Rattle.mu_model.specs.declared.event.Target.{Target}
 use Rattle.mu_model.specs.declared.event.Verb.{Verb}
 use Rattle.mu_model.specs.Allowed.{Allowed, Needs}
 use Rattle.mu_model.specs.Answers.{drained, entered_or_lost, put_answer}
-use Rattle.mu_model.specs.Entering.{MayEnter, open_target}
+use Rattle.mu_model.specs.Entering.{open_target}
 use Rattle.mu_model.specs.Histories.{all_below, newer_or, or_zero, part}
 use Rattle.mu_model.specs.Leaderships.{grant_at_joining, grant_for, is_above, is_changed, is_first_ask, is_over, noted_grant, owner_is, proposal_number}
 use Rattle.mu_model.specs.Legal.{IsLegalHistory}
@@ -26,6 +26,7 @@ use Rattle.mu_agree.proofs.Numbers.{greatest_own_put}
 use Rattle.mu_agree.specs.Laws.{is_landing}
 use Rattle.mu_alive.specs.Alone.{AsksAlone, LoneAskersLead}
 use Rattle.mu_alive.proofs.OwnNumbers.{top}
+use Rattle.mu_model.proofs.Putting.{MayEnter, put_facts}
 
 -- an induction over the legal histories in which a asks alone
 pub alone_induction : (c : Config) (a : ℕ) (P : List Event → Type 0) → P []
@@ -122,13 +123,13 @@ still_none c a p past (inr o) none = absurd (none o.0)
 once_close : (c : Config) (a p by : ℕ) (past : List Event) → IsLegalHistory c past → AsksAlone a past → Needs c by (part by past) Verb.Close → Once a p past → (t : Bool) → (by == p) ≡ t → Once a p (event_after c past by Verb.Close ∷ past)
 once_close c a p by past legal alone may o true h =
     let at_p = subst (λ x. Needs c x (part x past) Verb.Close) (eqb-true by p h) may in
-    let waiting = some_passes c.replicas (has_unserved_ask p (part p past)) at_p.1 in
+    let waiting = some_passes c.replicas (has_unserved_ask p (part p past)) at_p.1.0 in
     inl (still_none c a p past o (waits c a p waiting.0 past legal alone waiting.1).1)
 once_close c a p by past legal alone may o false h = rw h o
 
 -- whom a host may grant its region to
 pub may_grant : (c : Config) (a p w : ℕ) (past : List Event) → IsLegalHistory c past → AsksAlone a past → Needs c p (part p past) (Verb.Grant w) → (w ≡ a) × (fence_owner p past ≡ Some a → ⊥)
-may_grant c a p w past legal alone may = waits c a p w past legal alone (and_parts (has_unserved_ask p (part p past) w) (all_below w (λ q. not (has_unserved_ask p (part p past) q))) may.3).0
+may_grant c a p w past legal alone may = waits c a p w past legal alone (and_parts (has_unserved_ask p (part p past) w) (all_below w (λ q. not (has_unserved_ask p (part p past) q))) may.1.1.1.0).0
 
 once_grant : (c : Config) (a p by w : ℕ) (past : List Event) → IsLegalHistory c past → AsksAlone a past → Needs c by (part by past) (Verb.Grant w) → Once a p past → (t : Bool) → (by == p) ≡ t → Once a p (event_after c past by (Verb.Grant w) ∷ past)
 once_grant c a p by w past legal alone may o true h =
@@ -306,7 +307,7 @@ min_open : (c : Config) (a p by q b : ℕ) (past : List Event) → IsLegalHistor
 min_open c a p by q b past legal alone may hx hy =
     let at_a = subst (λ z. Needs c z (part z past) (Verb.PutMin q b)) (eqb-true by a hx) may in
     let at_p = subst (λ z. Needs c a (part a past) (Verb.PutMin z b)) (eqb-true q p hy) at_a in
-    opens_held c a p past legal alone Target.Min (sym (open_target-part a p past) ∙ at_p.1.entered) refl
+    opens_held c a p past legal alone Target.Min (sym (open_target-part a p past) ∙ at_p.1.1.0) refl
 
 members_put : (c : Config) (a p by q b : ℕ) (past : List Event) → IsLegalHistory c past → AsksAlone a past → Needs c by (part by past) (Verb.PutMin q b) → MembersHeld a p past
     → (answer : Answer) → (x : Bool) → (by == a) ≡ x → (y : Bool) → (q == p) ≡ y → MembersHeld a p (record { by = by; verb = Verb.PutMin q b; answer = answer } ∷ past)
@@ -400,7 +401,7 @@ over_min c a by q past legal alone s =
 
 -- who may enter has noted the one grant
 enters : (c : Config) (a p : ℕ) (t : Target) (past : List Event) → IsLegalHistory c past → AsksAlone a past → MayEnter c a (part a past) p t → (noted_grant a p past ≡ Some 1) × (fence_owner p past ≡ Some a)
-enters c a p Target.None past legal alone may = absurd may
+enters c a p Target.None past legal alone may = absurd may.0
 enters c a p Target.Min past legal alone may = noted_one c a p past (noted_grant a p (part a past)) legal alone (sym (noted-part a p past)) may.0
 enters c a p (Target.Place x) past legal alone may = go (grant_at_joining a p past) refl (subst (λ j. is_some j ≡ true) (joined_under-part a p past) may.0)
   where
@@ -467,7 +468,7 @@ over_step c a by (Verb.PutSlot q i b v) past legal alone may s =
     (λ h.
     let at_a = subst (λ z. Needs c z (part z past) (Verb.PutSlot q i b v)) (eqb-true by a h) may in
     ap (λ z. drained z q past) (eqb-true by a h)
-    ∙ (opens_held c a q past legal alone (Target.Place (i % c.ring)) (sym (open_target-part a q past) ∙ slot_entered c a q i b v (part a past) at_a.2) refl).undrained)
+    ∙ (opens_held c a q past legal alone (Target.Place (i % c.ring)) (sym (open_target-part a q past) ∙ slot_entered c a q i b v (part a past) (put_facts c a (part a past) q i b v at_a)) refl).undrained)
     (drained by q past) refl (by == a) refl)
 over_step c a by v past legal alone may s = s
 

@@ -102,7 +102,7 @@ grant_lightens c a p by q answer past legal seen own = elim (cases_eq q a) [
     at_p = subst (λ x. Needs c x (part x past) (Verb.Grant q)) (eqb-true by p own) legal.1.allowed.may
 
     waiting : Waits p q past
-    waiting = waits p q past (and_parts (has_unserved_ask p (part p past) q) (all_below q (λ w. not (has_unserved_ask p (part p past) w))) at_p.3).0
+    waiting = waits p q past (and_parts (has_unserved_ask p (part p past) q) (all_below q (λ w. not (has_unserved_ask p (part p past) w))) at_p.1.1.1.0).0
 
     serves : (not (q == a) && nat_lt (served p q (now ∷ past)) (seen_asks p q (now ∷ past))) ≡ false
     serves = go (not (q == a) && nat_lt (served p q (now ∷ past)) (seen_asks p q (now ∷ past))) refl

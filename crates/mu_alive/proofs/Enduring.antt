@@ -195,7 +195,7 @@ shuns_put_min : (c : Config) (a p by q b : ℕ) (past : List Event) → Needs c 
 shuns_put_min c a p by q b past may s answer true hx true hy =
     let at_a = subst (λ z. Needs c z (part z past) (Verb.PutMin q b)) (eqb-true by a hx) may in
     let at_p = subst (λ z. Needs c a (part a past) (Verb.PutMin z b)) (eqb-true q p hy) at_a in
-    absurd (s.opens Target.Min (sym (open_target-part a p past) ∙ at_p.1.entered) refl)
+    absurd (s.opens Target.Min (sym (open_target-part a p past) ∙ at_p.1.1.0) refl)
 shuns_put_min c a p by q b past may s Answer.Done true hx false hy = rw (hx, hy) (record { note = s.note; opens = s.opens; members = s.members })
 shuns_put_min c a p by q b past may s Answer.Done false hx y hy = rw hx (record { note = s.note; opens = s.opens; members = s.members })
 shuns_put_min c a p by q b past may s answer true hx false hy = rw (hx, hy) (record { note = s.note; opens = s.opens; members = s.members })
@@ -343,7 +343,7 @@ puts_well c a p by q b past low legal may owns s listed = record { own = own; fi
     own lands = let k = landed c p e past legal (record { allowed = may; answer = refl }) lands in same_some by a (sym k.by_owner ∙ owns)
 
     numbered : (by == a) ≡ true → number_allowed a (part a past) b (proposal_number a past)
-    numbered h = subst (number_allowed a (part a past) b) (number-part a past) ((subst (λ z. Needs c z (part z past) (Verb.PutMin q b)) (eqb-true by a h) may.may).1.numbered)
+    numbered h = subst (number_allowed a (part a past) b) (number-part a past) ((subst (λ z. Needs c z (part z past) (Verb.PutMin q b)) (eqb-true by a h) may.may).1.1.1.1.0)
 
     mine : leadership a (part a past) ≡ part a (leadership a past)
     mine = since-part (begins_leadership a) a (begins-own a) past

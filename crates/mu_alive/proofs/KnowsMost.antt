@@ -15,7 +15,6 @@ use Rattle.mu_model.specs.Diligence.{is_fuo_above}
 use Rattle.mu_model.specs.Histories.{has, max_with, part}
 use Rattle.mu_model.specs.Knowledge.{entry_seen, greatest_fuo_read, grown, is_known_decided, known}
 use Rattle.mu_model.specs.Legal.{IsLegalHistory}
-use Rattle.mu_model.specs.Placing.{MayPutSlot}
 use Rattle.mu_model.specs.Regions.{fence_owner, region_fuo, region_log}
 use Rattle.mu_agree.specs.Laws.{is_landing}
 use Rattle.mu_agree.proofs.Access.{landed}
@@ -32,6 +31,7 @@ use Rattle.mu_alive.proofs.Alone.{Once, alone_induction, once}
 use Rattle.mu_alive.proofs.Beginning.{alone_before}
 use Rattle.mu_alive.proofs.Bringing.{Ahead}
 use Rattle.mu_alive.proofs.Cutting.{Located, located}
+use Rattle.mu_model.proofs.Putting.{MayPutSlot, put_facts}
 
 -- how many entries a knows
 abbrev knows : Config → ℕ → List Event → ℕ
@@ -249,7 +249,7 @@ put_step c a by q i b v past k answer lands = record {
     sees r j false is = k.seen r j is
 
 knows_step : (c : Config) (a by : ℕ) (v : Verb) (past : List Event) → IsLegalHistory c past → AsksAlone a past → Allowed c by (part by past) v → KnowsMost c a past → KnowsMost c a (event_after c past by v ∷ past)
-knows_step c a by (Verb.RaiseFuo q u) past legal alone may k = raise_step c a by q u past (let low = may.may.1 in let most = k.others by in omega (arith, low, most)) k
+knows_step c a by (Verb.RaiseFuo q u) past legal alone may k = raise_step c a by q u past (let low = may.may.1.0 in let most = k.others by in omega (arith, low, most)) k
 knows_step c a by (Verb.Fuo q) past legal alone may k = fuo_step c a by q past k
 knows_step c a by (Verb.Look q i) past legal alone may k = look_step c a by q i past k (answer_of c by past (Verb.Look q i)) refl
 knows_step c a by (Verb.PutSlot q i b w) past legal alone may k = put_step c a by q i b w past k (answer_of c by past (Verb.PutSlot q i b w)) lands
@@ -258,7 +258,7 @@ knows_step c a by (Verb.PutSlot q i b w) past legal alone may k = put_step c a b
     lands done =
         let may_land = landed c q (event_after c past by (Verb.PutSlot q i b w)) past legal (record { allowed = may; answer = refl }) (subst (λ x. is_landing q (Verb.PutSlot q i b w) x ≡ true) (sym done) (eq-eqb q q refl)) in
         let own = by_owner (once c a q past legal alone) may_land.by_owner in
-        (own, subst (λ x. i ≤ length (known c x (part x past))) own (put_low c by q i b w (part by past) may.may.2), lands_within c q by i b w past legal may.may)
+        (own, subst (λ x. i ≤ length (known c x (part x past))) own (put_low c by q i b w (part by past) (put_facts c by (part by past) q i b w may.may)), lands_within c q by i b w past legal may.may)
       where
         by_owner : Once a q past → fence_owner q past ≡ Some by → by ≡ a
         by_owner (inl o) owns = let k = sym o.0 ∙ owns in cc

@@ -152,7 +152,7 @@ room_left : (c : Config) (a q l k by : ℕ) (verb : Verb) (answer : Answer) (pas
 room_left c a q l k by (Verb.Head p) answer past room needs is heads = subst (λ x. lacks_room c (k + reserve c) (head_read a q by (Verb.Head p) x) ≡ false) (sym is) (go ((by == a) && (p == q)) refl)
   where
     go : (t : Bool) → ((by == a) && (p == q)) ≡ t → lacks_room c (k + reserve c) (cond t (Some (region_head p past)) None) ≡ false
-    go true read = lt-leb (region_head p past + c.ring) (k + reserve c) (let high = heads p needs in omega (arith, high, room))
+    go true read = lt-leb (region_head p past + c.ring) (k + reserve c) (let high = heads p needs.0 in omega (arith, high, room))
     go false other = refl
 room_left c a q l k by verb answer past room needs is heads = refl
 

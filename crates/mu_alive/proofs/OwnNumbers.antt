@@ -31,7 +31,7 @@ top_case mine a b t (Some x) is may s m e = let k : x ≡ m = same_some x m e in
 top_put : (c : Config) (a by q b : ℕ) (past : List Event) → Needs c by (part by past) (Verb.PutMin q b) → IsTop a past → (answer : Answer) → (t : Bool) → (by == a) ≡ t → IsTop a (record { by = by; verb = Verb.PutMin q b; answer = answer } ∷ past)
 top_put c a by q b past may s answer true h =
     let at_a = subst (λ z. Needs c z (part z past) (Verb.PutMin q b)) (eqb-true by a h) may in
-    let numbered : number_allowed a (part a past) b (proposal_number a past) = subst (number_allowed a (part a past) b) (number-part a past) at_a.1.numbered in
+    let numbered : number_allowed a (part a past) b (proposal_number a past) = subst (number_allowed a (part a past) b) (number-part a past) at_a.1.1.1.1.0 in
     rw h (top_case (part a past) a b (greatest_own_put a past) (proposal_number a past) (greatest_own_put-part a past) numbered s)
 top_put c a by q b past may s answer false h = rw h s
 

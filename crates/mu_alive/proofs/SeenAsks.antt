@@ -79,7 +79,7 @@ ClosesFor c p past = fence_closing p past ≡ true → SomeWaits c p past
 pub closes_close : (c : Config) (p by : ℕ) (past : List Event) → Needs c by (part by past) Verb.Close → ClosesFor c p past → (t : Bool) → (by == p) ≡ t → ClosesFor c p (event_after c past by Verb.Close ∷ past)
 closes_close c p by past may s true h = λ is.
     let at_p = subst (λ x. Needs c x (part x past) Verb.Close) (eqb-true by p h) may in
-    let some = passes_below c.replicas (has_unserved_ask p (part p past)) at_p.1 in
+    let some = passes_below c.replicas (has_unserved_ask p (part p past)) at_p.1.0 in
     let k = waits p some.0 past some.2 in
     (some.0, some.1, record { other = k.other; more = k.more })
 closes_close c p by past may s false h = rw h (λ is. let k = s is in (k.0, k.1, record { other = k.2.other; more = k.2.more }))

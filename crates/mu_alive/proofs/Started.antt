@@ -37,6 +37,7 @@ use Rattle.mu_alive.proofs.Enough.{FirstMin, Leads, first_verb, lone_before, lon
 use Rattle.mu_alive.proofs.Turns.{begun-part, min_begun, put_reads}
 use Rattle.mu_pace.proofs.Pasts.{min_on, min_now}
 use Rattle.mu_pace.specs.Watches.{puts_number}
+use Rattle.mu_model.proofs.Putting.{put_facts}
 
 oldest_there : (tells : Event → Option ℕ) (events : List Event) → is_some (oldest tells events) ≡ true → has (λ e. is_some (tells e)) events ≡ true
 oldest_there tells [] some = absurd (true≢false (sym some))
@@ -72,7 +73,7 @@ blank_put c a by q i b w past legal alone may blank none = go (put_answer (drain
         numbered : by ≡ a → ⊥
         numbered own =
             let there = subst (λ x. Allowed c x (part x past) (Verb.PutSlot q i b w)) own may in
-            let member = (and_parts (is_member a a (part a past)) _ there.may.2.carried).0 in
+            let member = (and_parts (is_member a a (part a past)) _ (put_facts c a (part a past) q i b w there.may).carried).0 in
             true≢false (sym (has_of_part (puts_number a) a past (numbered_there a (part a past) (member_numbered a a (part a past) member))) ∙ none)
 
         by_owner : Once a q past → fence_owner q past ≡ Some by → ⊥

@@ -10,7 +10,7 @@ use Rattle.mu_model.specs.declared.event.Target.{Target}
 use Rattle.mu_model.specs.declared.event.Verb.{Verb}
 use Rattle.mu_model.specs.Allowed.{Needs}
 use Rattle.mu_model.specs.Answers.{drained, entered_or_lost, put_answer}
-use Rattle.mu_model.specs.Entering.{MayEnter, open_target}
+use Rattle.mu_model.specs.Entering.{open_target}
 use Rattle.mu_model.specs.Histories.{newer_or, part}
 use Rattle.mu_model.specs.Leaderships.{grant_at_joining, grant_for, is_above, is_changed, is_first_ask, is_over, noted_grant, proposal_number}
 use Rattle.mu_model.specs.Legal.{IsLegalHistory}
@@ -28,6 +28,7 @@ use Rattle.mu_alive.proofs.Alone.{not_above, still_on, GoesOn, over_ask, over_en
 use Rattle.mu_alive.proofs.TurnOwners.{IsHighest, NotesStanding, StaysOpen, no_grant, notes_standing, stays_open, seen_again, top_induction}
 use Rattle.mu_alive.proofs.Turns.{turn_induction}
 use Rattle.mu_alive.proofs.TurnNumbers.{are_first, own_number, region_low}
+use Rattle.mu_model.proofs.Putting.{MayEnter, put_facts}
 
 -- an open `Enter` of r holds the region, undrained, under the noted grant
 pub record HoldsOpen (r : ℕ) (owner : Option ℕ) (drain : Bool) (note : Option ℕ) (grant : ℕ) : Type 0 where
@@ -127,7 +128,7 @@ min_open : (c : Config) (r p by q b : ℕ) (past : List Event) → OpensHeld r p
 min_open c r p by q b past opens may hx hy =
     let at_r = subst (λ z. Needs c z (part z past) (Verb.PutMin q b)) (eqb-true by r hx) may in
     let at_p = subst (λ z. Needs c r (part r past) (Verb.PutMin z b)) (eqb-true q p hy) at_r in
-    opens Target.Min (sym (open_target-part r p past) ∙ at_p.1.entered) refl
+    opens Target.Min (sym (open_target-part r p past) ∙ at_p.1.1.0) refl
 
 members_put : (c : Config) (r p by q b : ℕ) (past : List Event) → OpensHeld r p past → Needs c by (part by past) (Verb.PutMin q b) → MembersHeld r p past
     → (answer : Answer) → (x : Bool) → (by == r) ≡ x → (y : Bool) → (q == p) ≡ y → MembersHeld r p (record { by = by; verb = Verb.PutMin q b; answer = answer } ∷ past)
@@ -191,7 +192,7 @@ at_turn c r by v past few legal turns turn own = record {
 
 -- who may enter has noted the grant that stands
 enters : (c : Config) (r p : ℕ) (t : Target) (past : List Event) → AtTurn c r past → MayEnter c r (part r past) p t → (noted_grant r p past ≡ Some (fence_grant p past)) × (fence_owner p past ≡ Some r)
-enters c r p Target.None past at may = absurd may
+enters c r p Target.None past at may = absurd may.0
 enters c r p Target.Min past at may = go (noted_grant r p past) refl (subst (λ o. is_some o ≡ true) (noted-part r p past) may.0)
   where
     go : (o : Option ℕ) → noted_grant r p past ≡ o → is_some o ≡ true → (noted_grant r p past ≡ Some (fence_grant p past)) × (fence_owner p past ≡ Some r)
@@ -216,7 +217,7 @@ over_step c r by (Verb.Fence q) past at may s =
     (none_both (by == r) (is_changed (grant_at_joining r q past) (fence q past)) (λ own. unchanged r q past (grant_at_joining r q past) ((at own).top q) ((at own).members q))) s
 over_step c r by (Verb.Min q) past at may s =
     still_on ((by == r) && is_above (proposal_number r past) (region_min q past)) (is_over r past)
-    (none_both (by == r) (is_above (proposal_number r past) (region_min q past)) (λ own. not_above (proposal_number r past) (region_min q past) (λ b e. (at own).within q b (subst (λ o. is_some o ≡ true) (noted-part r q past) (subst (λ z. Needs c z (part z past) (Verb.Min q)) (eqb-true by r own) may).1) e))) s
+    (none_both (by == r) (is_above (proposal_number r past) (region_min q past)) (λ own. not_above (proposal_number r past) (region_min q past) (λ b e. (at own).within q b (subst (λ o. is_some o ≡ true) (noted-part r q past) (subst (λ z. Needs c z (part z past) (Verb.Min q)) (eqb-true by r own) may).1.0) e))) s
 over_step c r by (Verb.Enter q t) past at may s =
     over_enter r by q t past s
     (λ h.
@@ -233,7 +234,7 @@ over_step c r by (Verb.PutSlot q i b v) past at may s =
     (λ h.
     let at_r = subst (λ z. Needs c z (part z past) (Verb.PutSlot q i b v)) (eqb-true by r h) may in
     ap (λ z. drained z q past) (eqb-true by r h)
-    ∙ ((at h).opens q (Target.Place (i % c.ring)) (sym (open_target-part r q past) ∙ slot_entered c r q i b v (part r past) at_r.2) refl).undrained))
+    ∙ ((at h).opens q (Target.Place (i % c.ring)) (sym (open_target-part r q past) ∙ slot_entered c r q i b v (part r past) (put_facts c r (part r past) q i b v at_r)) refl).undrained))
 over_step c r by v past at may s = s
 
 pub turns_lead_on : TurnsLeadOn

@@ -238,7 +238,7 @@ grant_counts c r p front middle bottom older g at own grants = go g.verb refl gr
     go (Verb.Grant q) is _ =
         let may : Needs c g.by (part g.by past) (Verb.Grant q) = subst (Needs c g.by (part g.by past)) is legal.1.allowed.may in
         let at_p = subst (λ i. Needs c i (part i past) (Verb.Grant q)) own may in
-        counted q is (waits p q past (and_parts (has_unserved_ask p (part p past) q) (all_below q (λ w. not (has_unserved_ask p (part p past) w))) at_p.3).0)
+        counted q is (waits p q past (and_parts (has_unserved_ask p (part p past) q) (all_below q (λ w. not (has_unserved_ask p (part p past) w))) at_p.1.1.1.0).0)
     go verb is h = absurd (true≢false (sym h))
 
 -- in two rounds some lower one is granted the region that was not before

@@ -21,6 +21,7 @@ use Rattle.mu_alive.specs.Turns.{AreInTurn, IsInTurn, is_own_min}
 use Rattle.mu_alive.proofs.Turns.{min_begun, none_before, put_read, turn_induction}
 use Rattle.mu_agree.proofs.Landings.{greatest_since}
 use Rattle.mu_model.proofs.Counts.{max_with_grows}
+use Rattle.mu_model.proofs.Putting.{min_facts}
 
 -- each number that was put is 8 and its writer's id
 abbrev pub AreFirst : List Event → Type 0
@@ -138,7 +139,7 @@ least : (b x m o : ℕ) → x < 8 → b % 8 ≡ x → 8 ≤ b → m ≤ 7 + x �
 least b x m o few own high low none most = let fits = most (8 + x) (omega (arith, few)) (omega arith) (omega (arith, low)) (omega (arith, none)) in omega (arith, few, own, high, fits)
 
 first_step : (c : Config) (by q b : ℕ) (past : List Event) → c.replicas < 8 → IsLegalHistory c past → AreInTurn past → IsInTurn past (event_after c past by (Verb.PutMin q b)) → Allowed c by (part by past) (Verb.PutMin q b) → AreFirst past → b ≡ 8 + by
-first_step c by q b past few legal turns turn may first = go (proposal_number by (part by past)) refl may.may.1.numbered
+first_step c by q b past few legal turns turn may first = go (proposal_number by (part by past)) refl (min_facts c by (part by past) q b may.may).numbered
   where
     go : (o : Option ℕ) → proposal_number by (part by past) ≡ o → number_allowed by (part by past) b o → b ≡ 8 + by
     go (Some x) is same = same ∙ own_number by past first x (sym (number-part by past) ∙ is)

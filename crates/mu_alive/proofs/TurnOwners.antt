@@ -127,7 +127,7 @@ owner_begun_step c p by (Verb.Grant q) past legal may s = go (by == p) refl
     go : (t : Bool) → (by == p) ≡ t → OwnerBegun p (event_after c past by (Verb.Grant q) ∷ past)
     go true h = rw h (λ w is.
         let at_p = subst (λ x. Needs c x (part x past) (Verb.Grant q)) (eqb-true by p h) may in
-        let waiting = waits p q past (and_parts (has_unserved_ask p (part p past) q) (all_below q (λ x. not (has_unserved_ask p (part p past) x))) at_p.3).0 in
+        let waiting = waits p q past (and_parts (has_unserved_ask p (part p past) q) (all_below q (λ x. not (has_unserved_ask p (part p past) x))) at_p.1.1.1.0).0 in
         subst (λ x. has_begun x past ≡ true) (same_some q w is) (waiter_begun c p q past legal waiting))
     go false h = rw h s
 owner_begun_step c p by (Verb.Ask q) past legal may s = λ w is. begun_on w (event_after c past by (Verb.Ask q)) past (s w is)
@@ -177,7 +177,7 @@ nobody_waits c r p past legal high owns low w waiting = elim (cases_order w r) [
 top_close : (c : Config) (r p by : ℕ) (past : List Event) → IsLegalHistory c past → IsHighest r past → Needs c by (part by past) Verb.Close → OwnedTop r p past → (t : Bool) → (by == p) ≡ t → OwnedTop r p (event_after c past by Verb.Close ∷ past)
 top_close c r p by past legal high may s true h = λ owns.
     let at_p = subst (λ x. Needs c x (part x past) Verb.Close) (eqb-true by p h) may in
-    let some = some_passes c.replicas (has_unserved_ask p (part p past)) at_p.1 in
+    let some = some_passes c.replicas (has_unserved_ask p (part p past)) at_p.1.0 in
     absurd (nobody_waits c r p past legal high owns (s owns).1 some.0 (waits p some.0 past some.1))
 top_close c r p by past legal high may s false h = rw h s
 
@@ -188,7 +188,7 @@ top_grant c r p by q past legal served_now may s true h = rw h (λ is. (refl, λ
     at_p = subst (λ x. Needs c x (part x past) (Verb.Grant q)) (eqb-true by p h) may
 
     none_lower : all_below q (λ x. not (has_unserved_ask p (part p past) x)) ≡ true
-    none_lower = (and_parts (has_unserved_ask p (part p past) q) (all_below q (λ x. not (has_unserved_ask p (part p past) x))) at_p.3).1
+    none_lower = (and_parts (has_unserved_ask p (part p past) q) (all_below q (λ x. not (has_unserved_ask p (part p past) x))) at_p.1.1.1.0).1
 
     not_true : (t : Bool) → not t ≡ true → t ≡ false
     not_true true h = absurd (true≢false (sym h))

@@ -10,7 +10,7 @@ use Rattle.mu_model.specs.declared.event.Target.{Target}
 use Rattle.mu_model.specs.declared.event.Verb.{Verb}
 use Rattle.mu_model.specs.Allowed.{Allowed, Needs}
 use Rattle.mu_model.specs.Answers.{entered_or_lost}
-use Rattle.mu_model.specs.Entering.{MayEnter, grant_seen, min_read, min_read_since, min_read_under, open_target}
+use Rattle.mu_model.specs.Entering.{grant_seen, min_read, min_read_since, min_read_under, open_target}
 use Rattle.mu_model.specs.Histories.{earlier_or, has, part}
 use Rattle.mu_model.specs.Leaderships.{begins_leadership, has_begun, is_first_ask, leadership, noted_grant, proposal_number}
 use Rattle.mu_model.specs.Legal.{IsLegalHistory}
@@ -24,6 +24,7 @@ use Rattle.mu_agree.proofs.Legal.{event_after, legal_induction}
 use Rattle.mu_agree.proofs.Numbers.{greatest_own_put}
 use Rattle.mu_alive.specs.Turns.{AreInTurn, IsInTurn, is_own_min}
 use Rattle.mu_pace.proofs.Pasts.{begun_on, min_on}
+use Rattle.mu_model.proofs.Putting.{MayEnter}
 
 -- an induction over the legal histories in turn
 pub turn_induction : (c : Config) (P : List Event → Type 0) → P []
@@ -44,7 +45,7 @@ asked_step : (c : Config) (w p by : ℕ) (v : Verb) (past : List Event) → Need
 asked_step c w p by (Verb.Ask q) past may s = λ none. go (by == w) refl (q == 0) refl none
   where
     begun : (by == w) ≡ true → (q == 0) ≡ false → has_begun w past ≡ true
-    begun own other = elim may.1 [
+    begun own other = elim may.1.0 [
       | inl first ↦ absurd (true≢false (sym (eq-eqb q 0 first) ∙ other))
       | inr more ↦ subst (λ x. has_begun x past ≡ true) (eqb-true by w own) (sym (begun-part by past) ∙ more.0)
     ]
@@ -95,7 +96,7 @@ noted_begun_step c w p by (Verb.Ask q) past may s = go (is_first_ask w by (Verb.
 noted_begun_step c w p by (Verb.Fence q) past may s = go (by == w) refl
   where
     go : (t : Bool) → (by == w) ≡ t → NotedBegun w p (event_after c past by (Verb.Fence q) ∷ past)
-    go true h = λ _. subst (λ x. has_begun x past ≡ true) (eqb-true by w h) (sym (begun-part by past) ∙ may.1)
+    go true h = λ _. subst (λ x. has_begun x past ≡ true) (eqb-true by w h) (sym (begun-part by past) ∙ may.1.0)
     go false h = rw h s
 noted_begun_step c w p by v past may s = s
 
@@ -110,7 +111,7 @@ min_begun_step : (c : Config) (w by : ℕ) (v : Verb) (past : List Event) → Is
 min_begun_step c w by (Verb.Min q) past legal may s = go (by == w) refl
   where
     go : (t : Bool) → (by == w) ≡ t → MinBegun w (event_after c past by (Verb.Min q) ∷ past)
-    go true h = λ _. subst (λ x. has_begun x past ≡ true) (eqb-true by w h) (noted_begun c by q past legal (ap is_some (sym (noted-part by q past)) ∙ may.1))
+    go true h = λ _. subst (λ x. has_begun x past ≡ true) (eqb-true by w h) (noted_begun c by q past legal (ap is_some (sym (noted-part by q past)) ∙ may.1.0))
     go false h = rw h s
 min_begun_step c w by (Verb.Ask q) past legal may s = λ some. begun_on w (event_after c past by (Verb.Ask q)) past (s some)
 min_begun_step c w by v past legal may s = s
@@ -172,7 +173,7 @@ open_step c w p by (Verb.Enter q t) past may s = open_enter c w p by q t past re
     reads : (by == w) ≡ true → t ≡ Target.Min → has (is_own_min w) past ≡ true
     reads own is =
         let needs : MayEnter c by (part by past) q Target.Min = subst (MayEnter c by (part by past) q) is may.1 in
-        let read = go (noted_grant by q (part by past)) needs.2 in
+        let read = go (noted_grant by q (part by past)) needs.1.1.0 in
         subst (λ x. has (is_own_min x) past ≡ true) (eqb-true by w own) (sym (own_min-part by past) ∙ read)
       where
         go : (o : Option ℕ) → min_read_since by q (part by past) o ≡ true → has (is_own_min by) (part by past) ≡ true
@@ -196,7 +197,7 @@ open_read c w p = legal_induction c (OpenRead w p) (λ is. cc) (λ past by v h m
 
 -- who puts a number has read a minimum
 pub put_reads : (c : Config) (by q b : ℕ) (past : List Event) → IsLegalHistory c past → Needs c by (part by past) (Verb.PutMin q b) → has (is_own_min by) past ≡ true
-put_reads c by q b past legal may = open_read c by q past legal (sym (open_target-part by q past) ∙ may.1.entered)
+put_reads c by q b past legal may = open_read c by q past legal (sym (open_target-part by q past) ∙ may.1.1.0)
 
 abbrev pub PutRead : ℕ → List Event → Type 0
 PutRead w past = has (is_own_min w) past ≡ false → greatest_own_put w past ≡ 0
@@ -263,7 +264,7 @@ min_leads_step c r by (Verb.Ask q) past legal turn may s = λ some. go (by == r)
 min_leads_step c r by (Verb.Min q) past legal turn may s = λ some. go (by == r) refl some
   where
     begun : (by == r) ≡ true → has_begun r (part r past) ≡ true
-    begun own = begun-part r past ∙ subst (λ x. has_begun x past ≡ true) (eqb-true by r own) (noted_begun c by q past legal (ap is_some (sym (noted-part by q past)) ∙ may.1))
+    begun own = begun-part r past ∙ subst (λ x. has_begun x past ≡ true) (eqb-true by r own) (noted_begun c by q past legal (ap is_some (sym (noted-part by q past)) ∙ may.1.0))
 
     go : (t : Bool) → (by == r) ≡ t → has (is_own_min r) (event_after c past by (Verb.Min q) ∷ past) ≡ true → has_min r (cond t (event_after c past by (Verb.Min q) ∷ part r past) (part r past)) ≡ true
     go true own some = and_from (has_begun r (event_after c past by (Verb.Min q) ∷ part r past)) (has is_min (leadership r (event_after c past by (Verb.Min q) ∷ part r past))) (begun own) refl

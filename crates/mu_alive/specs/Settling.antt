@@ -28,7 +28,8 @@ ReadsOpen past e = (w : ℕ) → e.verb ≡ Verb.ReadAsk w → fence_closing e.b
 
 -- in the newer events these replicas hold a, the least of them, alive and the others make no event;
 -- they are a majority, and they kept their paces throughout, as replicas that may ask again
-pub record KeepGoing (c : Config) (live : ℕ → Bool) (a : ℕ) (newer older : List Event) : Type 0 where
+pub record KeepGoing (c : Config) (live : ℕ → Bool) (a : ℕ) (newer older : List Event)
+    : Type 0 where
   pub inside : a < c.replicas
   pub lives : live a ≡ true
   pub least : (r : ℕ) → r < a → live r ≡ false

@@ -6,8 +6,8 @@ use Rattle.mu_check.specs.declared.judge.Judge.{Judge}
 use Rattle.mu_model.specs.declared.config.Config.{Config}
 use Rattle.mu_model.specs.declared.event.Event.{Event}
 use Rattle.mu_model.specs.Legal.{IsLegalHistory}
-use Rattle.mu_outcome.specs.Verdicts.{IsWrong}
-use Rattle.mu_outcome.specs.declared.verdict.Wrong.{Wrong}
+use Rattle.mu_outcome.specs.Breaks.{IsFault}
+use Rattle.mu_outcome.specs.declared.fault.Fault.{Fault}
 use Rattle.mu_replicas.specs.Stands.{StandsForReplicas}
 use Rattle.mu_regions.specs.Stands.{Stands}
 
@@ -18,6 +18,6 @@ pub record StandsForJudge (c : Config) (past : List Event) (judge : Judge) : Typ
   pub replicas : StandsForReplicas c past judge.replicas
 
 -- the judge took the event, or nothing changed since this is wrong with it
-abbrev pub StaysOrTakes : Config → List Event → Event → Judge → Judge → Option Wrong → Type 0
+abbrev pub StaysOrTakes : Config → List Event → Event → Judge → Judge → Option Fault → Type 0
 StaysOrTakes c past e old new None = StandsForJudge c (e ∷ past) new
-StaysOrTakes c past e old new (Some cause) = (new ≡ old) × IsWrong c past e cause
+StaysOrTakes c past e old new (Some fault) = (new ≡ old) × IsFault c past e fault

@@ -1,15 +1,14 @@
 //! Why a list of events isn't legal.
 ghost use Rattle.std.specs.Prelude.{IfOk};
 ghost use Rattle.mu_model.specs.Contents.{IsConfig};
-ghost use Rattle.mu_reasons.specs.Breaks.{Explains};
+ghost use Rattle.mu_outcome.specs.Breaks.{Explains};
 
 use crate::judge::Judge;
 use mu_model::{Config, Event, NoMemory};
-use mu_reasons::Broken;
+use mu_outcome::Broken;
 use std::alloc::Global;
 
-/// Where a list of events breaks and why, if it does. Judges as [`check`] does, and looks for the
-/// reason once it has found the event.
+/// Where a list of events breaks and why, if it does. Judges as [`check`] does.
 ///
 /// # Errors
 ///
@@ -21,11 +20,11 @@ pub fn explain(alloc: Global, config: &Config, events: &[Event]) -> Result<Optio
     let mut judge = Judge::new(alloc, config)?;
     for index in 0..events.len() {
         let event = events[index];
-        if let Some(cause) = judge.take(config, &event) {
+        if let Some(fault) = judge.take(config, &event) {
             return Ok(Some(Broken {
                 index: index as u32,
                 event,
-                fault: judge.fault(config, &event, cause),
+                fault,
             }));
         }
     }

@@ -1,15 +1,13 @@
 //! The states that the events so far have led to: a list of events is judged one by one.
-ghost use Rattle.std.specs.Prelude.{List, [], ◌≡◌, ◌↔◌, IfOk, IsTrue, MatchOption};
+ghost use Rattle.std.specs.Prelude.{List, [], ◌≡◌, ◌↔◌, IfOk, IsTrue};
 ghost use Rattle.mu_model.specs.declared.event.Event.{Event as Made};
 ghost use Rattle.mu_model.specs.Contents.{IsConfig};
 ghost use Rattle.mu_model.specs.Legal.{MayFollow};
-ghost use Rattle.mu_outcome.specs.Verdicts.{IsWrong};
-ghost use Rattle.mu_reasons.specs.Breaks.{IsFault};
+ghost use Rattle.mu_outcome.specs.Breaks.{IsFault};
 ghost use Rattle.mu_check.specs.Judges.{StandsForJudge, StaysOrTakes};
 
 use mu_model::{Answer, Config, Event, NoMemory, Verb};
-use mu_outcome::Wrong;
-use mu_reasons::{Fault, Reason};
+use mu_outcome::Fault;
 use mu_regions::Regions;
 use mu_replicas::Replicas;
 use std::alloc::Global;
@@ -47,7 +45,7 @@ impl Judge {
 
     /// Takes one more event if it may follow; else it stays as it is, and this is what is wrong.
     #[inline(always)]
-    pub fn take(&mut self, config: &Config, event: &Event) -> Option<Wrong>
+    pub fn take(&mut self, config: &Config, event: &Event) -> Option<Fault>
         requires { IsConfig config.now }
         ensures { (past : List Made) → StandsForJudge config.now past self.old
             → StaysOrTakes config.now past event.now self.old self.new result }
@@ -70,7 +68,7 @@ impl Judge {
 
     /// The same, of any event.
     #[inline(never)]
-    fn take_other(&mut self, config: &Config, event: &Event) -> Option<Wrong>
+    fn take_other(&mut self, config: &Config, event: &Event) -> Option<Fault>
         requires { IsConfig config.now }
         ensures { (past : List Made) → StandsForJudge config.now past self.old
             → StaysOrTakes config.now past event.now self.old self.new result }
@@ -80,48 +78,48 @@ impl Judge {
 
     /// The same, inlined where the verb is named.
     #[inline(always)]
-    fn take_named(&mut self, config: &Config, event: &Event) -> Option<Wrong>
+    fn take_named(&mut self, config: &Config, event: &Event) -> Option<Fault>
         requires { IsConfig config.now }
         ensures { (past : List Made) → StandsForJudge config.now past self.old
             → StaysOrTakes config.now past event.now self.old self.new result }
     {
-        if let Some(cause) = self.wrong(config, event) {
-            return Some(cause);
+        if !self.may_follow(config, event) {
+            return Some(self.fault(config, event));
         }
         self.regions.take(event);
         self.replicas.take(config, event);
         None
     }
 
-    /// What is wrong with an event after those that were taken.
+    /// Whether an event may come after those that were taken. No reason is made.
     #[inline(always)]
-    fn wrong(&self, config: &Config, event: &Event) -> Option<Wrong>
+    fn may_follow(&self, config: &Config, event: &Event) -> bool
         requires { IsConfig config.now }
         ensures { (past : List Made) → StandsForJudge config.now past self.now
-            → MatchOption result (MayFollow config.now past event.now)
-            (λ cause. IsWrong config.now past event.now cause) }
+            → (IsTrue result ↔ MayFollow config.now past event.now) }
     {
-        if !self.replicas.allows(config, event.by, &event.verb) {
-            return Some(Wrong::NotAllowed);
-        }
-        let expected = self.regions.answer(event.by, &event.verb);
-        if is_same(event.answer, expected) {
-            None
-        } else {
-            Some(Wrong::WrongAnswer { expected })
+        match self.replicas.why_not(config, event.by, &event.verb) {
+            Some(_) => false,
+            None => {
+                let defined = self.regions.answer(event.by, &event.verb);
+                is_same(event.answer, defined)
+            }
         }
     }
 
-    /// The reason why an event may not follow, if this is wrong with it.
-    pub fn fault(&self, config: &Config, event: &Event, cause: Wrong) -> Fault
+    /// What is wrong with an event that may not. Made once in a list, so it is kept out of the way.
+    #[inline(never)]
+    fn fault(&self, config: &Config, event: &Event) -> Fault
         requires { IsConfig config.now }
         ensures { (past : List Made) → StandsForJudge config.now past self.now
-            → IsWrong config.now past event.now cause → IsFault config.now past event.now result }
+            → ¬ MayFollow config.now past event.now → IsFault config.now past event.now result }
     {
-        match (cause, self.replicas.why_not(config, event.by, &event.verb)) {
-            (Wrong::NotAllowed, Some(reason)) => Fault::NotAllowed(reason),
-            (Wrong::NotAllowed, None) => Fault::NotAllowed(Reason::NoReplica { replica: event.by }),
-            (Wrong::WrongAnswer { expected }, _) => Fault::WrongAnswer { expected },
+        match self.replicas.why_not(config, event.by, &event.verb) {
+            Some(reason) => Fault::NotAllowed(reason),
+            None => {
+                let expected = self.regions.answer(event.by, &event.verb);
+                Fault::WrongAnswer { expected }
+            }
         }
     }
 }

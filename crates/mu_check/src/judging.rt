@@ -20,10 +20,10 @@ pub fn check(alloc: Global, config: &Config, events: &[Event]) -> Result<Verdict
 {
     let mut judge = Judge::new(alloc, config)?;
     for index in 0..events.len() {
-        if let Some(cause) = judge.take(config, &events[index]) {
+        if let Some(fault) = judge.take(config, &events[index]) {
             return Ok(Verdict::Illegal {
                 index: index as u32,
-                cause,
+                cause: fault.cause(),
             });
         }
     }

@@ -10,4 +10,3 @@ pub use explaining::explain;
 pub use judge::Judge;
 pub use judging::check;
 pub use mu_outcome::{Verdict, Wrong, at_most_one_verdict};
-pub use mu_reasons::Broken;

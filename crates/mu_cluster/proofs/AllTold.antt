@@ -14,11 +14,11 @@ use Rattle.mu_model.specs.Histories.{IsPrefixOf}
 use Rattle.mu_model.proofs.Scans.{all_at}
 use Rattle.mu_outcome.specs.declared.outcome.Outcome.{Outcome}
 use Rattle.mu_outcome.specs.Entries.{commands_in, commands_of, longest}
-use Rattle.mu_outcome.specs.Outcomes.{Agrees, IsRun, log_of, or_empty}
+use Rattle.mu_outcome.specs.Outcomes.{Agrees, IsRun, journal_of, log_of, or_empty}
 use Rattle.mu_outcome.proofs.Completing.{few_told, included_among}
 use Rattle.mu_outcome.proofs.LongestLogs.{longest_is, longest_most}
 use Rattle.mu_rows.proofs.RowsOnce.{at_least, length-from}
-use Rattle.mu_cluster.specs.Finishing.{HasApplied, HasFinished}
+use Rattle.mu_cluster.specs.Finishing.{AppliesEachByThen, FinishesByThen, HasApplied, HasFinishedBy}
 use Rattle.mu_cluster.proofs.Agreeing.{agrees_of, over_order}
 use Rattle.mu_outcome.proofs.LogCommands.{commands_in-append}
 
@@ -79,11 +79,12 @@ begins o r agrees count low = go (longest_is o.logs)
         ]
 
 -- so it tells all commands
-pub finished_with : (o : Outcome) (r : ℕ) → IsConfig o.job.config → HaveHeads o.job.config.width o.job.commands o.job.config.rows → IsRun o → r < o.job.config.replicas → HasApplied o r → HasFinished o r
-finished_with o r good have run low done = record {
+finished_with : (o : Outcome) (m r : ℕ) → IsConfig o.job.config → HaveHeads o.job.config.width o.job.commands o.job.config.rows → IsRun o → r < o.job.config.replicas → HasApplied o r → length (journal_of o r) ≤ m → HasFinishedBy o m r
+finished_with o m r good have run low done by_then = record {
   heads = done.heads;
   ended = done.ended;
-  all = (let f = few in let m = enough in let w = ap length whole in omega (arith, f, m, w));
+  by_then = by_then;
+  all = (let f = few in let n = enough in let w = ap length whole in omega (arith, f, n, w));
   same = sym whole;
   replied = run.own_replies r low ∙ ap replies (sym whole) ∙ sym run.replies;
 }
@@ -112,3 +113,6 @@ finished_with o r good have run low done = record {
         let f = few in
         let m = enough in
         split ∙ ap (λ l. commands_in o.job (log_of o r) ++ l) (none (commands_in o.job front.0) (omega (arith, sum, f, m))) ∙ append-nil (commands_in o.job (log_of o r))
+
+pub finishes_by_then : (o : Outcome) → IsConfig o.job.config → HaveHeads o.job.config.width o.job.commands o.job.config.rows → IsRun o → AppliesEachByThen o → FinishesByThen o
+finishes_by_then o good have run applies m is within r low there = let done = applies m is within r low there in finished_with o m r good have run low done.0 done.1

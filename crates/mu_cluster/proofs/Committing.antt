@@ -29,7 +29,6 @@ use Rattle.mu_model.specs.Scores.{least_below}
 use Rattle.mu_model.proofs.Basics.{same_some}
 use Rattle.mu_model.proofs.Parts.{filter-append}
 use Rattle.mu_outcome.specs.declared.outcome.Outcome.{Outcome}
-use Rattle.mu_outcome.specs.Completion.{HasAllCommands}
 use Rattle.mu_outcome.specs.Outcomes.{IsRun, journal_of, journals_of}
 use Rattle.mu_outcome.proofs.Completing.{all_from_log, least_passes}
 use Rattle.mu_pace.proofs.Pasts.{not_false, not_true}
@@ -41,11 +40,10 @@ use Rattle.mu_alive.proofs.Fetching.{applied_on, last_applies_all}
 use Rattle.mu_alive.proofs.Lagging.{applies_in_any_ring}
 use Rattle.mu_alive.proofs.Stopping.{last_applies}
 use Rattle.mu_cluster.specs.declared.rounds.Seat.{Seat}
-use Rattle.mu_cluster.specs.Committing.{AppliesAllByThen, HasAllBy, StaysAlive, committed_by, disturbed_until, has_large_ring, has_pause, has_stop, is_majority_left, last_line_step, last_pause_step, last_stop_below, last_stop_step, least_left, most_paused_rounds}
-use Rattle.mu_cluster.specs.Living.{is_left, is_stopped}
-use Rattle.mu_cluster.specs.Outliving.{GoesOnWith, is_stop, steps_after, steps_after_in_any_ring, was_stopped}
+use Rattle.mu_cluster.specs.Committing.{AppliesAllByThen, CommitsByThen, HasAllBy}
+use Rattle.mu_cluster.specs.Outliving.{GoesOnWith, is_stop, was_stopped}
 use Rattle.mu_cluster.specs.Paces.{AreDiligent}
-use Rattle.mu_cluster.specs.Pausing.{NoneOutrunInLargeRing, PausesBy, paused_rounds, steps_after_pauses}
+use Rattle.mu_cluster.specs.Pausing.{NoneOutrunInLargeRing, PausesBy}
 use Rattle.mu_cluster.specs.Rounds.{Played, part_of}
 use Rattle.mu_cluster.proofs.Agreeing.{agrees_of, over_order}
 use Rattle.mu_cluster.proofs.Finishing.{goes_on_of}
@@ -57,6 +55,8 @@ use Rattle.mu_cluster.proofs.Raised.{LoneAt, RaisedBy, full_holds, holds_whole, 
 use Rattle.mu_cluster.proofs.Taken.{GoOn, TakenAt, fetches_at, taken_at}
 use Rattle.mu_cluster.proofs.Turning.{least_most}
 use Rattle.mu_cluster.proofs.Unblocking.{StopBy, lower_stop, unblocked_at}
+use Rattle.mu_enough.specs.Committed.{committed_by, steps_after, steps_after_in_any_ring, steps_after_pauses}
+use Rattle.mu_enough.specs.Lines.{disturbed_until, has_large_ring, has_pause, has_stop, is_left, is_majority_left, is_stopped, last_line_step, last_pause_step, last_stop_below, last_stop_step, least_left, most_paused_rounds, paused_rounds}
 
 -- a step at which a line stops r is at most the greatest
 stop_within : (stops : List Stop) (r steps : ℕ) → stops_at r steps stops ≡ true → (is_stopped stops r ≡ true) × (steps ≤ last_stop_step stops)
@@ -75,7 +75,7 @@ stop_within (s ∷ ss) r steps is = go (s.replica == r) (s.steps == steps) refl 
     go false u at is ih = ((ih is).0, later (ih is).1)
 
 -- and one of a replica below s is at most the greatest of those
-stop_below : (stops : List Stop) (r steps s : ℕ) → r < s → stops_at r steps stops ≡ true → steps ≤ last_stop_below stops s
+pub stop_below : (stops : List Stop) (r steps s : ℕ) → r < s → stops_at r steps stops ≡ true → steps ≤ last_stop_below stops s
 stop_below [] r steps s low is = absurd (true≢false (sym is))
 stop_below (x ∷ xs) r steps s low is = go (x.replica == r) refl (x.steps == steps) refl is (stop_below xs r steps s low)
   where
@@ -113,7 +113,7 @@ rounds_within pauses (suc n) r low =
     ]
 
 -- a line stopped whoever was stopped
-line_there : (o : Outcome) → IsRun o → (r : ℕ) → r < o.job.config.replicas → was_stopped o r ≡ true → stops_at r (length (journal_of o r)) o.job.script.stops ≡ true
+pub line_there : (o : Outcome) → IsRun o → (r : ℕ) → r < o.job.config.replicas → was_stopped o r ≡ true → stops_at r (length (journal_of o r)) o.job.script.stops ≡ true
 line_there o run r low was = go (run.ended r low).0 (run.ended r low).1 (run.ended r low).2.ends
   where
     go : (end : End) → slice_get o.ends r ≡ Some end → EndsBy o.job.config o.job.script r (history (journal_of o r)) end → stops_at r (length (journal_of o r)) o.job.script.stops ≡ true
@@ -123,11 +123,11 @@ line_there o run r low was = go (run.ended r low).0 (run.ended r low).1 (run.end
     go (End.Finished heads) is ends = absurd (true≢false (sym was ∙ ap is_stop is))
 
 -- so it has a line, and took at most the greatest step
-stopped_there : (o : Outcome) → IsRun o → (r : ℕ) → r < o.job.config.replicas → was_stopped o r ≡ true → (is_stopped o.job.script.stops r ≡ true) × (length (journal_of o r) ≤ last_stop_step o.job.script.stops)
+pub stopped_there : (o : Outcome) → IsRun o → (r : ℕ) → r < o.job.config.replicas → was_stopped o r ≡ true → (is_stopped o.job.script.stops r ≡ true) × (length (journal_of o r) ≤ last_stop_step o.job.script.stops)
 stopped_there o run r low was = stop_within o.job.script.stops r (length (journal_of o r)) (line_there o run r low was)
 
 -- so who has no line wasn't stopped
-left_goes : (o : Outcome) → IsRun o → (r : ℕ) → r < o.job.config.replicas → is_left o.job.script.stops r ≡ true → was_stopped o r ≡ false
+pub left_goes : (o : Outcome) → IsRun o → (r : ℕ) → r < o.job.config.replicas → is_left o.job.script.stops r ≡ true → was_stopped o r ≡ false
 left_goes o run r low left = go (was_stopped o r) refl
   where
     go : (t : Bool) → was_stopped o r ≡ t → was_stopped o r ≡ false
@@ -142,12 +142,12 @@ majority_goes o run left =
     omega (arith, many, more)
 
 -- the least of those; it is at most the least that has no line
-record LeastOn (o : Outcome) : Type 0 where
-  who : ℕ
-  on : GoesOnWith o who
-  low : who ≤ least_left o.job.config o.job.script
+pub record LeastOn (o : Outcome) : Type 0 where
+  pub who : ℕ
+  pub on : GoesOnWith o who
+  pub low : who ≤ least_left o.job.config o.job.script
 
-least_on : (o : Outcome) → IsRun o → is_majority_left o.job.config o.job.script ≡ true → LeastOn o
+pub least_on : (o : Outcome) → IsRun o → is_majority_left o.job.config o.job.script ≡ true → LeastOn o
 least_on o run left = record { who = s; on = record { inside = inside; left = not_true (was_stopped o s) (least_passes n live inside); lower = lower; majority = majority }; low = low }
   where
     n : ℕ
@@ -178,7 +178,7 @@ least_on o run left = record { who = s; on = record { inside = inside; left = no
         least_most n (least_left o.job.config o.job.script) live there (ap not (left_goes o run (least_left o.job.config o.job.script) there (least_passes n (is_left o.job.script.stops) there)))
 
 -- replica 0 is the least, if it has no line
-first_on : (o : Outcome) → IsConfig o.job.config → IsRun o → is_majority_left o.job.config o.job.script ≡ true → is_left o.job.script.stops 0 ≡ true → GoesOnWith o 0
+pub first_on : (o : Outcome) → IsConfig o.job.config → IsRun o → is_majority_left o.job.config o.job.script ≡ true → is_left o.job.script.stops 0 ≡ true → GoesOnWith o 0
 first_on o good run left first =
     let few = good.replicas.0 in
     let some : 0 < o.job.config.replicas = omega (arith, few) in
@@ -229,7 +229,7 @@ case_of c script m is = go (is_majority_left c script) refl (has_large_ring c) r
     go true hl false hr false hp f hf true hs false hv is = cc
 
 -- the list is empty
-none_in : {A : Type 0} (xs : List A) → nat_le 1 (length xs) ≡ false → xs ≡ []
+pub none_in : {A : Type 0} (xs : List A) → nat_le 1 (length xs) ≡ false → xs ≡ []
 none_in [] is = refl
 none_in (x ∷ xs) is = absurd (let low = leb-false 1 (length (x ∷ xs)) is in omega (arith, low))
 
@@ -428,11 +428,11 @@ all_by_then o order seats rounds good run given played diligent m is within = by
     by_case (left, Case.by_marks none two number) = after_last_in_any_ring (least_on o run left) none two number
 
 -- so the longest log has every command
-pub stays_alive : (o : Outcome) → IsConfig o.job.config → HaveHeads o.job.config.width o.job.commands o.job.config.rows → IsRun o → AppliesAllByThen o → StaysAlive o
-stays_alive o good have run applies = record { by_then = applies; at_end = λ m is within. at_end m (applies m is within) }
+pub commits_by_then : (o : Outcome) → IsConfig o.job.config → HaveHeads o.job.config.width o.job.commands o.job.config.rows → IsRun o → AppliesAllByThen o → CommitsByThen o
+commits_by_then o good have run applies m is within = (has, all_from_log o run.order.events good have (over_order o run) (agrees_of o good have run) has.by has.inside (ap (holds_all o.job.config) (run.logs has.by has.inside) ∙ subst (λ l. holds_all o.job.config (applied o.job.config has.by l) ≡ true) (sym later) (applied_on o.job.config has.by (history (drop m (journal_of o has.by))) (history (take m (journal_of o has.by))) has.holds)))
   where
-    at_end : (m : ℕ) → HasAllBy o m → HasAllCommands o
-    at_end m has = all_from_log o run.order.events good have (over_order o run) (agrees_of o good have run) has.by has.inside (ap (holds_all o.job.config) (run.logs has.by has.inside) ∙ subst (λ l. holds_all o.job.config (applied o.job.config has.by l) ≡ true) (sym later) (applied_on o.job.config has.by (history (drop m (journal_of o has.by))) (history (take m (journal_of o has.by))) has.holds))
-      where
-        later : history (journal_of o has.by) ≡ history (drop m (journal_of o has.by)) ++ history (take m (journal_of o has.by))
-        later = ap reverse (sym (take-append-drop m (journal_of o has.by))) ∙ reverse-append (take m (journal_of o has.by)) (drop m (journal_of o has.by))
+    has : HasAllBy o m
+    has = applies m is within
+
+    later : history (journal_of o has.by) ≡ history (drop m (journal_of o has.by)) ++ history (take m (journal_of o has.by))
+    later = ap reverse (sym (take-append-drop m (journal_of o has.by))) ∙ reverse-append (take m (journal_of o has.by)) (drop m (journal_of o has.by))

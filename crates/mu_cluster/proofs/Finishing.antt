@@ -1,9 +1,9 @@
 -- In a replay without a pause each replica that wasn't stopped finishes.
-use Rattle.std.proofs.Common.{◌≡◌, ◌∙◌, ◌≢◌, ◌⊎◌, ℕ, zero, suc, ◌+◌, ◌*◌, ◌<◌, ◌≤◌, ◌==◌, ◌&&◌, ◌||◌, inl, inr, Bool, true, false, cond, None, Some, List, [], ◌∷◌, ◌++◌, ap, append_assoc, arith, length, map, refl, subst, sym, take}
+use Rattle.std.proofs.Common.{◌≡◌, ◌∙◌, ◌≢◌, ◌⊎◌, ℕ, zero, suc, ◌+◌, ◌-◌, ◌*◌, ◌<◌, ◌≤◌, ◌==◌, ◌&&◌, ◌||◌, inl, inr, Bool, true, false, cond, None, Some, List, [], ◌∷◌, ◌++◌, ap, append_assoc, arith, length, map, refl, subst, sym, take}
 use Rattle.std.specs.declared.option.Option.{Option}
 use Rattle.std.specs.Prelude.{nat_le, not, slice_index}
 use Rattle.std.specs.List.{slice_get}
-use Rattle.std.proofs.lemmas.Bool.{and_from, and_parts, cases_eq, eq-eqb, eqb-true, le-leb, true≢false}
+use Rattle.std.proofs.lemmas.Bool.{and_from, and_parts, cases_eq, cases_lt, eq-eqb, eqb-true, le-leb, true≢false}
 use Rattle.std.proofs.lemmas.List.{length-append, length-reverse, length-take}
 use Rattle.mu_agree.proofs.Knowing.{known_stays}
 use Rattle.mu_agree.proofs.Legal.{legal_older}
@@ -18,7 +18,7 @@ use Rattle.mu_model.specs.Bounds.{cycle}
 use Rattle.mu_model.specs.Contents.{IsConfig, holds_all}
 use Rattle.mu_model.specs.Diligence.{IsDiligent}
 use Rattle.mu_model.specs.Ends.{EndsBy, full_length, head_known, is_at_least, is_finished, is_full, outrun, stops_at}
-use Rattle.mu_model.specs.Histories.{count_below, has, history, newer_or, newest, part}
+use Rattle.mu_model.specs.Histories.{has, history, newer_or, newest, part}
 use Rattle.mu_model.specs.Journals.{Record}
 use Rattle.mu_model.specs.Knowledge.{applied, has_entry, known}
 use Rattle.mu_model.specs.Legal.{IsLegalHistory}
@@ -34,29 +34,25 @@ use Rattle.mu_model.proofs.Scans.{each_all}
 use Rattle.mu_outcome.specs.declared.outcome.Outcome.{Outcome}
 use Rattle.mu_outcome.specs.Outcomes.{IsRun, journal_of, journals_of}
 use Rattle.mu_alive.specs.Failing.{failing_steps}
-use Rattle.mu_alive.specs.Finishing.{last_raising_steps, raising_steps}
-use Rattle.mu_alive.specs.Lagging.{raising_in_any_ring}
 use Rattle.mu_alive.proofs.Cutting.{Located, located}
 use Rattle.mu_alive.proofs.Enough.{outrun_before}
 use Rattle.mu_alive.proofs.Fetching.{applied_grows}
-use Rattle.mu_alive.proofs.Finishing.{raise_all}
 use Rattle.mu_alive.proofs.Spreading.{get_of_front, get_take, heads-own}
-use Rattle.mu_alive.proofs.Lagging.{raises_in_any_ring}
 use Rattle.mu_cluster.specs.declared.rounds.Seat.{Seat}
-use Rattle.mu_cluster.specs.Finishing.{AppliesEachAfterStops, AppliesEachInAnyRing, AppliesEachInTime, HasApplied}
+use Rattle.mu_cluster.specs.Finishing.{HasApplied}
 use Rattle.mu_cluster.specs.Outliving.{GoesOnWith, is_stop, was_stopped}
 use Rattle.mu_cluster.specs.Paces.{AreDiligent}
 use Rattle.mu_cluster.specs.Rounds.{Played, part_of}
 use Rattle.mu_cluster.proofs.Living.{none_of}
 use Rattle.mu_cluster.proofs.Naming.{AreUnpaused, unpaused_of}
 use Rattle.mu_cluster.proofs.Onward.{journal_part, nodes_of}
-use Rattle.mu_cluster.proofs.Outliving.{fails_then}
+use Rattle.mu_cluster.proofs.Outliving.{After, after, fails_then}
 use Rattle.mu_cluster.proofs.Outrunning.{none_outrun}
-use Rattle.mu_cluster.proofs.Raised.{RaisedBy, full_holds, holds_whole, raised_alone, raised_by, raised_last}
+use Rattle.mu_cluster.proofs.Raised.{RaisedBy, full_holds, holds_whole, raised_by}
 use Rattle.mu_cluster.proofs.Taken.{GoOn}
 use Rattle.mu_cluster.proofs.Turning.{least_most}
 use Rattle.mu_agree.proofs.Sessions.{same_list}
-use Rattle.mu_pace.proofs.Pasts.{cut, not_true, not_false, has_later}
+use Rattle.mu_pace.proofs.Pasts.{cut, not_true, has_later}
 use Rattle.mu_alive.proofs.Settling.{score-part}
 
 -- what a log held it holds later
@@ -94,16 +90,18 @@ reads_head c r q by (Verb.Head p) answer past own reads is =
     ap (head_read r q by (Verb.Head p)) is ∙ ap (λ t. cond {A = Option ℕ} t (Some (region_head p past)) None) (and_from (by == r) (p == q) (eq-eqb by r own) reads) ∙ ap (λ x. Some (region_head x past)) (eqb-true p q reads)
 reads_head c r q by verb answer past own reads is = absurd (true≢false (sym reads))
 
--- one step before its budget is spent r has finished
-record DoneBefore (c : Config) (r : ℕ) (whole : List Event) : Type 0 where
+-- after m of its events r has finished
+record DoneAfter (c : Config) (r m : ℕ) (whole : List Event) : Type 0 where
+  newer : List Event
   event : Event
   mine : List Event
-  is : whole ≡ event ∷ mine
+  is : whole ≡ newer ++ event ∷ mine
+  count : length mine ≡ m
   done : is_finished c r mine ≡ true
 
-done_before : (c : Config) (live : ℕ → Bool) (events : List Event) (lengths : List ℕ) (rounds most s r : ℕ) → AreUnpaused c events lengths rounds → (on : GoOn c live s events) → (by : RaisedBy c live events most) → r < c.replicas → live r ≡ true → length (part_of r events) ≡ c.budget → most + c.replicas * cycle c < c.budget
-    → ((q : ℕ) → q < c.replicas → live q ≡ false → length (part_of q events) + failing_steps c < c.budget) → DoneBefore c r (part_of r events)
-done_before c live events lengths rounds most s r run on by low lives spent enough failing = start (part r by.front) refl
+done_after : (c : Config) (live : ℕ → Bool) (events : List Event) (lengths : List ℕ) (rounds most s r m : ℕ) → AreUnpaused c events lengths rounds → (on : GoOn c live s events) → (by : RaisedBy c live events most) → r < c.replicas → live r ≡ true → m < length (part_of r events) → most + c.replicas * cycle c ≤ m
+    → ((q : ℕ) → q < c.replicas → live q ≡ false → length (part_of q events) + failing_steps c ≤ m) → DoneAfter c r m (part_of r events)
+done_after c live events lengths rounds most s r m run on by low lives more enough failing = start (after left (part r by.front) many)
   where
     upto : ℕ
     upto = by.raised.upto
@@ -111,15 +109,27 @@ done_before c live events lengths rounds most s r run on by low lives spent enou
     split : (q : ℕ) → part_of q events ≡ part q by.front ++ part q by.past
     split q = ap (part q) by.is ∙ filter-append (λ e. e.by == q) by.front by.past
 
-    many : c.replicas * cycle c + 1 ≤ length (part r by.front)
-    many = let sum = ap length (split r) ∙ length-append (part r by.front) (part r by.past) in let few = by.few r low lives in omega (arith, sum, few, spent, enough)
+    -- how many of its events are left after the moment at which all have raised their heads
+    left : ℕ
+    left = m - length (part r by.past)
 
-    start : (there : List Event) → part r by.front ≡ there → DoneBefore c r (part_of r events)
-    start [] is = absurd (let none = ap length is in let m = many in omega (arith, none, m))
-    start (event ∷ rest) is = at (located r by.front [] rest event is)
+    count : left + length (part r by.past) ≡ m
+    count = let few = by.few r low lives in omega (arith, few, enough)
+
+    many : left < length (part r by.front)
+    many = let sum = ap length (split r) ∙ length-append (part r by.front) (part r by.past) in let n = count in omega (arith, sum, n, more)
+
+    start : After left (part r by.front) → DoneAfter c r m (part_of r events)
+    start a = at (located r by.front a.top a.bottom a.event a.is)
       where
-        at : Located r by.front event rest → DoneBefore c r (part_of r events)
-        at l = record { event = event; mine = mine; is = split r ∙ ap (λ x. x ++ part r by.past) is; done = done }
+        event : Event
+        event = a.event
+
+        rest : List Event
+        rest = a.bottom
+
+        at : Located r by.front event rest → DoneAfter c r m (part_of r events)
+        at l = record { newer = a.top; event = event; mine = mine; is = split r ∙ ap (λ x. x ++ part r by.past) a.is ∙ append_assoc a.top (event ∷ rest) (part r by.past); count = long; done = done }
           where
             mine : List Event
             mine = rest ++ part r by.past
@@ -133,11 +143,11 @@ done_before c live events lengths rounds most s r run on by low lives spent enou
             mine_is : part r moment ≡ mine
             mine_is = filter-append (λ e. e.by == r) l.older by.past ∙ ap (λ x. x ++ part r by.past) l.before
 
-            long : length mine + 1 ≡ c.budget
-            long = let sum = ap length (split r ∙ ap (λ x. x ++ part r by.past) is) in omega (arith, sum, spent)
+            long : length mine ≡ m
+            long = let sum = length-append rest (part r by.past) in let n = a.count in let all = count in omega (arith, sum, n, all)
 
             rounds_long : c.replicas * cycle c ≤ length rest
-            rounds_long = let n = ap length is in let m = many in omega (arith, n, m)
+            rounds_long = let n = a.count in let all = count in let few = by.few r low lives in omega (arith, n, all, few, enough)
 
             had : upto ≤ length (applied c r (part r by.past))
             had = by.raised.reached r low lives
@@ -171,8 +181,9 @@ done_before c live events lengths rounds most s r run on by low lives spent enou
             read : (q : ℕ) → q < c.replicas → q ≢ r → has (is_head_of q) rest ≡ true
             read q inside other =
                 let k = cut (c.replicas * cycle c) rest rounds_long in
-                let stretch : part_of r events ≡ (event ∷ k.newer) ++ (k.rest ++ part r by.past) = split r ∙ ap (λ x. x ++ part r by.past) (is ∙ ap (λ x. event ∷ x) k.is) ∙ append_assoc (event ∷ k.newer) k.rest (part r by.past) in
-                subst (λ x. has (is_head_of q) x ≡ true) (sym k.is) (has_later (is_head_of q) k.newer k.rest ((on.diligent r low).head_pace.reads q k.rest (part r by.past) inside other (record { newer = event ∷ k.newer; is = stretch }) k.count))
+                let there : part r by.front ≡ (a.top ++ event ∷ k.newer) ++ k.rest = a.is ∙ ap (λ x. a.top ++ event ∷ x) k.is ∙ sym (append_assoc a.top (event ∷ k.newer) k.rest) in
+                let stretch : part_of r events ≡ (a.top ++ event ∷ k.newer) ++ (k.rest ++ part r by.past) = split r ∙ ap (λ x. x ++ part r by.past) there ∙ append_assoc (a.top ++ event ∷ k.newer) k.rest (part r by.past) in
+                subst (λ x. has (is_head_of q) x ≡ true) (sym k.is) (has_later (is_head_of q) k.newer k.rest ((on.diligent r low).head_pace.reads q k.rest (part r by.past) inside other (record { newer = a.top ++ event ∷ k.newer; is = stretch }) k.count))
 
             other_is : (q : ℕ) → q < c.replicas → q ≢ r → (t : Bool) → live q ≡ t → (is_at_least (full_length c r mine) (newest (λ e. head_read r q e.by e.verb e.answer) mine) || is_failed r q mine) ≡ true
             other_is q inside other true goes =
@@ -251,12 +262,12 @@ goes_on_of o order seats rounds s good run given played diligent unpaused on = r
         go (End.Outrun p i) is ends = absurd (none_outrun c events (map length (journals_of o)) run.turns.rounds q p i good (unpaused_of o order seats rounds run given played unpaused) inside (ap (outrun c q) (sym (journal_part o run q inside)) ∙ ends.1))
         go (End.Finished heads) is ends = inr (ap (is_finished c q) (sym (journal_part o run q inside)) ∙ ends.2)
 
--- and each of them finishes, if all raise their heads in time and hold the others failed in time
-pub finishes_from : (o : Outcome) (order : Record) (seats : List Seat) (rounds s most : ℕ) → IsConfig o.job.config → (run : IsRun o) → o.order ≡ Some order → Played o.job.config o.job.script order.events seats rounds 0 → o.job.script.pauses ≡ [] → GoOn o.job.config (λ r. not (was_stopped o r)) s run.order.events
-    → (((r : ℕ) → r < o.job.config.replicas → not (was_stopped o r) ≡ true → most ≤ slice_index (lengths_of o) r) → RaisedBy o.job.config (λ r. not (was_stopped o r)) run.order.events most) → most + o.job.config.replicas * cycle o.job.config < o.job.config.budget
-    → ((q : ℕ) → q < o.job.config.replicas → not (was_stopped o q) ≡ false → length (part_of q run.order.events) + failing_steps o.job.config < o.job.config.budget)
-    → (r : ℕ) → r < o.job.config.replicas → was_stopped o r ≡ false → HasApplied o r
-finishes_from o order seats rounds s most good run given played unpaused goes_on raises enough failing r low there = by_end (run.ended r low).0 (run.ended r low).1 (run.ended r low).2.ends
+-- and each of them finishes by m events, if all raise their heads in time and hold the others failed in time
+pub finishes_from : (o : Outcome) (order : Record) (seats : List Seat) (rounds s most m : ℕ) → IsConfig o.job.config → (run : IsRun o) → o.order ≡ Some order → Played o.job.config o.job.script order.events seats rounds 0 → o.job.script.pauses ≡ [] → GoOn o.job.config (λ r. not (was_stopped o r)) s run.order.events
+    → (((r : ℕ) → r < o.job.config.replicas → not (was_stopped o r) ≡ true → most ≤ slice_index (lengths_of o) r) → RaisedBy o.job.config (λ r. not (was_stopped o r)) run.order.events most) → most + o.job.config.replicas * cycle o.job.config ≤ m → m < o.job.config.budget
+    → ((q : ℕ) → q < o.job.config.replicas → not (was_stopped o q) ≡ false → length (part_of q run.order.events) + failing_steps o.job.config ≤ m)
+    → (r : ℕ) → r < o.job.config.replicas → was_stopped o r ≡ false → HasApplied o r × (length (journal_of o r) ≤ m)
+finishes_from o order seats rounds s most m good run given played unpaused goes_on raises enough within failing r low there = (by_end (run.ended r low).0 (run.ended r low).1 (run.ended r low).2.ends, few)
   where
     c : Config
     c = o.job.config
@@ -274,34 +285,46 @@ finishes_from o order seats rounds s most good run given played unpaused goes_on
     all = unpaused_of o order seats rounds run given played unpaused
 
     raised : RaisedBy c live events most
-    raised = raised_by c live s events lengths run.turns.rounds most all goes_on raises (omega (arith, enough))
+    raised = raised_by c live s events lengths run.turns.rounds most all goes_on raises (omega (arith, enough, within))
 
-    -- it can't have spent its budget
-    spent : length (history (journal_of o r)) ≡ c.budget → ⊥
-    spent is = at (done_before c live events lengths run.turns.rounds most s r all goes_on raised low (ap not there) (ap length (sym (journal_part o run r low)) ∙ is) enough failing)
+    -- it can't have gone on
+    longer : DoneAfter c r m (part_of r events) → ⊥
+    longer d = first_end (stops_at r (length d.mine) o.job.script.stops) refl
       where
-        at : DoneBefore c r (part_of r events) → ⊥
-        at d = first_end (stops_at r (length d.mine) o.job.script.stops) refl
-          where
-            whole : history (journal_of o r) ≡ (d.event ∷ []) ++ d.mine
-            whole = journal_part o run r low ∙ d.is
+        newer : List Event
+        newer = d.newer ++ d.event ∷ []
 
-            short : length d.mine ≢ c.budget
-            short same = let n = ap length whole in omega (arith, same, n, is)
+        mine : part_of r events ≡ newer ++ d.mine
+        mine = d.is ∙ sym (append_assoc d.newer (d.event ∷ []) d.mine)
 
-            none : outrun c r d.mine ≡ None
-            none = outrun_before c r (d.event ∷ []) d.mine (ap (outrun c r) (sym d.is) ∙ none_of c r (part_of r events) (outrun c r (part_of r events)) refl (λ p i. none_outrun c events lengths run.turns.rounds r p i good all low))
+        some : newer ≢ []
+        some none = let n = ap length none in let sum = length-append d.newer (d.event ∷ []) in omega (arith, n, sum)
 
-            no_end : (end : End) → EndsBy c o.job.script r d.mine end → ⊥
-            no_end end ends = (run.ended r low).2.first (d.event ∷ []) d.mine end whole (λ e. absurd (let k = e in cc)) ends
+        short : length d.mine ≢ c.budget
+        short same = let n = d.count in omega (arith, same, n, within)
 
-            first_end : (t : Bool) → stops_at r (length d.mine) o.job.script.stops ≡ t → ⊥
-            first_end true stops = no_end End.Stopped stops
-            first_end false stops = no_end (End.Finished (heads_of (head_known r d.mine))) ((stops, short), none, d.done, heads_are (head_known r d.mine))
+        none : outrun c r d.mine ≡ None
+        none = outrun_before c r newer d.mine (ap (outrun c r) (sym mine) ∙ none_of c r (part_of r events) (outrun c r (part_of r events)) refl (λ p i. none_outrun c events lengths run.turns.rounds r p i good all low))
+
+        no_end : (end : End) → EndsBy c o.job.script r d.mine end → ⊥
+        no_end end ends = (run.ended r low).2.first newer d.mine end (journal_part o run r low ∙ mine) some ends
+
+        first_end : (t : Bool) → stops_at r (length d.mine) o.job.script.stops ≡ t → ⊥
+        first_end true stops = no_end End.Stopped stops
+        first_end false stops = no_end (End.Finished (heads_of (head_known r d.mine))) ((stops, short), none, d.done, heads_are (head_known r d.mine))
+
+    few_events : length (part_of r events) ≤ m
+    few_events = elim (cases_lt m (length (part_of r events))) [
+      | inl more ↦ absurd (longer (done_after c live events lengths run.turns.rounds most s r m all goes_on raised low (ap not there) more enough failing))
+      | inr few ↦ few
+    ]
+
+    few : length (journal_of o r) ≤ m
+    few = let n = few_events in let same = ap length (journal_part o run r low) in let long = length-reverse (journal_of o r) in omega (arith, n, same, long)
 
     by_end : (end : End) → slice_get o.ends r ≡ Some end → EndsBy c o.job.script r (history (journal_of o r)) end → HasApplied o r
     by_end End.Stopped is ends = absurd (true≢false (sym (ap is_stop is) ∙ there))
-    by_end End.Budget is ends = absurd (spent ends.1)
+    by_end End.Budget is ends = absurd (let n = few in let all = ends.1 in let long = length-reverse (journal_of o r) in omega (arith, n, all, long, within))
     by_end (End.Outrun p i) is ends = absurd (none_outrun c events lengths run.turns.rounds r p i good all low (ap (outrun c r) (sym (journal_part o run r low)) ∙ ends.1))
     by_end (End.Finished heads) is ends = record { heads = heads; ended = is; holds = ap (holds_all c) (run.logs r low) ∙ holds_mine }
       where
@@ -313,74 +336,3 @@ finishes_from o order seats rounds s most good run given played unpaused goes_on
 
         holds_mine : holds_all c (applied c r mine) ≡ true
         holds_mine = holds_whole c (full_length c r mine) (applied c r mine) (full_holds c r mine full)
-
--- those that were stopped are held failed in time
-pub held_in_time : (o : Outcome) (run : IsRun o) → ((r : ℕ) → r < o.job.config.replicas → was_stopped o r ≡ true → length (journal_of o r) + failing_steps o.job.config < o.job.config.budget)
-    → (q : ℕ) → q < o.job.config.replicas → not (was_stopped o q) ≡ false → length (part_of q run.order.events) + failing_steps o.job.config < o.job.config.budget
-held_in_time o run failing q inside stopped =
-    let few = failing q inside (not_false (was_stopped o q) stopped) in
-    let same = ap length (journal_part o run q inside) in
-    let long = length-reverse (journal_of o q) in
-    omega (arith, few, same, long)
-
-pub finishes_of : (o : Outcome) (order : Record) (seats : List Seat) (rounds : ℕ) → IsConfig o.job.config → (run : IsRun o) → o.order ≡ Some order → Played o.job.config o.job.script order.events seats rounds 0 → AreDiligent o → AppliesEachInTime o
-finishes_of o order seats rounds good run given played diligent unpaused k on time =
-    let c = o.job.config in
-    let live = (λ (r : ℕ). not (was_stopped o r)) in
-    let all = unpaused_of o order seats rounds run given played unpaused in
-    let goes_on = goes_on_of o order seats rounds 0 good run given played diligent unpaused on in
-    finishes_from o order seats rounds 0 (raising_steps c) good run given played unpaused goes_on
-    (λ late. raised_alone c live run.order.events (lengths_of o) run.turns.rounds (raising_steps c) good all goes_on (omega arith) (λ past lone writes keep long. raise_all c live 0 past good time.large lone writes keep long) late) time.enough
-    (held_in_time o run (λ r inside stopped. let few = time.ended r inside stopped in let enough = time.failing in omega (arith, few, enough)))
-
--- and if leaders were stopped
-pub finishes_after : (o : Outcome) (order : Record) (seats : List Seat) (rounds : ℕ) → IsConfig o.job.config → (run : IsRun o) → o.order ≡ Some order → Played o.job.config o.job.script order.events seats rounds 0 → AreDiligent o → AppliesEachAfterStops o
-finishes_after o order seats rounds good run given played diligent unpaused s k on time =
-    let c = o.job.config in
-    let live = (λ (r : ℕ). not (was_stopped o r)) in
-    let all = unpaused_of o order seats rounds run given played unpaused in
-    let nodes = nodes_of o order seats rounds run given played diligent in
-    let goes_on = goes_on_of o order seats rounds s good run given played diligent unpaused on in
-    finishes_from o order seats rounds s (k + failing_steps c + last_raising_steps c s) good run given played unpaused goes_on
-    (λ late. raised_last c live s run.order.events (lengths_of o) run.turns.rounds k good time.large all nodes goes_on
-    (λ q below. let inside = on.inside in let few = time.ended q below in let same = ap length (journal_part o run q (omega (arith, below, inside))) in let long = length-reverse (journal_of o q) in omega (arith, few, same, long)) late)
-    (let enough = time.enough in omega (arith, enough)) (held_in_time o run time.failing)
-
--- all that pass are all that there are
-pub count_all : (n : ℕ) (f : ℕ → Bool) → ((r : ℕ) → r < n → f r ≡ true) → n ≤ count_below n f
-count_all zero f all = omega arith
-count_all (suc n) f all = go (f n) (all n (omega arith)) (count_all n f (λ r low. all r (omega (arith, low))))
-  where
-    go : (t : Bool) → t ≡ true → n ≤ count_below n f → suc n ≤ cond t (count_below n f + 1) (count_below n f)
-    go true is few = omega (arith, few)
-    go false is few = absurd (true≢false (sym is))
-
--- if nobody is stopped, in any ring
-pub finishes_in_any_ring : (o : Outcome) (order : Record) (seats : List Seat) (rounds : ℕ) → IsConfig o.job.config → (run : IsRun o) → o.order ≡ Some order → Played o.job.config o.job.script order.events seats rounds 0 → AreDiligent o → AppliesEachInAnyRing o
-finishes_in_any_ring o order seats rounds good run given played diligent unpaused unstopped enough r low =
-    finishes_from o order seats rounds 0 (raising_in_any_ring c) good run given played unpaused goes_on
-    (λ late. raised_alone c (λ r. not (was_stopped o r)) run.order.events (lengths_of o) run.turns.rounds (raising_in_any_ring c) good (unpaused_of o order seats rounds run given played unpaused) goes_on (omega arith) (λ past lone writes keep long. raises_in_any_ring c (λ r. not (was_stopped o r)) 0 past good all lone writes keep long) late) enough
-    (λ q inside stopped. absurd (true≢false (sym (all q inside) ∙ stopped))) r low (left r low)
-  where
-    c : Config
-    c = o.job.config
-
-    left : (q : ℕ) → q < c.replicas → was_stopped o q ≡ false
-    left q inside = go (run.ended q inside).0 (run.ended q inside).1 (run.ended q inside).2.ends
-      where
-        go : (end : End) → slice_get o.ends q ≡ Some end → EndsBy c o.job.script q (history (journal_of o q)) end → was_stopped o q ≡ false
-        go End.Stopped is ends = absurd (true≢false (sym ends ∙ ap (stops_at q (length (history (journal_of o q)))) unstopped))
-        go End.Budget is ends = ap is_stop is
-        go (End.Outrun p i) is ends = ap is_stop is
-        go (End.Finished heads) is ends = ap is_stop is
-
-    all : (q : ℕ) → q < c.replicas → not (was_stopped o q) ≡ true
-    all q inside = ap not (left q inside)
-
-    some : 0 < c.replicas
-    some = (let l = good.replicas.0 in omega (arith, l))
-
-    goes_on : GoOn c (λ r. not (was_stopped o r)) 0 run.order.events
-    goes_on =
-        goes_on_of o order seats rounds 0 good run given played diligent unpaused
-        (record { inside = some; left = left 0 some; lower = λ r low. absurd (omega (arith, low)); majority = (let count = count_all c.replicas (λ r. not (was_stopped o r)) all in let l = good.replicas.0 in omega (arith, count, l)) })

@@ -1,6 +1,5 @@
 pub mod Agreeing
 mod AllTold
-mod AnyRing
 mod Branching
 mod Committing
 mod Driven
@@ -8,10 +7,10 @@ mod Fair
 mod FairRuns
 pub mod FewCommands
 mod Filling
+mod Finished
 mod Finishing
 mod InStep
 mod InTurn
-mod Lives
 mod Living
 mod Naming
 mod Onward

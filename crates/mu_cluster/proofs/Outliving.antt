@@ -1,37 +1,25 @@
 -- In a replay without a pause, the least replica that isn't stopped leads on after the leaders
 -- below it were stopped.
-use Rattle.std.proofs.Common.{◌≡◌, ◌∙◌, ◌≢◌, ℕ, ◌+◌, ◌<◌, ◌≤◌, ◌==◌, inl, inr, Bool, true, false, cond, Some, List, [], ◌∷◌, ◌++◌, ap, append_assoc, arith, length, map, refl, subst, sym}
-use Rattle.std.specs.Prelude.{not, slice_index}
-use Rattle.std.specs.List.{slice_get}
+use Rattle.std.proofs.Common.{◌≡◌, ◌∙◌, ◌≢◌, ℕ, ◌+◌, ◌<◌, ◌≤◌, ◌==◌, inl, inr, Bool, true, false, cond, List, [], ◌∷◌, ◌++◌, ap, append_assoc, arith, length, refl, subst, sym}
+use Rattle.std.specs.Prelude.{not}
 use Rattle.std.proofs.lemmas.Bool.{eq-eqb, true≢false}
-use Rattle.std.proofs.lemmas.List.{length-append, length-reverse}
+use Rattle.std.proofs.lemmas.List.{length-append}
 use Rattle.mu_agree.proofs.Legal.{legal_older}
-use Rattle.mu_input.specs.Heads.{HaveHeads}
 use Rattle.mu_model.specs.declared.config.Config.{Config}
 use Rattle.mu_model.specs.declared.event.Event.{Event}
-use Rattle.mu_model.specs.declared.script.End.{End}
-use Rattle.mu_model.specs.Contents.{IsConfig, holds_all}
+use Rattle.mu_model.specs.Contents.{IsConfig}
 use Rattle.mu_model.specs.Diligence.{AsksInTime, GrantsInTime, IsDiligent, ReadsInTime}
-use Rattle.mu_model.specs.Ends.{EndsBy, outrun}
+use Rattle.mu_model.specs.Ends.{outrun}
 use Rattle.mu_model.specs.Histories.{count_below, history, part}
-use Rattle.mu_model.specs.Journals.{Record}
-use Rattle.mu_model.specs.Knowledge.{applied}
 use Rattle.mu_model.specs.Leaderships.{begins_leadership, has_begun, majority_of}
 use Rattle.mu_model.specs.Legal.{IsLegalHistory}
 use Rattle.mu_model.specs.Scores.{is_failed, leader, score}
-use Rattle.mu_model.proofs.Basics.{same_some}
 use Rattle.mu_model.proofs.Parts.{filter-append}
 use Rattle.mu_node.specs.Journal.{WasMade}
 use Rattle.mu_node.proofs.Naming.{asker_named}
-use Rattle.mu_outcome.specs.declared.outcome.Outcome.{Outcome}
-use Rattle.mu_outcome.specs.Completion.{Completes, HasAllCommands, IsCutShort}
-use Rattle.mu_outcome.specs.Entries.{commands_in, longest}
-use Rattle.mu_outcome.specs.Outcomes.{IsRun, journal_of, journals_of}
-use Rattle.mu_outcome.proofs.Completing.{all_from_log, completes_over}
 use Rattle.mu_pace.specs.Collecting.{LeaderKeeps}
 use Rattle.mu_pace.specs.Counters.{AtEachStep}
 use Rattle.mu_pace.proofs.Counting.{steps_before}
-use Rattle.mu_alive.specs.Enough.{HasLargeRing}
 use Rattle.mu_alive.specs.Failing.{failing_steps}
 use Rattle.mu_alive.specs.Last.{LeadsLast, NamesItself}
 use Rattle.mu_alive.specs.Turns.{AreInTurn}
@@ -39,24 +27,17 @@ use Rattle.mu_alive.proofs.Beginning.{grants_before, reads_before}
 use Rattle.mu_alive.proofs.Cutting.{Located, located, moments_of}
 use Rattle.mu_alive.proofs.Failing.{held_failed}
 use Rattle.mu_alive.proofs.Enough.{asks_before, outrun_before}
-use Rattle.mu_alive.proofs.Fetching.{applied_on, last_applies_all}
 use Rattle.mu_alive.proofs.TurnGrants.{turns_before}
 use Rattle.mu_alive.proofs.Turns.{begun-part}
-use Rattle.mu_cluster.specs.declared.rounds.Seat.{Seat}
-use Rattle.mu_cluster.specs.Naming.{NoneOutrunUnpaused}
-use Rattle.mu_cluster.specs.Outliving.{AppliesAllAfterStops, HasAllAfterStops, is_stop, steps_after, was_stopped}
-use Rattle.mu_cluster.specs.Paces.{AreDiligent}
-use Rattle.mu_cluster.specs.Rounds.{Played, part_of}
-use Rattle.mu_cluster.proofs.Agreeing.{agrees_of, over_order}
+use Rattle.mu_cluster.specs.Rounds.{part_of}
 use Rattle.mu_cluster.proofs.InTurn.{asked, begins_ask, insider, none_left}
 use Rattle.mu_cluster.proofs.Living.{none_of}
-use Rattle.mu_cluster.proofs.Lives.{done_or_not}
-use Rattle.mu_cluster.proofs.Naming.{AreUnpaused, part_before, part_step, unpaused_of}
-use Rattle.mu_cluster.proofs.Onward.{AreNodes, in_turn, journal_part, names_own, nodes_of, stays_named}
+use Rattle.mu_cluster.proofs.Naming.{AreUnpaused, part_before, part_step}
+use Rattle.mu_cluster.proofs.Onward.{AreNodes, in_turn, names_own, stays_named}
 use Rattle.mu_cluster.proofs.Outrunning.{none_outrun}
-use Rattle.mu_cluster.proofs.Taken.{TakenAt, fetches_at, taken_at}
+use Rattle.mu_cluster.proofs.Taken.{TakenAt}
 use Rattle.mu_cluster.proofs.Turning.{outlasted}
-use Rattle.mu_pace.proofs.Pasts.{cut, not_true}
+use Rattle.mu_pace.proofs.Pasts.{cut}
 use Rattle.mu_alive.proofs.Settling.{score-part}
 
 -- who makes no events has none
@@ -65,14 +46,14 @@ none_there [] none = refl
 none_there (e ∷ events) none = absurd (omega (arith, none))
 
 -- r's event after n of its own
-record After (n : ℕ) (mine : List Event) : Type 0 where
-  top : List Event
-  event : Event
-  bottom : List Event
-  is : mine ≡ top ++ event ∷ bottom
-  count : length bottom ≡ n
+pub record After (n : ℕ) (mine : List Event) : Type 0 where
+  pub top : List Event
+  pub event : Event
+  pub bottom : List Event
+  pub is : mine ≡ top ++ event ∷ bottom
+  pub count : length bottom ≡ n
 
-after : (n : ℕ) (mine : List Event) → n < length mine → After n mine
+pub after : (n : ℕ) (mine : List Event) → n < length mine → After n mine
 after n mine more =
     let one = cut (n + 1) mine (omega (arith, more)) in
     go one.newer one.rest one.is one.count
@@ -164,55 +145,3 @@ leads_last c live events lengths rounds a k most good run nodes inside lives maj
         (λ q below. let few = short q below in omega (arith, few, late)))
     itself newer before cuts (inr begun) =
         eq-eqb (leader c a (part a before)) a (begun_named c events lengths rounds a (t.front ++ newer) before run nodes (t.is ∙ ap (λ l. t.front ++ l) cuts ∙ sym (append_assoc t.front newer before)) begun)
-
--- and has every row in its log
-holds_after : (c : Config) (live : ℕ → Bool) (events : List Event) (lengths : List ℕ) (rounds a k : ℕ) → IsConfig c → AreUnpaused c events lengths rounds → AreNodes c events → a < c.replicas → live a ≡ true → majority_of c.replicas ≤ count_below c.replicas live → ((r : ℕ) → r < c.replicas → live r ≡ true → slice_index lengths r ≡ c.budget)
-    → ((q : ℕ) → q < a → length (part_of q events) ≤ k) → ((r : ℕ) → r < c.replicas → IsDiligent c r (part_of r events)) → HasLargeRing c → k + steps_after c a ≤ c.budget → holds_all c (applied c a (part_of a events)) ≡ true
-holds_after c live events lengths rounds a k good run nodes inside lives majority all short diligent large enough =
-    subst (λ l. holds_all c (applied c a l) ≡ true) (sym (ap (part a) t.is ∙ filter-append (λ e. e.by == a) t.front (t.last ∷ t.older)))
-    (applied_on c a (part a t.front) (part a (t.last ∷ t.older))
-    (last_applies_all c live a (k + failing_steps c) (t.last ∷ t.older) good large (leads_last c live events lengths rounds a k c.budget good run nodes inside lives majority short diligent t) (fetches_at c live a events lengths rounds c.budget a good run inside t)
-    (let n = t.taken in omega (arith, n, enough))))
-  where
-    t : TakenAt c live a events c.budget
-    t = taken_at c live a events lengths rounds c.budget run inside lives (omega (arith, enough)) (λ r low there. let is = all r low there in omega (arith, is))
-
--- who spent its budget made as many steps
-pub whole_budget : (o : Outcome) (run : IsRun o) (r : ℕ) → r < o.job.config.replicas → slice_get o.ends r ≡ Some End.Budget → length (history (journal_of o r)) ≡ o.job.config.budget
-whole_budget o run r low spent = go (run.ended r low).0 (run.ended r low).1 (run.ended r low).2.ends
-  where
-    go : (end : End) → slice_get o.ends r ≡ Some end → EndsBy o.job.config o.job.script r (history (journal_of o r)) end → length (history (journal_of o r)) ≡ o.job.config.budget
-    go end is ends = (subst (EndsBy o.job.config o.job.script r (history (journal_of o r))) (same_some end End.Budget (sym is ∙ spent)) ends).1
-
-pub applies_after : (o : Outcome) (order : Record) (seats : List Seat) (rounds : ℕ) → IsConfig o.job.config → (run : IsRun o) → o.order ≡ Some order → Played o.job.config o.job.script order.events seats rounds 0 → AreDiligent o → AppliesAllAfterStops o
-applies_after o order seats rounds good run given played diligent unpaused s k on time spent =
-    let c = o.job.config in
-    let all = unpaused_of o order seats rounds run given played unpaused in
-    let nodes = nodes_of o order seats rounds run given played diligent in
-    let holds = holds_after c (λ r. not (was_stopped o r)) run.order.events (map length (journals_of o)) run.turns.rounds s k good all nodes on.inside (ap not on.left) on.majority
-    (λ r low there. all.taken r low ∙ ap length (sym (journal_part o run r low)) ∙ whole_budget o run r low (spent r low (not_true (was_stopped o r) there)))
-    (λ q below. let inside = on.inside in let few = time.ended q below in let same = ap length (journal_part o run q (omega (arith, below, inside))) in let long = length-reverse (journal_of o q) in omega (arith, few, same, long))
-    (λ r low. subst (IsDiligent c r) (journal_part o run r low) (diligent r low)) time.large time.enough in
-    ap (holds_all c) (run.logs s on.inside ∙ ap (applied c s) (journal_part o run s on.inside)) ∙ holds
-
--- who wasn't stopped spent its budget, while a command is missing
-pub spent_by : (o : Outcome) (run : IsRun o) → Completes o → NoneOutrunUnpaused o → o.job.script.pauses ≡ [] → (HasAllCommands o → ⊥) → (r : ℕ) → r < o.job.config.replicas → was_stopped o r ≡ false → slice_get o.ends r ≡ Some End.Budget
-spent_by o run completes none unpaused lacks r low there = go (run.ended r low).0 (run.ended r low).1 (completes.cut_short lacks r low)
-  where
-    go : (end : End) → slice_get o.ends r ≡ Some end → ((e : End) × (slice_get o.ends r ≡ Some e) × IsCutShort e) → slice_get o.ends r ≡ Some End.Budget
-    go End.Stopped is short = absurd (true≢false (sym (ap is_stop is) ∙ there))
-    go End.Budget is short = is
-    go (End.Outrun p i) is short = absurd (none unpaused r p i low is)
-    go (End.Finished heads) is short = absurd (subst IsCutShort (same_some short.0 (End.Finished heads) (sym short.1 ∙ is)) short.2)
-
-pub outlives_of : (o : Outcome) → IsConfig o.job.config → HaveHeads o.job.config.width o.job.commands o.job.config.rows → IsRun o → NoneOutrunUnpaused o → AppliesAllAfterStops o → HasAllAfterStops o
-outlives_of o good have run none applies unpaused s k on time =
-    elim (done_or_not (length (commands_in o.job (longest o.logs))) (length o.job.commands)) [
-      | inl done ↦ completes.done.0 done
-      | inr open_yet ↦
-          let lacks = completes.unfinished.0 open_yet in
-          all_from_log o run.order.events good have (over_order o run) (agrees_of o good have run) s on.inside (applies unpaused s k on time (λ r low there. spent_by o run completes none unpaused lacks r low there))
-    ]
-  where
-    completes : Completes o
-    completes = completes_over o run.order.events good have (over_order o run) (agrees_of o good have run)

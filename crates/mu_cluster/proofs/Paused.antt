@@ -7,8 +7,9 @@ use Rattle.mu_model.specs.declared.event.Event.{Event}
 use Rattle.mu_model.specs.declared.script.Pause.{Pause}
 use Rattle.mu_model.specs.Histories.{part}
 use Rattle.mu_outcome.specs.Turns.{Pace, ids_after, ids_in_round, is_due, pace, pace_after, rounds_paused}
-use Rattle.mu_cluster.specs.Pausing.{PausesBy, paused_rounds}
+use Rattle.mu_cluster.specs.Pausing.{PausesBy}
 use Rattle.mu_cluster.specs.Rounds.{id_of}
+use Rattle.mu_enough.specs.Lines.{paused_rounds}
 
 -- how many rounds r waits before it has taken m steps
 abbrev waits_before : List Pause → ℕ → ℕ → ℕ

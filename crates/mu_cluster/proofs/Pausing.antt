@@ -1,9 +1,9 @@
 -- After its last pause and its last stop the least replica that goes on has every command of a replay.
-use Rattle.std.proofs.Common.{◌≡◌, ◌∙◌, ℕ, ◌+◌, ◌-◌, ◌<◌, ◌≤◌, ◌==◌, inl, inr, Bool, true, false, None, Some, List, [], ◌∷◌, ◌++◌, ap, append_assoc, arith, length, map, refl, subst, sym, true≢false, eqb-true, length-set, set}
-use Rattle.std.specs.Prelude.{if◌then◌else◌, not, reverse, slice_index, nat_lt}
+use Rattle.std.proofs.Common.{◌≡◌, ◌∙◌, ℕ, ◌+◌, ◌-◌, ◌<◌, ◌≤◌, ◌==◌, inl, inr, Bool, true, false, None, Some, List, [], ◌∷◌, ◌++◌, ap, append_assoc, arith, length, map, refl, subst, sym, eqb-true, length-set, set}
+use Rattle.std.specs.Prelude.{if◌then◌else◌, reverse, slice_index, nat_lt}
 use Rattle.std.specs.List.{slice_get}
 use Rattle.std.proofs.lemmas.Bool.{cases_order, eq-eqb, ltb-true}
-use Rattle.std.proofs.lemmas.List.{length-append, reverse-append, length-map, length-reverse}
+use Rattle.std.proofs.lemmas.List.{length-append, reverse-append, length-map}
 use Rattle.mu_agree.proofs.Legal.{legal_older, event_after, legal_induction}
 use Rattle.mu_model.specs.declared.config.Config.{Config}
 use Rattle.mu_model.specs.declared.event.Event.{Event}
@@ -28,25 +28,18 @@ use Rattle.mu_alive.specs.Resuming.{LeadsAfter}
 use Rattle.mu_alive.specs.Fair.{KeepsStep}
 use Rattle.mu_alive.proofs.Beginning.{reads_before}
 use Rattle.mu_alive.proofs.Enough.{outrun_before}
-use Rattle.mu_alive.proofs.Fetching.{applied_on}
-use Rattle.mu_cluster.specs.Pausing.{PausesBy, paused_rounds, steps_after_pauses, AppliesAllAfterPauses, HasAllAfterPauses, NoneOutrunInLargeRing}
+use Rattle.mu_cluster.specs.Pausing.{PausesBy, NoneOutrunInLargeRing}
 use Rattle.mu_cluster.specs.Rounds.{id_of, part_of, Played}
 use Rattle.mu_cluster.proofs.InStep.{map_reverse}
-use Rattle.mu_cluster.proofs.Onward.{AreNodes, journal_part, nodes_of}
+use Rattle.mu_cluster.proofs.Onward.{AreNodes, journal_part}
 use Rattle.mu_cluster.proofs.Paused.{Alternate, Split, count_after, count_due, count_idle, count_of, count_part, count_reverse, due_in, due_then, even_in, few_rounds, from_split, idle_then, ids_from, ids_split, split_ids, take_turns}
 use Rattle.mu_agree.proofs.Possible.{parts_keep_law}
-use Rattle.mu_cluster.proofs.Agreeing.{agrees_of, over_order}
-use Rattle.mu_cluster.proofs.Lives.{done_or_not}
 use Rattle.mu_cluster.proofs.Living.{none_of}
-use Rattle.mu_cluster.proofs.Outliving.{whole_budget}
 use Rattle.mu_cluster.proofs.Outrunning.{none_earlier, outrun_end, past_look, stands_last}
 use Rattle.mu_cluster.specs.Fair.{IsFairStretch}
 use Rattle.mu_cluster.proofs.Fair.{AreRunNodes, applies_then, leads_in}
 use Rattle.mu_alive.proofs.Fair.{even_keep, fast_found}
-use Rattle.mu_cluster.specs.Outliving.{is_stop, was_stopped}
-use Rattle.mu_cluster.specs.Paces.{AreDiligent}
 use Rattle.mu_cluster.specs.declared.rounds.Seat.{Seat}
-use Rattle.mu_input.specs.Heads.{HaveHeads}
 use Rattle.mu_model.proofs.Lists.{item_below}
 use Rattle.mu_model.specs.Allowed.{Needs}
 use Rattle.mu_model.specs.Answers.{answer_of, drained, put_answer, shown}
@@ -55,14 +48,12 @@ use Rattle.mu_model.specs.Parts.{IsPossible}
 use Rattle.mu_model.specs.Picks.{is_past}
 use Rattle.mu_model.specs.declared.event.Answer.{Answer}
 use Rattle.mu_model.specs.declared.script.End.{End}
-use Rattle.mu_outcome.proofs.Completing.{all_from_log, completes_over}
 use Rattle.mu_outcome.proofs.Journals.{length_at, length_of_part}
-use Rattle.mu_outcome.specs.Completion.{Completes, HasAllCommands, IsCutShort}
-use Rattle.mu_outcome.specs.Entries.{commands_in, longest}
 use Rattle.mu_outcome.specs.Outcomes.{IsRun, journal_of, journals_of}
 use Rattle.mu_outcome.specs.declared.outcome.Outcome.{Outcome}
-use Rattle.mu_pace.proofs.Pasts.{not_false, not_true}
 use Rattle.std.specs.declared.option.Option.{Option}
+use Rattle.mu_enough.specs.Committed.{steps_after_pauses}
+use Rattle.mu_enough.specs.Lines.{paused_rounds}
 
 -- the events of a replay are those of nodes, in the order of rounds with these pauses
 pub record AreRun (c : Config) (pauses : List Pause) (events : List Event) (lengths : List ℕ) (rounds : ℕ) : Type 0 where
@@ -109,7 +100,7 @@ log_few c p = legal_induction c (λ past. length (region_log p past) ≤ row_cou
         go Answer.Done t u hu = put (q == p) (i == length (region_log p past)) refl
           where
             put : (t u : Bool) → (i == length (region_log p past)) ≡ u → length (if t then (if u then region_log p past ++ (b, v) ∷ [] else set (region_log p past) i (b, v)) else region_log p past) ≤ row_count c + reserve c + 1
-            put true true at = let is = eqb-true i (length (region_log p past)) at in let low = may.1 in let sum = length-append (region_log p past) ((b, v) ∷ []) in omega (arith, is, low, sum)
+            put true true at = let is = eqb-true i (length (region_log p past)) at in let low = may.1.0 in let sum = length-append (region_log p past) ((b, v) ∷ []) in omega (arith, is, low, sum)
             put true false at = let same = length-set (region_log p past) i (b, v) in omega (arith, same, ih)
             put false u at = ih
         go y t u hu = ih
@@ -254,12 +245,6 @@ pub record HoldsBy (c : Config) (s m : ℕ) (events : List Event) : Type 0 where
   pub few : length (part s past) ≤ m
   pub holds : holds_all c (applied c s (part s past)) ≡ true
 
--- so it has them at the end
-pub holds_in_end : (c : Config) (s m : ℕ) (events : List Event) → HoldsBy c s m events → holds_all c (applied c s (part_of s events)) ≡ true
-holds_in_end c s m events by =
-    subst (λ l. holds_all c (applied c s l) ≡ true) (sym (ap (part s) by.is ∙ filter-append (λ e. e.by == s) by.front by.past))
-    (applied_on c s (part s by.front) (part s by.past) by.holds)
-
 -- after pauses there is such a moment
 pub holds_after_pauses : (c : Config) (live : ℕ → Bool) (s : ℕ) (pauses : List Pause) (events : List Event) (lengths : List ℕ) (rounds k p : ℕ) → IsConfig c → HasLargeRing c → AreRun c pauses events lengths rounds → AreNodes c events → ((r : ℕ) → r < c.replicas → IsDiligent c r (part_of r events)) → GoOnAfter c live s pauses lengths k p (steps_after_pauses c)
     → HoldsBy c s (k + p + 1 + steps_after_pauses c) events
@@ -285,51 +270,9 @@ paused_run o order seats rounds run given played = record {
         let found = item_below seats r (omega (arith, low, count)) in
         subst (λ (x : Record). AtEachStep (WasMade o.job.config r) (part_of r x.events)) (same_some order run.order (sym given ∙ run.given)) (played.waits r found.0 found.1 (omega arith)).stands.made
 
-pub applies_after_pauses : (o : Outcome) (order : Record) (seats : List Seat) (rounds : ℕ) → IsConfig o.job.config → (run : IsRun o) → o.order ≡ Some order → Played o.job.config o.job.script order.events seats rounds 0 → AreDiligent o → AppliesAllAfterPauses o
-applies_after_pauses o order seats rounds good run given played diligent s k p on time spent =
-    let c = o.job.config in
-    let all = paused_run o order seats rounds run given played in
-    let nodes = nodes_of o order seats rounds run given played diligent in
-    let m = k + p + 1 + steps_after_pauses c in
-    let by = holds_after_pauses c (λ r. not (was_stopped o r)) s o.job.script.pauses run.order.events (map length (journals_of o)) run.turns.rounds k p good time.large all nodes
-    (λ r low. subst (IsDiligent c r) (journal_part o run r low) (diligent r low))
-    (record {
-      inside = on.inside;
-      lives = ap not on.left;
-      lower = λ r below. ap not (on.lower r below);
-      majority = on.majority;
-      late = λ r low there. (let same = all.taken r low ∙ ap length (sym (journal_part o run r low)) ∙ whole_budget o run r low (spent r low (not_true (was_stopped o r) there)) in let e = time.enough in omega (arith, same, e));
-      stopped = λ r low gone. (let few = time.ended r low (not_false (was_stopped o r) gone) in let same = all.taken r low ∙ ap length (sym (journal_part o run r low)) in let long = length-reverse (journal_of o r) in omega (arith, few, same, long));
-      pauses_by = time.pauses;
-      rounds = time.rounds;
-    }) in
-    ap (holds_all c) (run.logs s on.inside ∙ ap (applied c s) (journal_part o run s on.inside)) ∙ holds_in_end c s m run.order.events by
-
 pub none_outrun_in_large : (o : Outcome) (order : Record) (seats : List Seat) (rounds : ℕ) → IsConfig o.job.config → (run : IsRun o) → o.order ≡ Some order → Played o.job.config o.job.script order.events seats rounds 0 → NoneOutrunInLargeRing o
 none_outrun_in_large o order seats rounds good run given played large r p i low is =
     let all = paused_run o order seats rounds run given played in
     let ended = run.ended r low in
     none_outrun_large o.job.config run.order.events r p i good large run.legal low (all.made r low)
     (subst (λ l. outrun o.job.config r l ≡ Some (p, i)) (journal_part o run r low) (outrun_end o.job.config o.job.script r p i (history (journal_of o r)) ended.0 (same_some ended.0 (End.Outrun p i) (sym ended.1 ∙ is)) ended.2.ends))
-
--- while a command is missing, who wasn't stopped spent its budget
-spent_large : (o : Outcome) (run : IsRun o) → Completes o → NoneOutrunInLargeRing o → HasLargeRing o.job.config → (HasAllCommands o → ⊥) → (r : ℕ) → r < o.job.config.replicas → was_stopped o r ≡ false → slice_get o.ends r ≡ Some End.Budget
-spent_large o run completes none large lacks r low there = go (run.ended r low).0 (run.ended r low).1 (completes.cut_short lacks r low)
-  where
-    go : (end : End) → slice_get o.ends r ≡ Some end → ((e : End) × (slice_get o.ends r ≡ Some e) × IsCutShort e) → slice_get o.ends r ≡ Some End.Budget
-    go End.Stopped is short = absurd (true≢false (sym (ap is_stop is) ∙ there))
-    go End.Budget is short = is
-    go (End.Outrun p i) is short = absurd (none large r p i low is)
-    go (End.Finished heads) is short = absurd (subst IsCutShort (same_some short.0 (End.Finished heads) (sym short.1 ∙ is)) short.2)
-
-pub after_pauses_of : (o : Outcome) → IsConfig o.job.config → HaveHeads o.job.config.width o.job.commands o.job.config.rows → IsRun o → NoneOutrunInLargeRing o → AppliesAllAfterPauses o → HasAllAfterPauses o
-after_pauses_of o good have run none applies s k p on time =
-    elim (done_or_not (length (commands_in o.job (longest o.logs))) (length o.job.commands)) [
-      | inl done ↦ completes.done.0 done
-      | inr open_yet ↦
-          let lacks = completes.unfinished.0 open_yet in
-          all_from_log o run.order.events good have (over_order o run) (agrees_of o good have run) s on.inside (applies s k p on time (λ r low there. spent_large o run completes none time.large lacks r low there))
-    ]
-  where
-    completes : Completes o
-    completes = completes_over o run.order.events good have (over_order o run) (agrees_of o good have run)

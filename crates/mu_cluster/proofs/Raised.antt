@@ -22,6 +22,7 @@ use Rattle.mu_model.specs.Room.{head_read}
 use Rattle.mu_model.specs.Scores.{is_failed}
 use Rattle.mu_model.proofs.Owned.{greatest-part}
 use Rattle.mu_model.proofs.Parts.{filter-append}
+use Rattle.mu_model.proofs.Putting.{head_applied}
 use Rattle.mu_model.proofs.Scans.{all_at}
 use Rattle.mu_pace.specs.Collecting.{LeaderKeeps}
 use Rattle.mu_pace.specs.Counters.{AtEachStep}
@@ -69,8 +70,8 @@ least_or_none (suc n) live f = go (live n) refl (least_or_none n live f)
     go false is (inr none) = inr (λ r low. elim (cases_eq r n) [ inl same ↦ ap live same ∙ is | inr other ↦ none r (omega (arith, low, other)) ])
 
 -- a head is at most what is applied
-head_applied : (c : Config) (r : ℕ) (past : List Event) → IsLegalHistory c past → region_head r past ≤ length (applied c r (part r past))
-head_applied c r = legal_induction c (λ past. region_head r past ≤ length (applied c r (part r past))) (omega arith) (λ past by v legal may ih. step past by v may.may ih)
+head_is_applied : (c : Config) (r : ℕ) (past : List Event) → IsLegalHistory c past → region_head r past ≤ length (applied c r (part r past))
+head_is_applied c r = legal_induction c (λ past. region_head r past ≤ length (applied c r (part r past))) (omega arith) (λ past by v legal may ih. step past by v may.may ih)
   where
     grows : (e : Event) (past : List Event) → region_head r past ≤ length (applied c r (part r past)) → region_head r past ≤ length (applied c r (part r (e ∷ past)))
     grows e past ih = go (e.by == r)
@@ -85,7 +86,7 @@ head_applied c r = legal_induction c (λ past. region_head r past ≤ length (ap
         raised : (t : Bool) → (by == r) ≡ t → max_with (cond t (Some h) None) (region_head r past) ≤ length (applied c r (part r (event_after c past by (Verb.RaiseHead h) ∷ past)))
         raised true own =
             let same = eqb-true by r own in
-            let low = needs.0 in
+            let low = head_applied c by (part by past) h needs in
             let mine = ap (λ x. length (applied c x (part x past))) same in
             let more = grows (event_after c past by (Verb.RaiseHead h)) past ih in
             let on : length (applied c r (part r past)) ≤ length (applied c r (part r (event_after c past by (Verb.RaiseHead h) ∷ past))) = still (by == r) in
@@ -275,7 +276,7 @@ one_before c live events lengths rounds most run least short finished = at (up_t
                 either false t f ht hf is = absurd (true≢false (sym is ∙ rw (ht, hf) refl))
 
         reached : (r : ℕ) → r < c.replicas → live r ≡ true → upto ≤ length (applied c r (part r u.past))
-        reached r low lives = let high = raised r low lives (cases_eq r q) in let most = head_applied c r u.past legal in omega (arith, high, most)
+        reached r low lives = let high = raised r low lives (cases_eq r q) in let most = head_is_applied c r u.past legal in omega (arith, high, most)
 
         held : (r : ℕ) → r < c.replicas → live r ≡ true → holds_all c (take upto (applied c r (part r u.past))) ≡ true
         held r low lives = ap (holds_all c) (same_taken c r q upto u.past legal (reached r low lives) (reached q least.low least.lives)) ∙ full_holds c q (part q u.past) full

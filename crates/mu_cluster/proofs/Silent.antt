@@ -25,7 +25,7 @@ pub reads_heads_within : (c : Config) (r : ℕ) (mine : List Event) (e : Event) 
 reads_heads_within c r mine e few possible = go e.verb (parts_shorten_law c r mine e possible).allowed
   where
     go : (verb : Verb) → Allowed c r mine verb → ReadsHeadsWithin 7 verb
-    go (Verb.Head q) allowed = let low = allowed.may in omega arith
+    go (Verb.Head q) allowed = let low = allowed.may.0 in omega arith
     go verb allowed = tt
 
 -- an event that finds no count of beats of q leaves what the reads of these have come to

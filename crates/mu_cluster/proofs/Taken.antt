@@ -32,7 +32,8 @@ use Rattle.mu_cluster.proofs.InStep.{StaysAhead, in_step}
 use Rattle.mu_cluster.proofs.Living.{each_near, near_one, near_self}
 use Rattle.mu_cluster.proofs.Naming.{AreUnpaused, few_steps, part_before, trusts_then}
 use Rattle.mu_detect.proofs.Leaders.{alive_leads, may_lead}
-use Rattle.mu_node.proofs.Asked.{asks_until_min, numbers_in_time}
+use Rattle.mu_node.proofs.Asked.{asks_until_min}
+use Rattle.mu_node.proofs.Numbered.{numbers_in_time}
 use Rattle.mu_node.proofs.Fetching.{rows_fetched}
 use Rattle.mu_node.proofs.Reading.{reads_in_order}
 use Rattle.mu_alive.specs.Finishing.{AsksAllFirst}

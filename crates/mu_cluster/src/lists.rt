@@ -7,15 +7,14 @@ ghost use Rattle.mu_model.specs.Contents.{IsConfig};
 ghost use Rattle.mu_model.specs.Legal.{IsLegal};
 ghost use Rattle.mu_cluster.specs.declared.rounds.Seat.{Seat as SomeSeat};
 ghost use Rattle.mu_cluster.specs.Committing.{AppliesAllByThen};
+ghost use Rattle.mu_cluster.specs.Finishing.{AppliesEachByThen};
 ghost use Rattle.mu_cluster.specs.Leading.{LeadOnUnpaused};
-ghost use Rattle.mu_cluster.specs.Living.{AppliesAllUnpaused};
 ghost use Rattle.mu_cluster.specs.Naming.{NamesFirstUnpaused, NoneOutrunUnpaused};
 ghost use Rattle.mu_cluster.specs.Lists.{Adds, AreOf, HasRoom, HoldsLists, IsOutcomeRoom};
 ghost use Rattle.mu_follow.specs.Groups.{AreSpelled};
 ghost use Rattle.mu_node.specs.declared.zeal.Zeal.{Zeal as SomeZeal};
 ghost use Rattle.mu_node.specs.Due.{is_eager};
 ghost use Rattle.mu_cluster.specs.Paces.{AreDiligentBy, AreNodesOf};
-ghost use Rattle.mu_cluster.specs.Pausing.{AppliesAfterPauses};
 ghost use Rattle.mu_outcome.specs.Entries.{longest};
 ghost use Rattle.mu_outcome.specs.Outcomes.{IsRun};
 ghost use Rattle.mu_cluster.specs.Rounds.{PlayedBy};
@@ -157,9 +156,8 @@ impl OutcomeRoom {
         ensures nodes { AreNodesOf _kind result }
         ensures names { NamesFirstUnpaused result }
         ensures none_outrun { NoneOutrunUnpaused result }
-        ensures applies { _kind ≡ SomeZeal.Plain → AppliesAllUnpaused result }
-        ensures after_pauses { _kind ≡ SomeZeal.Plain → AppliesAfterPauses result }
-        ensures by_then { _kind ≡ SomeZeal.Plain → AppliesAllByThen result }
+        ensures applies { _kind ≡ SomeZeal.Plain → AppliesAllByThen result }
+        ensures finishes { _kind ≡ SomeZeal.Plain → AppliesEachByThen result }
         ensures leads { _kind ≡ SomeZeal.Plain → LeadOnUnpaused result }
         ensures gathered { result.gathered ≡ None }
     {

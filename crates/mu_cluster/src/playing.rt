@@ -5,9 +5,8 @@ ghost use Rattle.mu_follow.specs.Groups.{AreSpelled};
 ghost use Rattle.mu_model.specs.Contents.{IsConfig};
 ghost use Rattle.mu_node.specs.declared.zeal.Zeal.{Zeal as SomeZeal};
 ghost use Rattle.mu_node.specs.Due.{is_eager};
-ghost use Rattle.mu_cluster.specs.Committing.{StaysAlive};
 ghost use Rattle.mu_cluster.specs.Leading.{LeadOnUnpaused};
-ghost use Rattle.mu_cluster.specs.Living.{HasAllInTime};
+ghost use Rattle.mu_cluster.specs.Living.{StaysAlive};
 ghost use Rattle.mu_cluster.specs.Paces.{AreDiligent, AreDiligentBy, AreEager, AreNodesOf, ArePlain};
 ghost use Rattle.mu_outcome.specs.Outcomes.{Agrees, IsRun, IsWithinJob};
 ghost use Rattle.mu_cluster.specs.Naming.{NamesFirstUnpaused, SpendsBudgets};
@@ -40,8 +39,7 @@ pub fn replay(alloc: Global, job: Job) -> Result<Outcome, NoMemory>
     ensures reach { IfOk result IsWithinJob }
     ensures names { IfOk result NamesFirstUnpaused }
     ensures spends { IfOk result SpendsBudgets }
-    ensures lives { IfOk result HasAllInTime }
-    ensures alive { IfOk result StaysAlive }
+    ensures lives { IfOk result StaysAlive }
     ensures leads { IfOk result LeadOnUnpaused }
     ensures gathered { IfOk result (λ outcome. outcome.gathered ≡ None) }
 {
@@ -68,8 +66,7 @@ pub fn replay_over<M: Memory>(alloc: Global, job: Job, memory: M) -> Result<Outc
     ensures reach { IfOk result IsWithinJob }
     ensures names { IfOk result NamesFirstUnpaused }
     ensures spends { IfOk result SpendsBudgets }
-    ensures lives { IfOk result HasAllInTime }
-    ensures alive { IfOk result StaysAlive }
+    ensures lives { IfOk result StaysAlive }
     ensures leads { IfOk result LeadOnUnpaused }
     ensures gathered { IfOk result (λ outcome. outcome.gathered ≡ None) }
 {
@@ -119,8 +116,7 @@ fn replayed<M: Memory>(alloc: Global, job: Job, memory: M, kind: Zeal) -> Result
     ensures reach { IfOk result IsWithinJob }
     ensures names { IfOk result NamesFirstUnpaused }
     ensures spends { IfOk result SpendsBudgets }
-    ensures lives { kind ≡ SomeZeal.Plain → IfOk result HasAllInTime }
-    ensures alive { kind ≡ SomeZeal.Plain → IfOk result StaysAlive }
+    ensures lives { kind ≡ SomeZeal.Plain → IfOk result StaysAlive }
     ensures leads { kind ≡ SomeZeal.Plain → IfOk result LeadOnUnpaused }
     ensures gathered { IfOk result (λ outcome. outcome.gathered ≡ None) }
 {

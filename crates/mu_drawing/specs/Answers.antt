@@ -22,8 +22,8 @@ use Rattle.mu_input.specs.declared.job.InputEnd.{InputEnd}
 use Rattle.mu_text.specs.Lines.{lines}
 use Rattle.std.specs.List.{slice_get}
 use Rattle.mu_judging.specs.Explained.{IsLineOf}
-use Rattle.mu_reasons.specs.Breaks.{Explains}
-use Rattle.mu_reasons.specs.declared.fault.Broken.{Broken}
+use Rattle.mu_outcome.specs.Breaks.{Explains}
+use Rattle.mu_outcome.specs.declared.fault.Broken.{Broken}
 use Rattle.mu_report.specs.Reasons.{fault_words}
 use Rattle.mu_report.specs.Statuses.{status_for as status_for_said}
 use Rattle.mu_report.specs.Said.{text, said_of_end, IsShort}

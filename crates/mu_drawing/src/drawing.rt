@@ -4,13 +4,14 @@ ghost use Rattle.mu_input.specs.declared.TheConstants.{TRACE_LIMIT};
 ghost use Rattle.mu_model.specs.Contents.{IsConfig};
 ghost use Rattle.mu_model.specs.Legal.{IsLegal};
 ghost use Rattle.mu_text.specs.Lines.{lines};
-ghost use Rattle.mu_reasons.specs.Breaks.{Explains};
+ghost use Rattle.mu_outcome.specs.Breaks.{Explains};
 ghost use Rattle.mu_drawing.specs.Answers.{Draws, IsBrokenDrawingOf, IsDrawingOf, TellsOfEvents, breach_with, told_with};
 
-use mu_check::{Broken, explain};
+use mu_check::explain;
 use mu_input::{InputEnd, Job, TRACE_LIMIT, read_trace};
 use mu_judging::count_of_lines;
 use mu_model::{Event, NoMemory};
+use mu_outcome::Broken;
 use mu_picture::{Breach, Extent, Sheet, drawn, picture_of};
 use mu_report::{Said, fault_line};
 use std::alloc::Global;

@@ -3,14 +3,14 @@ ghost use Rattle.std.specs.Prelude.{◌≡◌, ◌+◌, ◌<◌, ◌≤◌, ◌+
 ghost use Rattle.std.specs.Fmt.{decimal};
 ghost use Rattle.mu_text.specs.declared.line_text.TheConstants.{LINE_BYTES};
 ghost use Rattle.mu_events.specs.Events.{event_of};
-ghost use Rattle.mu_events.specs.Lines.{verb_words, event_line as event_line_of};
-ghost use Rattle.mu_events.specs.Lines.{FitsEvent, FitsVerb, IsSpelled};
+ghost use Rattle.mu_events.specs.Lines.{answer_words, verb_words, event_line as event_line_of};
+ghost use Rattle.mu_events.specs.Lines.{FitsAnswer, FitsEvent, FitsVerb, IsSpelled};
 ghost use Rattle.mu_model.specs.declared.event.Event.{Event as Made};
 ghost use Rattle.mu_text.specs.Lines.{words};
 
 use crate::answers::{push_answer, push_target};
-use mu_model::{Event, Verb};
-use mu_text::Line;
+use mu_model::{Answer, Event, Verb};
+use mu_text::{Line, SPACE};
 
 /// The line of an event: its replica, its step and the answer.
 pub fn event_line(event: &Event) -> Line
@@ -20,11 +20,40 @@ pub fn event_line(event: &Event) -> Line
 {
     let mut line = Line::new();
     line.push_number(u64::from(event.by));
-    line.push(b" ");
-    push_verb(&mut line, &event.verb);
-    line.push(b" = ");
-    push_answer(&mut line, &event.answer);
+    push_step(&mut line, event);
     line
+}
+
+/// Adds a step and what it found, with a space before it: at most 136 bytes. More than half of all
+/// events are beats, whose words are added in one piece.
+#[inline(always)]
+fn push_step(line: &mut Line, event: &Event)
+    requires { length line.old + 155 ≤ LINE_BYTES }
+    ensures bytes { line.new ≡ line.old ++ codes " " ++ verb_words event.now.verb ++ codes " = "
+        ++ answer_words event.now.answer }
+    ensures verb { FitsVerb event.now.verb }
+    ensures answer { FitsAnswer event.now.answer }
+    ensures room { length line.new ≤ length line.old + 136 }
+{
+    match (event.verb, event.answer) {
+        (Verb::Beat, Answer::Done) => line.push(b" beat = done"),
+        _ => push_both(line, event),
+    }
+}
+
+/// Adds a step and what it found, with a space before it.
+fn push_both(line: &mut Line, event: &Event)
+    requires { length line.old + 155 ≤ LINE_BYTES }
+    ensures bytes { line.new ≡ line.old ++ codes " " ++ verb_words event.now.verb ++ codes " = "
+        ++ answer_words event.now.answer }
+    ensures verb { FitsVerb event.now.verb }
+    ensures answer { FitsAnswer event.now.answer }
+    ensures room { length line.new ≤ length line.old + 136 }
+{
+    line.push_byte(SPACE);
+    push_verb(line, &event.verb);
+    line.push(b" = ");
+    push_answer(line, &event.answer);
 }
 
 /// The words of an event's line spell that event, if it is by one of this number of replicas.
@@ -46,7 +75,7 @@ fn push_verb(line: &mut Line, verb: &Verb)
         Verb::Min(p) => push_one(line, b"min ", u64::from(*p)),
         Verb::Enter(p, target) => {
             push_one(line, b"enter ", u64::from(*p));
-            line.push(b" ");
+            line.push_byte(SPACE);
             push_target(line, *target);
         }
         Verb::PutMin(p, number) => push_two(line, b"putmin ", u64::from(*p), u64::from(*number)),
@@ -97,5 +126,6 @@ fn push_two(line: &mut Line, words: &[u8], first: u64, second: u64)
     ensures room { length line.new ≤ length line.old + length words.now + 41 }
 {
     push_one(line, words, first);
-    push_one(line, b" ", second);
+    line.push_byte(SPACE);
+    line.push_number(second);
 }

@@ -28,7 +28,7 @@ word_met c r mine None is possible inside short = tt
 word_met c r mine (Some v) is possible inside short = go (nat_lt (words_had r mine v) 12) refl
   where
     go : (t : Bool) → nat_lt (words_had r mine v) 12 ≡ t → IsMet c r mine (if t then Some (Verb.ReadRow v (words_had r mine v)) else None)
-    go true low = let there = row_there c r mine v possible is in (record { budget = short; replica = inside; may = (there.0, there.1, ltb-true (words_had r mine v) 12 low) }, refl)
+    go true low = let there = row_there c r mine v possible is in (record { budget = short; replica = inside; may = (there.0, (there.1, (ltb-true (words_had r mine v) 12 low, tt))) }, refl)
     go false high = tt
 
 pub catch_up_allowed : (c : Config) (r : ℕ) (mine : List Event) → IsConfig c → IsPossible c r mine → r < c.replicas → length mine < c.budget → IfSome (catch_up_due c r mine) (λ verb. Allowed c r mine verb × IsReplay false verb)

@@ -25,6 +25,7 @@ use Rattle.mu_detect.proofs.Least.{least_found, least_next}
 use Rattle.mu_knowledge.specs.FilledLog.{IsFilledTo}
 use Rattle.mu_knowledge.proofs.Fetched.{batch_there}
 use Rattle.mu_follow.specs.Due.{IsReplay, ahead_due, filled_known, first_word_of, fuo_due, head_due, look_due, next_due, next_word_of, other_head_due, other_of, own_fuo, raise_due, replay_due, row_read, row_under_way, rows_had, word_due}
+use Rattle.mu_model.proofs.Putting.{head_points, raise_points}
 
 -- none below k passes: the least is not below it
 least_all : (test : ℕ → Bool) (k : ℕ) → ((j : ℕ) → j < k → test j ≡ false) → least_below k test ≡ k
@@ -74,7 +75,7 @@ row_there c r [] v possible is = absurd (none_some v is)
 row_there c r (e ∷ mine) v possible is = let s = parts_shorten_law c r mine e possible in go e.verb s.allowed.may is (row_there c r mine v s.before)
   where
     there : (w k : ℕ) (t : Bool) → Needs c r mine (Verb.ReadRow w k) → (if t then Some w else None) ≡ Some v → (v / 4096 < c.replicas) × (v % 4096 < row_count c)
-    there w k true may e = let same = same_some w v e in (subst (λ x. x / 4096 < c.replicas) same may.0, subst (λ x. x % 4096 < row_count c) same may.1)
+    there w k true may e = let same = same_some w v e in (subst (λ x. x / 4096 < c.replicas) same may.0, subst (λ x. x % 4096 < row_count c) same may.1.0)
     there w k false may e = absurd (none_some v e)
 
     go : (verb : Verb) → Needs c r mine verb → row_read verb (row_under_way mine) ≡ Some v → (row_under_way mine ≡ Some v → (v / 4096 < c.replicas) × (v % 4096 < row_count c)) → (v / 4096 < c.replicas) × (v % 4096 < row_count c)
@@ -98,7 +99,7 @@ seen_there c r i (e ∷ mine) possible seen =
   where
     shown : (by : ℕ) (verb : Verb) (answer : Answer) → Needs c r mine verb → is_entry_seen r r i by verb answer ≡ true → i ≤ row_count c + reserve c
     shown by (Verb.Look q j) (Answer.Entry b v) needs is =
-        let low = needs.1 in
+        let low = needs.1.0 in
         let same = eqb-true j i (and_parts (q == r) (j == i) (and_parts (by == r) ((q == r) && (j == i)) is).1).1 in
         omega (arith, low, same)
     shown by verb answer needs is = absurd (true≢false (sym is))
@@ -178,7 +179,7 @@ meets_look c r place mine possible inside = go (place == 0) (place == 1)
   where
     ahead : Meets c r mine false (ahead_due c r mine)
     ahead = meets_if c r mine false (nat_lt (length (known c r mine) + 1) (row_count c + reserve c)) (Verb.Look r (length (known c r mine) + 1))
-        (λ is. (let low = ltb-true (length (known c r mine) + 1) (row_count c + reserve c) is in ((inside, omega (arith, low), inl refl), refl)))
+        (λ is. (let low = ltb-true (length (known c r mine) + 1) (row_count c + reserve c) is in ((inside, (omega (arith, low), (inl refl, tt))), refl)))
 
     decided : is_known_decided r mine r (length (known c r mine)) ≡ true → length (known c r mine) ≤ row_count c + reserve c
     decided is = either (nat_lt (length (known c r mine)) (greatest_fuo_read r r mine)) refl is
@@ -188,10 +189,10 @@ meets_look c r place mine possible inside = go (place == 0) (place == 1)
         either false low is = (let there = seen_there c r (length (known c r mine) + 1) mine possible (and_parts (r == r) (has (entry_seen r r (length (known c r mine) + 1)) mine) is).1 in omega (arith, there))
 
     next : Meets c r mine false (next_due c r mine)
-    next = meets_if c r mine false (is_known_decided r mine r (length (known c r mine))) (Verb.Look r (length (known c r mine))) (λ is. ((inside, decided is, inl refl), refl))
+    next = meets_if c r mine false (is_known_decided r mine r (length (known c r mine))) (Verb.Look r (length (known c r mine))) (λ is. ((inside, (decided is, (inl refl, tt))), refl))
 
     go : (s t : Bool) → Meets c r mine false (if s then Some (Verb.Fuo r) else if t then ahead_due c r mine else next_due c r mine)
-    go true t = (inside, refl)
+    go true t = ((inside, tt), refl)
     go false true = ahead
     go false false = next
 
@@ -210,11 +211,11 @@ meets_word c r handed k mine leading good possible low = go (k == 0)
             let few = good.few in
             let inside = ltb-true (v / 4096) c.replicas (and_parts (nat_lt (v / 4096) c.replicas) (nat_lt (v % 4096) (row_count c) && begins_batch c (v % 4096)) is).0 in
             meets_if c r mine leading (nat_lt (rows_had c r mine v) (rest_of c (v % 4096) + 1)) (Verb.ReadRow (v + rows_had c r mine v) 0)
-            (λ less. (let short = ltb-true (rows_had c r mine v) (rest_of c (v % 4096) + 1) less in let last = there.1 in ((omega (arith, inside, short, last, few), omega (arith, short, last, few), omega arith), refl)))
+            (λ less. (let short = ltb-true (rows_had c r mine v) (rest_of c (v % 4096) + 1) less in let last = there.1 in ((omega (arith, inside, short, last, few), (omega (arith, short, last, few), (omega arith, tt))), refl)))
 
     next : (row : Option ℕ) → row_under_way mine ≡ row → Meets c r mine leading (next_word_of k row)
     next None is = tt
-    next (Some v) is = (let there = row_there c r mine v possible is in ((there.0, there.1, low), refl))
+    next (Some v) is = (let there = row_there c r mine v possible is in ((there.0, (there.1, (low, tt))), refl))
 
     go : (t : Bool) → Meets c r mine leading (if t then first_word_of c r mine (slice_get (known c r mine) handed) else next_word_of k (row_under_way mine))
     go true = first (slice_get (known c r mine) handed)
@@ -226,18 +227,18 @@ meets_raise c r handed place mine leading good inside few = go (place == 15) (pl
   where
     fuo : Meets c r mine leading (fuo_due c r mine)
     fuo = (let fits = least_below_fits (length (known c r mine)) (λ j. not (is_filled c r r mine j)) in
-        meets_if c r mine leading (nat_lt (own_fuo r mine) (filled_known c r mine)) (Verb.RaiseFuo r (filled_known c r mine)) (λ is. ((inside, fits, filled_there c r mine), refl)))
+        meets_if c r mine leading (nat_lt (own_fuo r mine) (filled_known c r mine)) (Verb.RaiseFuo r (filled_known c r mine)) (λ is. (raise_points c r mine r (filled_known c r mine) inside fits (filled_there c r mine), refl)))
 
     head : Meets c r mine leading (head_due r mine handed)
     head = meets_if c r mine leading (nat_lt (region_head r mine) (min handed (own_fuo r mine))) (Verb.RaiseHead (min handed (own_fuo r mine)))
-        (λ is. (let more = ltb-true (region_head r mine) (min handed (own_fuo r mine)) is in ((omega (arith, few), reached r (min handed (own_fuo r mine)) mine (omega (arith, more)) (omega arith)), refl)))
+        (λ is. (let more = ltb-true (region_head r mine) (min handed (own_fuo r mine)) is in (head_points c r mine (min handed (own_fuo r mine)) (omega (arith, few)) (reached r (min handed (own_fuo r mine)) mine (omega (arith, more)) (omega arith)), refl)))
 
     other : Meets c r mine leading (other_head_due c r mine)
     other = alone (c.replicas == 1) refl
       where
         alone : (t : Bool) → (c.replicas == 1) ≡ t → Meets c r mine leading (if t then None else Some (Verb.Head (other_of r (length mine / 2 / (2 * c.replicas + 22) % (c.replicas - 1)))))
         alone true is = tt
-        alone false is = (let one = eqb-false c.replicas 1 is in let least = good.replicas.0 in (other_there c r (length mine / 2 / (2 * c.replicas + 22)) good (omega (arith, one, least)), refl))
+        alone false is = (let one = eqb-false c.replicas 1 is in let least = good.replicas.0 in ((other_there c r (length mine / 2 / (2 * c.replicas + 22)) good (omega (arith, one, least)), tt), refl))
 
     go : (s t u : Bool) → Meets c r mine leading (if s then fuo_due c r mine else if t then head_due r mine handed else if u then other_head_due c r mine else None)
     go true t u = fuo

@@ -66,12 +66,6 @@ both_known (inl a) (inl b) = inl (a, b)
 both_known (inl a) (inr denied) = inr (λ both. denied both.1)
 both_known (inr denied) other = inr (λ both. denied both.0)
 
-three_known : {A B C : Type 0} → IsKnown A → IsKnown B → IsKnown C → IsKnown (A × B × C)
-three_known (inl a) (inl b) (inl c) = inl (a, b, c)
-three_known (inl a) (inl b) (inr denied) = inr (λ all. denied all.2)
-three_known (inl a) (inr denied) last = inr (λ all. denied all.1)
-three_known (inr denied) other last = inr (λ all. denied all.0)
-
 if_known : (t u : Bool) → IsKnown (t ≡ true → u ≡ true)
 if_known true true = inl (λ is. is)
 if_known true false = inr (λ then. true≢false (sym (then refl)))
@@ -99,7 +93,7 @@ grant_given_to c r past left inside (inl free) false some =
     let first = least c.replicas (has_unserved_ask r past) some in (
       Some (Verb.Grant first.0),
       gives c r past 3 (Some (Verb.Grant first.0)) left inside
-          (λ v is. subst (λ u. (is_of_place 3 u ≡ true) × Needs c r past u) (same_some (Verb.Grant first.0) v is) (refl, (first.1, free.0, free.1, first.2)))
+          (λ v is. subst (λ u. (is_of_place 3 u ≡ true) × Needs c r past u) (same_some (Verb.Grant first.0) v is) (refl, (first.1, (free.0, (free.1, (first.2, tt))))))
           (λ none. absurd (not_none (Verb.Grant first.0) (Some (Verb.Grant first.0)) none refl)),
     )
 grant_given_to c r past left inside free true nobody = (
@@ -107,14 +101,14 @@ grant_given_to c r past left inside free true nobody = (
   gives c r past 3 None left inside (λ v is. absurd (not_none v None refl is)) (λ none v placed needs.
       let grant = of_grant v placed in
       let may = subst (λ u. Needs c r past u) grant.1 needs in
-      true≢false (sym nobody ∙ not_all c.replicas grant.0 (has_unserved_ask r past) may.0 (and_parts (has_unserved_ask r past grant.0) _ may.3).0)),
+      true≢false (sym nobody ∙ not_all c.replicas grant.0 (has_unserved_ask r past) may.0 (and_parts (has_unserved_ask r past grant.0) _ may.1.1.1.0).0)),
 )
 grant_given_to c r past left inside (inr denied) t is = (
   None,
   gives c r past 3 None left inside (λ v is. absurd (not_none v None refl is)) (λ none v placed needs.
       let grant = of_grant v placed in
       let may = subst (λ u. Needs c r past u) grant.1 needs in
-      denied (may.1, may.2)),
+      denied (may.1.0, may.1.1.0)),
 )
 
 -- the verb of place 0
@@ -124,10 +118,10 @@ of_close verb placed = cc
 
 -- at each of the four places
 given_at : (c : Config) (r d : ℕ) (past : List Event) → d < 4 → r < c.replicas → length past < c.budget → IsGiven c r past d
-given_at c r zero past low inside left = one_given c r 0 past Verb.Close left inside refl of_close (both_known (false_known (fence_closing r past)) (false_known (all_below c.replicas (λ w. not (has_unserved_ask r past w)))))
-given_at c r (suc zero) past low inside left = one_given c r 1 past Verb.LookTarget left inside refl of_look (both_known (true_known (must_drain r past)) (false_known (looked_since_close r past)))
+given_at c r zero past low inside left = one_given c r 0 past Verb.Close left inside refl of_close (both_known (false_known (fence_closing r past)) (both_known (false_known (all_below c.replicas (λ w. not (has_unserved_ask r past w)))) (inl tt)))
+given_at c r (suc zero) past low inside left = one_given c r 1 past Verb.LookTarget left inside refl of_look (both_known (true_known (must_drain r past)) (both_known (false_known (looked_since_close r past)) (inl tt)))
 given_at c r (suc (suc zero)) past low inside left =
-    one_given c r 2 past Verb.Drain left inside refl of_drain (three_known (true_known (must_drain r past)) (true_known (looked_since_close r past)) (false_known (drained_since_close r past)))
+    one_given c r 2 past Verb.Drain left inside refl of_drain (both_known (true_known (must_drain r past)) (both_known (true_known (looked_since_close r past)) (both_known (false_known (drained_since_close r past)) (inl tt))))
 given_at c r (suc (suc (suc zero))) past low inside left =
     grant_given_to c r past left inside (both_known (true_known (fence_closing r past)) (if_known (must_drain r past) (drained_since_close r past))) (all_below c.replicas (λ w. not (has_unserved_ask r past w))) refl
 given_at c r (suc (suc (suc (suc d)))) past low inside left = absurd (omega arith)

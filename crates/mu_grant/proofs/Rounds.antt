@@ -80,7 +80,7 @@ grant_needs : (c : Config) (r : ℕ) (past : List Event) → IsReady c r past �
 grant_needs c r past ready late closing =
     let some = ready.waited closing in
     let first = least c.replicas (has_unserved_ask r past) (not_all c.replicas some.0 (has_unserved_ask r past) some.1 some.2) in
-    (first.0, (first.1, closing, ready.drained late, first.2))
+    (first.0, (first.1, (closing, (ready.drained late, (first.2, tt)))))
 
 -- if no verb of the host is made, no `Close` is left pending past the place of grants
 rests : (c : Config) (r by : ℕ) (verb : Verb) (answer : Answer) (past : List Event) (now : ℕ) → IsTurn c r by verb answer past → IsReady c r past → is_host_verb verb ≡ false
@@ -107,7 +107,7 @@ looks c r by verb answer past now t ready idle (inl up) late must = elim (cases_
   where
     go : position c past ≡ 4 * c.replicas + 2 * 1 → (t : Bool) → looked_since_close r past ≡ t → t ≡ true
     go at true is = refl
-    go at false is = sym (idles c r by 1 verb answer past t idle (omega arith) at Verb.LookTarget refl (must, is))
+    go at false is = sym (idles c r by 1 verb answer past t idle (omega arith) at Verb.LookTarget refl (must, (is, tt)))
 
 -- if no verb of the host is made, no drain is passed over
 drains : (c : Config) (r by : ℕ) (verb : Verb) (answer : Answer) (past : List Event) (now : ℕ) → IsTurn c r by verb answer past → IsReady c r past → is_host_verb verb ≡ false
@@ -120,7 +120,7 @@ drains c r by verb answer past now t ready idle (inl up) late must = elim (cases
   where
     go : position c past ≡ 4 * c.replicas + 2 * 2 → (t : Bool) → drained_since_close r past ≡ t → t ≡ true
     go at true is = refl
-    go at false is = sym (idles c r by 2 verb answer past t idle (omega arith) at Verb.Drain refl (must, ready.looked (omega arith) must, is))
+    go at false is = sym (idles c r by 2 verb answer past t idle (omega arith) at Verb.Drain refl (must, (ready.looked (omega arith) must, (is, tt))))
 
 -- with no `Close` pending a host is ready
 ready_open : (c : Config) (r : ℕ) (past : List Event) → fence_closing r past ≡ false → IsReady c r past
@@ -138,7 +138,7 @@ ready_next c r by Verb.Close answer past t ready =
     let zeroth = eqb-true h.d 0 h.of in
     let at = h.at in
     let now = next_is c (event_by by Verb.Close answer) past (4 * c.replicas) (omega arith) (omega arith) in
-    let first = least c.replicas (has_unserved_ask r past) h.needs.1 in record {
+    let first = least c.replicas (has_unserved_ask r past) h.needs.1.0 in record {
       rested = λ there. elim there [ inl low ↦ absurd (omega arith) | inr high ↦ absurd (omega arith) ];
       waited = λ is. (first.0, first.1, (and_parts (has_unserved_ask r past first.0) _ first.2).0);
       looked = λ late must. absurd (omega arith);
@@ -161,7 +161,7 @@ ready_next c r by Verb.Drain answer past t ready =
     let now = next_is c (event_by by Verb.Drain answer) past (4 * c.replicas + 4) (omega arith) (omega arith) in record {
       rested = λ there. elim there [ inl low ↦ absurd (omega arith) | inr high ↦ absurd (omega arith) ];
       waited = ready.waited;
-      looked = λ late must. h.needs.1;
+      looked = λ late must. h.needs.1.0;
       drained = λ late must. rw (own_is c r by Verb.Drain answer past t) refl;
     }
 ready_next c r by (Verb.Grant w) answer past t ready = ready_open c r (event_by by (Verb.Grant w) answer ∷ past) (rw (own_is c r by (Verb.Grant w) answer past t) refl)
@@ -209,7 +209,7 @@ closes_now c r w since by verb answer past low t ready pending none late = elim 
   | inl over ↦ closing_on r by verb answer past (own_is c r by verb answer past t) none (pending.closing (omega arith))
   | inr under ↦
       closes r by verb answer past (own_is c r by verb answer past t)
-      (has_to c r by 0 verb answer past t (omega arith) (omega arith) Verb.Close refl (ready.rested (inl under), not_all c.replicas w (has_unserved_ask r past) low (pending.waiting under)))
+      (has_to c r by 0 verb answer past t (omega arith) (omega arith) Verb.Close refl (ready.rested (inl under), (not_all c.replicas w (has_unserved_ask r past) low (pending.waiting under), tt)))
 ]
 
 -- the next event isn't at the place of grants, if it grants nothing

@@ -76,16 +76,16 @@ found_is n r w mine (Some q) one none first = ap Some (only_first n r w q mine f
 pub look_was_due : (c : Config) (r : ℕ) (mine : List Event) (verb : Verb) (answer : Answer) → answers_host verb answer ≡ true → ((f : Fence) → answer ≢ Answer.Seen f) → LookedFirst r mine → Needs c r mine Verb.LookTarget → Needs c r mine verb → Verb.LookTarget ≡ verb
 look_was_due c r mine Verb.Close (Answer.Seen f) told other order look needs = absurd (other f refl)
 look_was_due c r mine Verb.LookTarget Answer.Done told other order look needs = refl
-look_was_due c r mine Verb.Drain Answer.Done told other order look needs = absurd (true≢false (sym needs.1 ∙ look.1))
-look_was_due c r mine (Verb.Grant w) Answer.Done told other order look needs = absurd (true≢false (sym (order (needs.2 look.0)) ∙ look.1))
+look_was_due c r mine Verb.Drain Answer.Done told other order look needs = absurd (true≢false (sym needs.1.0 ∙ look.1.0))
+look_was_due c r mine (Verb.Grant w) Answer.Done told other order look needs = absurd (true≢false (sym (order (needs.1.1.0 look.0)) ∙ look.1.0))
 look_was_due c r mine _ _ told other order look needs = cc
 
 -- if the drain is due and an answer came that sees no fence, the drain was made
 pub drain_was_due : (c : Config) (r : ℕ) (mine : List Event) (verb : Verb) (answer : Answer) → answers_host verb answer ≡ true → ((f : Fence) → answer ≢ Answer.Seen f) → Needs c r mine Verb.Drain → Needs c r mine verb → Verb.Drain ≡ verb
 drain_was_due c r mine Verb.Close (Answer.Seen f) told other drain needs = absurd (other f refl)
-drain_was_due c r mine Verb.LookTarget Answer.Done told other drain needs = absurd (true≢false (sym drain.1 ∙ needs.1))
+drain_was_due c r mine Verb.LookTarget Answer.Done told other drain needs = absurd (true≢false (sym drain.1.0 ∙ needs.1.0))
 drain_was_due c r mine Verb.Drain Answer.Done told other drain needs = refl
-drain_was_due c r mine (Verb.Grant w) Answer.Done told other drain needs = absurd (true≢false (sym (needs.2 drain.0) ∙ drain.2))
+drain_was_due c r mine (Verb.Grant w) Answer.Done told other drain needs = absurd (true≢false (sym (needs.1.1.0 drain.0) ∙ drain.1.1.0))
 drain_was_due c r mine _ _ told other drain needs = cc
 
 -- if neither is due and an answer came that sees no fence, a grant was made

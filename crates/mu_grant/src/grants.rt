@@ -4,9 +4,11 @@ ghost use Rattle.mu_model.specs.declared.config.Config.{Config};
 ghost use Rattle.mu_model.specs.declared.event.Answer.{Answer};
 ghost use Rattle.mu_model.specs.declared.event.Event.{Event};
 ghost use Rattle.mu_model.specs.declared.event.Verb.{Verb};
+ghost use Rattle.mu_model.specs.declared.reason.Reason.{Reason};
 ghost use Rattle.mu_model.specs.Allowed.{Needs};
 ghost use Rattle.mu_model.specs.Histories.{all_below, or_zero};
 ghost use Rattle.mu_model.specs.Leaderships.{owner_is};
+ghost use Rattle.mu_model.specs.Points.{IsMet};
 ghost use Rattle.mu_model.specs.Regions.{fence_closing, fence_owner};
 ghost use Rattle.mu_model.specs.Serving.{drained_since_close, has_unserved_ask, is_least_waiting, looked_since_close, must_drain, seen_asks, served, served_as_owner, served_by_grant};
 ghost use Rattle.mu_grant.specs.Stands.{close_named, Gives, HoldsGuest, HoldsGuests, IsDue, StandsFor, guest_named};
@@ -377,17 +379,26 @@ impl Grants {
         self.closing && self.named
     }
 
+    /// Whether a replica waits.
+    pub fn is_awaited(&self) -> bool
+        ensures { (c : Config) → (r : ℕ) → (mine : List Event)
+            → StandsFor c.replicas r mine self.now
+            → (IsTrue result ↔ IsMet c r mine Reason.NobodyWaits) }
+    {
+        self.first_waiting().is_some()
+    }
+
     /// Whether the host may close its fence: none is pending, and a replica waits.
-    pub fn may_close(&self) -> bool
+    fn may_close(&self) -> bool
         ensures { (c : Config) → (r : ℕ) → (mine : List Event)
             → StandsFor c.replicas r mine self.now
             → (IsTrue result ↔ Needs c r mine Verb.Close) }
     {
-        !self.closing && self.first_waiting().is_some()
+        !self.closing && self.is_awaited()
     }
 
     /// Whether the host may load the word that its closed fence names.
-    pub fn may_look_target(&self) -> bool
+    fn may_look_target(&self) -> bool
         ensures { (c : Config) → (r : ℕ) → (mine : List Event)
             → StandsFor c.replicas r mine self.now
             → (IsTrue result ↔ Needs c r mine Verb.LookTarget) }
@@ -396,7 +407,7 @@ impl Grants {
     }
 
     /// Whether the host may drain the word that it loaded.
-    pub fn may_drain(&self) -> bool
+    fn may_drain(&self) -> bool
         ensures { (c : Config) → (r : ℕ) → (mine : List Event)
             → StandsFor c.replicas r mine self.now
             → (IsTrue result ↔ Needs c r mine Verb.Drain) }

@@ -16,7 +16,7 @@ use Rattle.mu_events.specs.Lines.{EntersForWord, FitsEvent, IsSpelled}
 
 -- a verb that is allowed enters for a word
 enters : (c : Config) (r : ℕ) (past : List Event) (made : Verb) → Needs c r past made → EntersForWord made
-enters c r past (verb.Enter p target.None) needs = needs.1
+enters c r past (verb.Enter p target.None) needs = needs.1.0
 enters c r past (verb.Enter p target.Min) needs = tt
 enters c r past (verb.Enter p (target.Place s)) needs = tt
 enters c r past _ needs = tt

@@ -1,37 +1,38 @@
 -- Lines of clients and of operations are read back.
-use Rattle.std.proofs.Common.{◌≡◌, ℕ, ◌<◌, ◌==◌, nat_le, nat_lt, ◌&&◌, Bool, true, false, cond, List, [], ◌∷◌, ◌++◌, length, codes, refl, ap, subst, ◌∙◌, arith}
+use Rattle.std.proofs.Common.{◌≡◌, ℕ, ◌<◌, ◌==◌, nat_le, nat_lt, ◌&&◌, Bool, true, false, cond, List, [], ◌∷◌, ◌++◌, length, codes, None, Some, refl, sym, ap, subst, ◌∙◌, append-nil, arith}
 use Rattle.std.specs.Bool.{⊤}
 use Rattle.std.specs.Fmt.{decimal}
-use Rattle.std.specs.List.{list_all}
-use Rattle.std.specs.Str.{bytes_eq}
+use Rattle.std.specs.List.{AllByRecursion, list_all}
+use Rattle.std.specs.declared.option.Option.{Option}
+use Rattle.std.proofs.lemmas.Bool.{and_parts}
 use Rattle.std.proofs.lemmas.Bool.Decides.{Decides-eqb, nat_tests}
+use Rattle.kv_store.specs.Kinds.{kind_of_name, name_of_kind, op_with, parts_of, shape_of, shape_of_kind, texts_of}
 use Rattle.kv_store.specs.declared.TheConstants.{KEY_BYTES, TEXT_BYTES}
+use Rattle.kv_store.specs.declared.command.Arguments.{Arguments}
 use Rattle.kv_store.specs.declared.command.Op.{Op}
-use Rattle.kv_store.specs.declared.command.Op.TheVariants.{Put, Get, Del, Swap, Cas}
+use Rattle.kv_store.specs.declared.command.Op.TheVariants.{Put}
+use Rattle.kv_store.specs.declared.command.OpKind.{OpKind}
+use Rattle.kv_store.specs.declared.command.OpParts.{OpParts}
+use Rattle.kv_store.proofs.PartsBack.{kind-named, op_with-parts, parts-made, shape-parts}
 use Rattle.mu_text.specs.Lines.{is_alone, is_first, words}
 use Rattle.mu_text.specs.Numbers.{is_numbered, number_of}
 use Rattle.mu_text.specs.declared.TheConstants.{SPACE}
 use Rattle.mu_text.proofs.Decimals.{number_of-decimal}
-use Rattle.mu_text.proofs.SpelledWords.{IsOneWord, Spells, Spells-join, Spells-then, Spells-word, written}
+use Rattle.mu_text.proofs.SpelledWords.{IsOneWord, Spells, Spells-then, Spells-word, written}
 use Rattle.mu_input.specs.Bodies.{body_line, client_line, operation_line}
 use Rattle.mu_input.specs.Fields.{is_key, is_text, is_visible, is_word}
-use Rattle.mu_input.specs.JobLines.{op_words}
-use Rattle.mu_input.specs.Operations.{is_short_text, judged, names_operation, operation_of}
+use Rattle.mu_input.specs.JobLines.{after_spaces, op_words}
+use Rattle.mu_input.specs.Operations.{are_texts, arguments_as, is_short_text, judged, made, names_operation, of_kind, operation_of}
 use Rattle.mu_input.specs.Readings.{Line, Says, Wrong}
 use Rattle.mu_input.specs.declared.TheConstants.{MOST_CLIENTS, MOST_COMMANDS}
 use Rattle.mu_input.specs.declared.bodies.BodyLine.{BodyLine}
 use Rattle.mu_input.specs.declared.bodies.BodyLine.TheVariants as body
 use Rattle.mu_input.specs.declared.cause.TheConstants.{CLIENT, OPERATION, KEY, VALUE, TOO_MANY}
 use Rattle.mu_input.proofs.SettingsBack.{numbered-spells}
-use Rattle.std.proofs.lemmas.Bool.{and_parts, and_from}
 
 -- the key and the texts of an operation are such as a line may have
 abbrev pub IsJudged : Op → Type 0
-IsJudged (Put key text) = (is_key key ≡ true) × (is_text text ≡ true)
-IsJudged (Get key) = is_key key ≡ true
-IsJudged (Del key) = is_key key ≡ true
-IsJudged (Swap key text) = (is_key key ≡ true) × (is_text text ≡ true)
-IsJudged (Cas key old new) = (is_key key ≡ true) × (is_short_text old ≡ true) × (is_short_text new ≡ true)
+IsJudged op = (is_key (parts_of op).key ≡ true) × (are_texts (parts_of op).arguments ≡ true)
 
 visible_above : (byte : ℕ) → is_visible byte ≡ true → SPACE < byte
 visible_above byte visible = grind (arith, nat_tests)
@@ -53,36 +54,44 @@ one_short bytes is = one_field TEXT_BYTES bytes (and_parts (is_text bytes) (nat_
 
 -- the words of an operation
 abbrev op_pieces : Op → List (List ℕ)
-op_pieces (Put key text) = codes "put" ∷ key ∷ text ∷ []
-op_pieces (Get key) = codes "get" ∷ key ∷ []
-op_pieces (Del key) = codes "del" ∷ key ∷ []
-op_pieces (Swap key text) = codes "swap" ∷ key ∷ text ∷ []
-op_pieces (Cas key old new) = codes "cas" ∷ key ∷ old ∷ new ∷ []
+op_pieces op = name_of_kind (parts_of op).kind ∷ (parts_of op).key ∷ texts_of (parts_of op).arguments
 
-one : (name key : List ℕ) → IsOneWord name → IsOneWord key → Spells (name ++ SPACE ∷ key) (name ∷ key ∷ [])
-one name key a b = Spells-then name key (key ∷ []) a (Spells-word key b)
+name_is_word : (kind : OpKind) → IsOneWord (name_of_kind kind)
+name_is_word OpKind.Put = written (codes "put") refl
+name_is_word kind = written (name_of_kind kind) refl
 
-two : (name key text : List ℕ) → IsOneWord name → IsOneWord key → IsOneWord text → Spells (((name ++ SPACE ∷ key) ++ SPACE ∷ []) ++ text) (name ∷ key ∷ text ∷ [])
-two name key text a b c = Spells-join (name ++ SPACE ∷ key) text (name ∷ key ∷ []) (text ∷ []) (one name key a b) (Spells-word text c)
+texts_are_words : (arguments : Arguments) → are_texts arguments ≡ true → AllByRecursion IsOneWord (texts_of arguments)
+texts_are_words Arguments.Nothing are = tt
+texts_are_words (Arguments.Text text) are = (one_field TEXT_BYTES text are, tt)
+texts_are_words (Arguments.Texts first second) are = let both = and_parts (is_short_text first) (is_short_text second) are in (one_short first both.0, (one_short second both.1, tt))
+
+spaced : (word : List ℕ) (more : List (List ℕ)) → IsOneWord word → AllByRecursion IsOneWord more → Spells (word ++ after_spaces more) (word ∷ more)
+spaced word [] one all = subst (λ text. Spells text (word ∷ [])) (sym (append-nil word)) (Spells-word word one)
+spaced word (next ∷ more) one all = Spells-then word (next ++ after_spaces more) (next ∷ more) one (spaced next more all.0 all.1)
 
 pub op-spells : (op : Op) → IsJudged op → Spells (op_words op) (op_pieces op)
-op-spells (Put key text) is = two (codes "put") key text (written (codes "put") refl) (one_field KEY_BYTES key is.0) (one_field TEXT_BYTES text is.1)
-op-spells (Get key) is = one (codes "get") key (written (codes "get") refl) (one_field KEY_BYTES key is)
-op-spells (Del key) is = one (codes "del") key (written (codes "del") refl) (one_field KEY_BYTES key is)
-op-spells (Swap key text) is = two (codes "swap") key text (written (codes "swap") refl) (one_field KEY_BYTES key is.0) (one_field TEXT_BYTES text is.1)
-op-spells (Cas key old new) is =
-    Spells-join (((codes "cas" ++ SPACE ∷ key) ++ SPACE ∷ []) ++ old) new (codes "cas" ∷ key ∷ old ∷ []) (new ∷ [])
-    (two (codes "cas") key old (written (codes "cas") refl) (one_field KEY_BYTES key is.0) (one_short old is.1)) (Spells-word new (one_short new is.2))
+op-spells op is =
+    spaced (name_of_kind (parts_of op).kind) ((parts_of op).key ∷ texts_of (parts_of op).arguments) (name_is_word (parts_of op).kind)
+    (one_field KEY_BYTES (parts_of op).key is.0, texts_are_words (parts_of op).arguments is.1)
 
-judged-is : (key : List ℕ) (texts : Bool) (op : Op) → is_key key ≡ true → texts ≡ true → judged key texts op ≡ Says op
-judged-is key texts op good all = ap (λ b. cond b (cond texts (Says op) (Wrong VALUE)) (Wrong KEY)) good ∙ ap (λ b. cond b (Says op) (Wrong VALUE)) all
+-- texts are read back as the arguments that have them
+texts-back : (arguments : Arguments) → arguments_as (shape_of arguments) (texts_of arguments) ≡ Some arguments
+texts-back Arguments.Nothing = refl
+texts-back (Arguments.Text text) = refl
+texts-back (Arguments.Texts first second) = refl
+
+judged-is : (kind : OpKind) (key : List ℕ) (arguments : Arguments) → is_key key ≡ true → are_texts arguments ≡ true → judged kind key (Some arguments) ≡ made (op_with key kind arguments)
+judged-is kind key arguments good all =
+    ap (λ b. cond b (cond (are_texts arguments) (made (op_with key kind arguments)) (Wrong VALUE)) (Wrong KEY)) good ∙ ap (λ b. cond b (made (op_with key kind arguments)) (Wrong VALUE)) all
 
 operation-back : (op : Op) → IsJudged op → operation_of (op_pieces op) ≡ Says op
-operation-back (Put key text) is = judged-is key (is_text text) (Put key text) is.0 is.1
-operation-back (Get key) is = judged-is key true (Get key) is refl
-operation-back (Del key) is = judged-is key true (Del key) is refl
-operation-back (Swap key text) is = judged-is key (is_text text) (Swap key text) is.0 is.1
-operation-back (Cas key old new) is = judged-is key (is_short_text old && is_short_text new) (Cas key old new) is.0 (and_from (is_short_text old) (is_short_text new) is.1 is.2)
+operation-back op is =
+    let parts = parts_of op in
+    ap (λ kind. of_kind kind parts.key (texts_of parts.arguments)) (kind-named parts.kind)
+    ∙ ap (λ shape. judged parts.kind parts.key (arguments_as shape (texts_of parts.arguments))) (sym (shape-parts op))
+    ∙ ap (judged parts.kind parts.key) (texts-back parts.arguments)
+    ∙ judged-is parts.kind parts.key parts.arguments is.0 is.1
+    ∙ ap made (op_with-parts op)
 
 -- what a line of an operation says after this many clients and commands
 abbrev asked : ℕ → ℕ → Line Op → Line BodyLine
@@ -96,10 +105,7 @@ asked-is clients commands op some room =
 
 pieces-back : (clients commands : ℕ) (op : Op) → body_line clients commands (op_pieces op) ≡ asked clients commands (operation_of (op_pieces op))
 pieces-back clients commands (Put key text) = refl
-pieces-back clients commands (Get key) = refl
-pieces-back clients commands (Del key) = refl
-pieces-back clients commands (Swap key text) = refl
-pieces-back clients commands (Cas key old new) = refl
+pieces-back clients commands op = refl
 
 -- a line of an operation is read back, if it has a client and room
 pub operation_line-back : (clients commands : ℕ) (op : Op) → IsJudged op → 0 < clients → commands < MOST_COMMANDS → body_line clients commands (words (op_words op)) ≡ Says (body.Operation op)
@@ -140,40 +146,27 @@ abbrev AllJudged : Line Op → Type 0
 AllJudged (Says op) = IsJudged op
 AllJudged (Wrong cause) = ⊤
 
-judged-one : (key : List ℕ) (op : Op) → (is_key key ≡ true → IsJudged op) → AllJudged (judged key true op)
-judged-one key op so = by_test (is_key key) so
-  where
-    by_test : (b : Bool) → (b ≡ true → IsJudged op) → AllJudged (cond b (Says op) (Wrong KEY))
-    by_test true so = so refl
-    by_test false so = tt
+made-judged : (kind : OpKind) (key : List ℕ) (arguments : Arguments) (op : Option Op) → op_with key kind arguments ≡ op → is_key key ≡ true → are_texts arguments ≡ true → AllJudged (made op)
+made-judged kind key arguments (Some op) is good all = subst (λ (parts : OpParts). (is_key parts.key ≡ true) × (are_texts parts.arguments ≡ true)) (sym (parts-made key arguments kind op is)) (good, all)
+made-judged kind key arguments None is good all = tt
 
-judged-more : (key : List ℕ) (texts : Bool) (op : Op) → (is_key key ≡ true → texts ≡ true → IsJudged op) → AllJudged (judged key texts op)
-judged-more key texts op so = by_test (is_key key) texts so
+all-judged : (kind : OpKind) (key : List ℕ) (arguments : Option Arguments) → AllJudged (judged kind key arguments)
+all-judged kind key None = tt
+all-judged kind key (Some arguments) = by_test (is_key key) (are_texts arguments) refl refl
   where
-    by_test : (b c : Bool) → (b ≡ true → c ≡ true → IsJudged op) → AllJudged (cond b (cond c (Says op) (Wrong VALUE)) (Wrong KEY))
-    by_test true true so = so refl refl
-    by_test true false so = tt
-    by_test false c so = tt
-
-either : (a b : Bool) (first second : Line Op) → AllJudged first → AllJudged second → AllJudged (cond a first (cond b second (Wrong OPERATION)))
-either true b first second p q = p
-either false true first second p q = q
-either false false first second p q = tt
+    by_test : (b c : Bool) → is_key key ≡ b → are_texts arguments ≡ c → AllJudged (cond b (cond c (made (op_with key kind arguments)) (Wrong VALUE)) (Wrong KEY))
+    by_test true true good all = made-judged kind key arguments (op_with key kind arguments) refl good all
+    by_test true false good all = tt
+    by_test false c good all = tt
 
 operation-judged : (ws : List (List ℕ)) → AllJudged (operation_of ws)
 operation-judged [] = tt
 operation-judged (name ∷ []) = tt
-operation-judged (name ∷ key ∷ []) =
-    either (bytes_eq name (codes "get")) (bytes_eq name (codes "del")) (judged key true (Get key)) (judged key true (Del key)) (judged-one key (Get key) (λ good. good)) (judged-one key (Del key) (λ good. good))
-operation-judged (name ∷ key ∷ text ∷ []) =
-    either (bytes_eq name (codes "put")) (bytes_eq name (codes "swap")) (judged key (is_text text) (Put key text)) (judged key (is_text text) (Swap key text))
-    (judged-more key (is_text text) (Put key text) (λ good all. (good, all))) (judged-more key (is_text text) (Swap key text) (λ good all. (good, all)))
-operation-judged (name ∷ key ∷ first ∷ second ∷ []) = by_test (bytes_eq name (codes "cas"))
+operation-judged (name ∷ key ∷ more) = by_kind (kind_of_name name)
   where
-    by_test : (b : Bool) → AllJudged (cond b (judged key (is_short_text first && is_short_text second) (Cas key first second)) (Wrong OPERATION))
-    by_test true = judged-more key (is_short_text first && is_short_text second) (Cas key first second) (λ good all. let texts = and_parts (is_short_text first) (is_short_text second) all in (good, texts.0, texts.1))
-    by_test false = tt
-operation-judged (name ∷ key ∷ first ∷ second ∷ more ∷ rest) = tt
+    by_kind : (kind : Option OpKind) → AllJudged (of_kind kind key more)
+    by_kind None = tt
+    by_kind (Some kind) = all-judged kind key (arguments_as (shape_of_kind kind) more)
 
 client-places : (clients commands : ℕ) (ws : List (List ℕ)) → Places clients commands (client_line clients ws)
 client-places clients commands [] = tt

@@ -2,8 +2,8 @@
 use Rattle.std.specs.Prelude.{ℕ, zero, suc, if◌then◌else◌, ◌+◌, ◌==◌, ◌||◌, nat_lt, nat_le, Bool, List, [], ◌∷◌, ◌++◌, length, map, codes}
 use Rattle.std.specs.Fmt.{decimal}
 use Rattle.kv_store.specs.Commands.{Request}
+use Rattle.kv_store.specs.Kinds.{name_of_kind, parts_of, texts_of}
 use Rattle.kv_store.specs.declared.command.Op.{Op}
-use Rattle.kv_store.specs.declared.command.Op.TheVariants.{Put, Get, Del, Swap, Cas}
 use Rattle.mu_events.specs.Lines.{event_line}
 use Rattle.mu_model.specs.declared.config.Config.{Config}
 use Rattle.mu_model.specs.declared.event.Event.{Event}
@@ -12,13 +12,16 @@ use Rattle.mu_model.specs.declared.script.Script.{Script}
 use Rattle.mu_model.specs.declared.script.Stop.{Stop}
 use Rattle.mu_input.specs.declared.job.Job.{Job}
 
--- an operation
+-- each of these words after a space
+abbrev pub after_spaces : List (List ℕ) → List ℕ
+after_spaces [] = []
+after_spaces (word ∷ words) = codes " " ++ word ++ after_spaces words
+
+-- an operation: its name, its key and its texts
 abbrev pub op_words : Op → List ℕ
-op_words (Put key text) = codes "put " ++ key ++ codes " " ++ text
-op_words (Get key) = codes "get " ++ key
-op_words (Del key) = codes "del " ++ key
-op_words (Swap key text) = codes "swap " ++ key ++ codes " " ++ text
-op_words (Cas key old new) = codes "cas " ++ key ++ codes " " ++ old ++ codes " " ++ new
+op_words op =
+    name_of_kind (parts_of op).kind
+    ++ after_spaces ((parts_of op).key ∷ texts_of (parts_of op).arguments)
 
 -- the most commands of a batch, only in version 2
 abbrev pub batch_lines : Config → List (List ℕ)

@@ -1,42 +1,58 @@
 -- operation line: what a line asks of the store.
-use Rattle.std.specs.Prelude.{ℕ, Bool, true, false, ◌&&◌, ◌||◌, nat_le, length, List, [], ◌∷◌, codes, if◌then◌else◌}
-use Rattle.std.specs.Str.{bytes_eq}
+use Rattle.std.specs.Prelude.{ℕ, Bool, true, false, ◌&&◌, nat_le, length, List, [], ◌∷◌, if◌then◌else◌, None, Some}
+use Rattle.std.specs.Option.{is_some}
+use Rattle.std.specs.declared.option.Option.{Option}
+use Rattle.kv_store.specs.Kinds.{kind_of_name, op_with, shape_of_kind}
 use Rattle.kv_store.specs.declared.TheConstants.{CAS_TEXT_BYTES}
+use Rattle.kv_store.specs.declared.command.Arguments.{Arguments}
 use Rattle.kv_store.specs.declared.command.Op.{Op}
-use Rattle.kv_store.specs.declared.command.Op.TheVariants.{Put, Get, Del, Swap, Cas}
+use Rattle.kv_store.specs.declared.command.OpKind.{OpKind}
+use Rattle.kv_store.specs.declared.command.OpShape.{OpShape}
 use Rattle.mu_input.specs.Fields.{is_key, is_text}
 use Rattle.mu_input.specs.Readings.{Line, Says, Wrong}
 use Rattle.mu_input.specs.declared.cause.TheConstants.{OPERATION, KEY, VALUE}
 
--- a text that may stand in a cas
+-- a text that may stand beside another
 abbrev pub is_short_text : List ℕ → Bool
 is_short_text bytes = is_text bytes && nat_le (length bytes) CAS_TEXT_BYTES
 
--- the key is judged first, and then whether the texts are good
-abbrev pub judged : List ℕ → Bool → Op → Line Op
-judged key texts op = if is_key key then (if texts then Says op else Wrong VALUE) else Wrong KEY
+-- words as arguments of this shape, if they are as many
+abbrev pub arguments_as : OpShape → List (List ℕ) → Option Arguments
+arguments_as OpShape.Nothing [] = Some Arguments.Nothing
+arguments_as OpShape.Text (text ∷ []) = Some (Arguments.Text text)
+arguments_as OpShape.Texts (first ∷ second ∷ []) = Some (Arguments.Texts first second)
+arguments_as _ _ = None
+
+-- the words are texts that may stand there
+abbrev pub are_texts : Arguments → Bool
+are_texts Arguments.Nothing = true
+are_texts (Arguments.Text text) = is_text text
+are_texts (Arguments.Texts first second) = is_short_text first && is_short_text second
+
+-- the operation of some parts, if there is one
+abbrev pub made : Option Op → Line Op
+made None = Wrong OPERATION
+made (Some op) = Says op
+
+-- the key is judged first, and then the texts
+abbrev pub judged : OpKind → List ℕ → Option Arguments → Line Op
+judged kind key None = Wrong OPERATION
+judged kind key (Some arguments) =
+    if is_key key
+    then (if are_texts arguments then made (op_with key kind arguments) else Wrong VALUE)
+    else Wrong KEY
+
+-- a key and the words after it, by what the word before it names
+abbrev pub of_kind : Option OpKind → List ℕ → List (List ℕ) → Line Op
+of_kind None key words = Wrong OPERATION
+of_kind (Some kind) key words = judged kind key (arguments_as (shape_of_kind kind) words)
 
 -- an operation and its words
 abbrev pub operation_of : List (List ℕ) → Line Op
-operation_of (name ∷ key ∷ []) =
-    if bytes_eq name (codes "get") then judged key true (Get key)
-    else if bytes_eq name (codes "del") then judged key true (Del key)
-    else Wrong OPERATION
-operation_of (name ∷ key ∷ text ∷ []) =
-    if bytes_eq name (codes "put") then judged key (is_text text) (Put key text)
-    else if bytes_eq name (codes "swap") then judged key (is_text text) (Swap key text)
-    else Wrong OPERATION
-operation_of (name ∷ key ∷ first ∷ second ∷ []) =
-    if bytes_eq name (codes "cas")
-    then judged key (is_short_text first && is_short_text second) (Cas key first second)
-    else Wrong OPERATION
+operation_of (name ∷ key ∷ words) = of_kind (kind_of_name name) key words
 operation_of _ = Wrong OPERATION
 
 -- the first word names an operation
 abbrev pub names_operation : List (List ℕ) → Bool
 names_operation [] = false
-names_operation (name ∷ words) =
-    bytes_eq name (codes "put")
-    || (bytes_eq name (codes "get")
-    || (bytes_eq name (codes "del")
-    || (bytes_eq name (codes "swap") || bytes_eq name (codes "cas"))))
+names_operation (name ∷ words) = is_some (kind_of_name name)

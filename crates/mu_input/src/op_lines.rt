@@ -1,9 +1,10 @@
 //! An operation as the line of a job that asks for it.
-ghost use Rattle.std.specs.Prelude.{◌≡◌, ◌+◌, ◌<◌, ◌≤◌, ◌++◌, length};
-ghost use Rattle.mu_input.specs.JobLines.{op_words};
+ghost use Rattle.std.specs.Prelude.{◌≡◌, ◌+◌, ◌<◌, ◌≤◌, ◌++◌, codes, length};
+ghost use Rattle.kv_store.specs.Kinds.{texts_of};
+ghost use Rattle.mu_input.specs.JobLines.{after_spaces, op_words};
 ghost use Rattle.mu_text.specs.declared.line_text.TheConstants.{LINE_BYTES};
 
-use kv_store::Op;
+use kv_store::{Arguments, Op};
 use mu_text::Line;
 
 /// The line that asks for an operation.
@@ -16,40 +17,40 @@ pub fn op_line(op: &Op) -> Line
     line
 }
 
-/// Adds an operation, as in a job: at most 158 bytes.
+/// Adds an operation, as in a job: at most 160 bytes.
 pub fn push_op(line: &mut Line, op: &Op)
-    requires { length line.old + 158 ≤ LINE_BYTES }
+    requires { length line.old + 160 ≤ LINE_BYTES }
     ensures bytes { line.new ≡ line.old ++ op_words op.now }
-    ensures room { length line.new ≤ length line.old + 158 }
+    ensures room { length line.new ≤ length line.old + 160 }
 {
-    match op {
-        Op::Put(key, text) => {
-            line.push(b"put ");
-            line.push(key.as_bytes());
-            line.push(b" ");
-            line.push(text.as_bytes());
-        }
-        Op::Get(key) => {
-            line.push(b"get ");
-            line.push(key.as_bytes());
-        }
-        Op::Del(key) => {
-            line.push(b"del ");
-            line.push(key.as_bytes());
-        }
-        Op::Swap(key, text) => {
-            line.push(b"swap ");
-            line.push(key.as_bytes());
-            line.push(b" ");
-            line.push(text.as_bytes());
-        }
-        Op::Cas(key, old, new) => {
-            line.push(b"cas ");
-            line.push(key.as_bytes());
-            line.push(b" ");
-            line.push(old.as_bytes());
-            line.push(b" ");
-            line.push(new.as_bytes());
+    let parts = op.parts();
+    line.push(parts.kind.name());
+    push_after_space(line, parts.key.as_bytes());
+    push_arguments(line, &parts.arguments);
+}
+
+/// Adds arguments, each after a space: at most 130 bytes.
+fn push_arguments(line: &mut Line, arguments: &Arguments)
+    requires { length line.old + 130 ≤ LINE_BYTES }
+    ensures bytes { line.new ≡ line.old ++ after_spaces (texts_of arguments.now) }
+    ensures room { length line.new ≤ length line.old + 130 }
+{
+    match arguments {
+        Arguments::Nothing => {}
+        Arguments::Text(text) => push_after_space(line, text.as_bytes()),
+        Arguments::Texts(first, second) => {
+            push_after_space(line, first.as_bytes());
+            push_after_space(line, second.as_bytes());
         }
     }
+}
+
+/// Adds a word, after a space.
+fn push_after_space(line: &mut Line, word: &[u8])
+    requires { length line.old + 1 + length word.now ≤ LINE_BYTES }
+    ensures bytes { line.new ≡ line.old ++ codes " " ++ word.now }
+    ensures room { length line.new ≡ length line.old + 1 + length word.now }
+{
+    line.push(b" ");
+    line.push(word);
 }

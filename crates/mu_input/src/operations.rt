@@ -1,20 +1,21 @@
 //! What a line asks of the store.
-ghost use Rattle.std.specs.Prelude.{◌≡◌, ◌<◌, ◌≤◌, if◌then◌else◌, ◌&&◌, [], ◌∷◌, length, map, IfOk, None, Some, Ok, Err};
-ghost use Rattle.kv_store.specs.Commands.{HasShortTexts};
+ghost use Rattle.std.specs.Prelude.{◌≡◌, ◌≤◌, if◌then◌else◌, length, map, IfOk, None, Some, Ok, Err};
+ghost use Rattle.kv_store.specs.Commands.{AreShort, HasShortTexts};
+ghost use Rattle.kv_store.specs.Kinds.{op_with, shape_of_kind};
 ghost use Rattle.mu_input.specs.Fields.{is_key, is_text};
-ghost use Rattle.mu_input.specs.Operations.{is_short_text, judged, names_operation, operation_of};
+ghost use Rattle.mu_input.specs.Operations.{arguments_as, is_short_text, judged, made, names_operation, operation_of};
 ghost use Rattle.mu_input.specs.Readings.{Tells};
 
 use crate::cause::{KEY, OPERATION, VALUE};
-use kv_store::{CAS_TEXT_BYTES, Key, Op, Text};
+use kv_store::{Arguments, CAS_TEXT_BYTES, Key, Op, OpKind, OpShape, Text};
 
 /// Whether the first word names an operation.
 pub fn names_operation(words: &[&[u8]]) -> bool
     ensures { result ≡ names_operation (map (λ word. word.now) words.now) }
 {
     match words {
-        [b"put" | b"get" | b"del" | b"swap" | b"cas", ..] => true,
-        _ => false,
+        [name, ..] => OpKind::of_name(name).is_some(),
+        [] => false,
     }
 }
 
@@ -27,75 +28,55 @@ pub fn operation(words: &[&[u8]]) -> Result<Op, u8>
     ensures reading { Tells result (operation_of (map (λ word. word.now) words.now)) }
     ensures short { IfOk result HasShortTexts }
 {
-    match words {
-        [name, key] => with_key(name, key),
-        [name, key, text] => with_text(name, key, text),
-        [name, key, old, new] => with_two_texts(name, key, old, new),
-        _ => Err(OPERATION),
+    let [name, key, texts @ ..] = words else {
+        return Err(OPERATION);
+    };
+    match OpKind::of_name(name) {
+        Some(kind) => of_kind(kind, key, texts),
+        None => Err(OPERATION),
     }
 }
 
-fn with_key(name: &[u8], key: &[u8]) -> Result<Op, u8>
-    ensures reading { Tells result (operation_of (name.now ∷ key.now ∷ [])) }
+/// The operation of a kind, if there are as many texts as it has.
+fn of_kind(kind: OpKind, key: &[u8], texts: &[&[u8]]) -> Result<Op, u8>
+    ensures reading { Tells result (judged kind key.now
+        (arguments_as (shape_of_kind kind) (map (λ text. text.now) texts.now))) }
     ensures short { IfOk result HasShortTexts }
 {
-    match name {
-        b"get" => Ok(Op::Get(good_key(key)?)),
-        b"del" => Ok(Op::Del(good_key(key)?)),
+    match (kind.shape(), texts) {
+        (OpShape::Nothing, []) => made(kind, good_key(key)?, Arguments::Nothing),
+        (OpShape::Text, [text]) => with_text(kind, key, text),
+        (OpShape::Texts, [first, second]) => with_texts(kind, key, first, second),
         _ => Err(OPERATION),
     }
 }
 
-fn with_text(name: &[u8], key: &[u8], text: &[u8]) -> Result<Op, u8>
-    ensures reading { Tells result (operation_of (name.now ∷ key.now ∷ text.now ∷ [])) }
-    ensures short { IfOk result HasShortTexts }
-{
-    match name {
-        b"put" => put(key, text),
-        b"swap" => swap(key, text),
-        _ => Err(OPERATION),
-    }
-}
-
-fn with_two_texts(name: &[u8], key: &[u8], old: &[u8], new: &[u8]) -> Result<Op, u8>
-    ensures reading { Tells result
-        (operation_of (name.now ∷ key.now ∷ old.now ∷ new.now ∷ [])) }
-    ensures short { IfOk result HasShortTexts }
-{
-    match name {
-        b"cas" => compare_and_set(key, old, new),
-        _ => Err(OPERATION),
-    }
-}
-
-fn put(key: &[u8], text: &[u8]) -> Result<Op, u8>
-    ensures reading { Tells result (judged key.now (is_text text.now) (Op.Put key.now text.now)) }
+fn with_text(kind: OpKind, key: &[u8], text: &[u8]) -> Result<Op, u8>
+    ensures reading { Tells result (judged kind key.now (Some (Arguments.Text text.now))) }
     ensures short { IfOk result HasShortTexts }
 {
     let key = good_key(key)?;
     let text = good_text(text)?;
-    Ok(Op::Put(key, text))
+    made(kind, key, Arguments::Text(text))
 }
 
-fn swap(key: &[u8], text: &[u8]) -> Result<Op, u8>
-    ensures reading { Tells result (judged key.now (is_text text.now) (Op.Swap key.now text.now)) }
-    ensures short { IfOk result HasShortTexts }
-{
-    let key = good_key(key)?;
-    let text = good_text(text)?;
-    Ok(Op::Swap(key, text))
-}
-
-fn compare_and_set(key: &[u8], old: &[u8], new: &[u8]) -> Result<Op, u8>
+fn with_texts(kind: OpKind, key: &[u8], first: &[u8], second: &[u8]) -> Result<Op, u8>
     ensures reading { Tells result
-        (judged key.now (is_short_text old.now && is_short_text new.now)
-        (Op.Cas key.now old.now new.now)) }
+        (judged kind key.now (Some (Arguments.Texts first.now second.now))) }
     ensures short { IfOk result HasShortTexts }
 {
     let key = good_key(key)?;
-    let old = short_text(old)?;
-    let new = short_text(new)?;
-    Ok(Op::Cas(key, old, new))
+    let first = short_text(first)?;
+    let second = short_text(second)?;
+    made(kind, key, Arguments::Texts(first, second))
+}
+
+/// The operation with these parts, if the kind has such arguments.
+fn made(kind: OpKind, key: Key, arguments: Arguments) -> Result<Op, u8>
+    ensures reading { Tells result (made (op_with key kind arguments)) }
+    ensures short { AreShort arguments → IfOk result HasShortTexts }
+{
+    Op::of_parts(key, kind, arguments).ok_or(OPERATION)
 }
 
 fn good_key(bytes: &[u8]) -> Result<Key, u8>
@@ -110,7 +91,7 @@ fn good_text(bytes: &[u8]) -> Result<Text, u8>
     text_of(bytes).ok_or(VALUE)
 }
 
-/// A text that may stand in a `cas`.
+/// A text that may stand beside another.
 fn short_text(bytes: &[u8]) -> Result<Text, u8>
     ensures exact { result ≡ (if is_short_text bytes.now then Ok bytes.now else Err VALUE) }
     ensures short { IfOk result (λ text. length text ≤ CAS_TEXT_BYTES) }

@@ -26,8 +26,8 @@ use Rattle.mu_input.specs.declared.bodies.BodyLine.{BodyLine}
 use Rattle.mu_input.specs.declared.bodies.BodyLine.TheVariants as body
 use Rattle.mu_input.specs.declared.scripts.ScriptLine.{ScriptLine}
 use Rattle.mu_input.specs.declared.scripts.ScriptLine.TheVariants as script
-use Rattle.mu_reasons.specs.Breaks.{Explains}
-use Rattle.mu_reasons.specs.declared.fault.Broken.{Broken}
+use Rattle.mu_outcome.specs.Breaks.{Explains}
+use Rattle.mu_outcome.specs.declared.fault.Broken.{Broken}
 use Rattle.mu_judging.specs.Explained.{IsExplained, IsLineOf}
 
 -- these lines are what follows some of those

@@ -11,8 +11,8 @@ use Rattle.mu_model.specs.Histories.{history}
 use Rattle.mu_model.specs.Legal.{IsLegal, IsLegalHistory}
 use Rattle.mu_model.specs.declared.config.Config.{Config}
 use Rattle.mu_model.specs.declared.event.Event.{Event}
-use Rattle.mu_reasons.specs.Breaks.{Explains}
-use Rattle.mu_reasons.specs.declared.fault.Broken.{Broken}
+use Rattle.mu_outcome.specs.Breaks.{Explains}
+use Rattle.mu_outcome.specs.declared.fault.Broken.{Broken}
 use Rattle.std.proofs.Common.{List}
 
 -- the first events of a legal list are legal

@@ -19,9 +19,9 @@ use Rattle.mu_model.specs.Histories.{history}
 use Rattle.mu_model.specs.Legal.{IsLegal}
 use Rattle.mu_model.specs.declared.config.Config.{Config}
 use Rattle.mu_model.specs.declared.event.Event.{Event}
-use Rattle.mu_reasons.specs.Breaks.{Explains, IsBroken, IsFault}
-use Rattle.mu_reasons.specs.declared.fault.Broken.{Broken}
-use Rattle.mu_reasons.specs.declared.fault.Fault.{Fault}
+use Rattle.mu_outcome.specs.Breaks.{Explains, IsBroken, IsFault}
+use Rattle.mu_outcome.specs.declared.fault.Broken.{Broken}
+use Rattle.mu_outcome.specs.declared.fault.Fault.{Fault}
 use Rattle.mu_text.specs.Lines.{lines}
 
 -- the history of one event more

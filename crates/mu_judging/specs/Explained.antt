@@ -9,8 +9,8 @@ use Rattle.mu_input.specs.Traces.{Trace, trace}
 use Rattle.mu_mistakes.specs.Misreads.{IsMisread}
 use Rattle.mu_mistakes.specs.declared.misread.Misread.{Misread}
 use Rattle.mu_model.specs.declared.event.Event.{Event}
-use Rattle.mu_reasons.specs.Breaks.{Explains}
-use Rattle.mu_reasons.specs.declared.fault.Broken.{Broken}
+use Rattle.mu_outcome.specs.Breaks.{Explains}
+use Rattle.mu_outcome.specs.declared.fault.Broken.{Broken}
 use Rattle.mu_report.specs.declared.said.Said.{Said}
 use Rattle.mu_text.specs.Lines.{lines, words}
 

@@ -15,8 +15,8 @@ use Rattle.mu_model.specs.Histories.{history}
 use Rattle.mu_model.specs.declared.config.Config.{Config}
 use Rattle.mu_model.specs.declared.event.Event.{Event}
 use Rattle.mu_outcome.specs.declared.status.Status.{Status}
-use Rattle.mu_reasons.specs.Breaks.{Explains}
-use Rattle.mu_reasons.specs.declared.fault.Broken.{Broken}
+use Rattle.mu_outcome.specs.Breaks.{Explains}
+use Rattle.mu_outcome.specs.declared.fault.Broken.{Broken}
 use Rattle.mu_report.specs.declared.said.Said.{Said}
 use Rattle.mu_text.specs.Lines.{lines, words}
 

@@ -6,7 +6,7 @@ use Rattle.mu_input.specs.Readings.{Fits}
 use Rattle.mu_input.specs.Traces.{Trace, trace}
 use Rattle.mu_judging.specs.Explained.{IsExplained, LeavesAt}
 use Rattle.mu_model.specs.Legal.{IsLegal}
-use Rattle.mu_reasons.specs.declared.fault.Broken.{Broken}
+use Rattle.mu_outcome.specs.declared.fault.Broken.{Broken}
 use Rattle.mu_report.specs.declared.said.Said.{Said}
 use Rattle.mu_telling.specs.Shown.{IsMoment}
 use Rattle.mu_outcome.specs.declared.moment.Moment.{Moment}

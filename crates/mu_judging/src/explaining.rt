@@ -9,10 +9,11 @@ ghost use Rattle.mu_model.specs.Contents.{IsConfig};
 ghost use Rattle.mu_report.specs.Said.{IsShort};
 ghost use Rattle.mu_text.specs.Lines.{lines};
 
-use mu_check::{Broken, explain};
+use mu_check::explain;
 use mu_input::{InputEnd, Job, read_trace};
 use mu_mistakes::refused_at;
 use mu_model::{Config, Event, NoMemory, Stops};
+use mu_outcome::Broken;
 use mu_report::Said;
 use mu_telling::strays_of;
 use mu_text::LineReader;

@@ -36,8 +36,9 @@ fn judged(alloc: Global, bytes: &[u8]) -> Result<(u32, Verdict), InputEnd>
     let (job, mut lines) = EventLines::of(alloc, bytes)?;
     let mut judge = Judge::new(alloc, &job.config)?;
     while let Some(event) = lines.next()? {
-        if let Some(cause) = judge.take(&job.config, &event) {
+        if let Some(fault) = judge.take(&job.config, &event) {
             let index = lines.count() - 1;
+            let cause = fault.cause();
             return Ok((lines.count_all()?, Verdict::Illegal { index, cause }));
         }
     }

@@ -15,11 +15,11 @@ ghost use Rattle.mu_report.specs.declared.said.Said.TheVariants.{Explained};
 ghost use Rattle.mu_text.specs.Lines.{lines, words};
 
 use crate::explaining::count_of_lines;
-use mu_check::{Broken, Judge};
+use mu_check::Judge;
 use mu_events::event;
 use mu_input::{InputEnd, Job, read};
 use mu_model::{Config, Event};
-use mu_outcome::Status;
+use mu_outcome::{Broken, Status};
 use mu_report::Said;
 use std::alloc::Global;
 
@@ -121,11 +121,11 @@ impl LineJudge {
     {
         match self.judge.take(&self.config, event) {
             None => self.events = self.events.saturating_add(1),
-            Some(cause) => {
+            Some(fault) => {
                 self.broken = Some(Broken {
                     index: self.events,
                     event: *event,
-                    fault: self.judge.fault(&self.config, event, cause),
+                    fault,
                 });
             }
         }

@@ -5,9 +5,9 @@ ghost use Rattle.mu_judging.specs.Shown.{breaks_before, ShowsOf};
 ghost use Rattle.mu_report.specs.Said.{IsShort};
 
 use crate::explaining::located;
-use mu_check::Broken;
 use mu_input::{InputEnd, read_trace};
 use mu_mistakes::refused_at;
+use mu_outcome::Broken;
 use mu_report::Said;
 use mu_telling::moment_of;
 use std::alloc::Global;

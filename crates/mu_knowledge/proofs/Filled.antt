@@ -119,12 +119,12 @@ spot_by : (c : Config) (r p j by : ℕ) (verb : Verb) (answer : Answer) (mine no
 spot_by c r p j by (Verb.PutSlot q i b v) Answer.Done mine now needs at = go _ at
   where
     go : (t : Bool) → is_at (cond t (Some i) None) j ≡ true → j ≤ row_count c + reserve c
-    go true at = let here = eqb-true i j at in let low = needs.1 in omega (arith, here, low)
+    go true at = let here = eqb-true i j at in let low = needs.1.0 in omega (arith, here, low)
     go false at = cc
 spot_by c r p j by (Verb.Look q i) (Answer.Entry b v) mine now needs at = go _ at
   where
     go : (t : Bool) → is_at (cond t (Some i) None) j ≡ true → j ≤ row_count c + reserve c
-    go true at = let here = eqb-true i j at in let low = needs.1 in omega (arith, here, low)
+    go true at = let here = eqb-true i j at in let low = needs.1.0 in omega (arith, here, low)
     go false at = cc
 spot_by c r p j by verb answer mine now needs at = cc
 

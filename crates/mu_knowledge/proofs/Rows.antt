@@ -41,7 +41,7 @@ told_right c r j k by (Verb.WriteRow row word x) past good legal own may known f
     go true is y at =
         let a = and_parts (by == r) ((row == j) && (word == k)) is in
         let b = and_parts (row == j) (word == k) a.1 in
-        sym (same_some x y at) ∙ may.2 ∙ ap (λ i. config_word c i word) (eqb-true row j b.0) ∙ ap (λ i. config_word c j i) (eqb-true word k b.1)
+        sym (same_some x y at) ∙ may.1.1.0 ∙ ap (λ i. config_word c i word) (eqb-true row j b.0) ∙ ap (λ i. config_word c j i) (eqb-true word k b.1)
     go false is y at = none_met (config_word c j k) y at
 told_right c r j k by (Verb.ReadRow w word) past good legal own may known few = go ((by == r) && ((w % 4096 == j) && (word == k))) refl
   where

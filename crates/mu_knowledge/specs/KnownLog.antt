@@ -6,7 +6,7 @@ use Rattle.std.specs.List.{slice_get}
 use Rattle.mu_model.specs.declared.config.Config.{Config}
 use Rattle.mu_model.specs.declared.event.Event.{Event}
 use Rattle.mu_model.specs.declared.event.Verb.{Verb}
-use Rattle.mu_model.specs.Contents.{command_count, marked, row_count}
+use Rattle.mu_model.specs.Contents.{command_count, marked, row_count, rows_in}
 use Rattle.mu_model.specs.Histories.{has}
 use Rattle.mu_model.specs.Knowledge.{entry_seen, greatest_fuo_read, is_accepted_by_all, known}
 use Rattle.mu_model.specs.Room.{reserve}
@@ -48,6 +48,7 @@ pub record HoldsValues (c : Config) (values : List ℕ) (state : KnownLog) : Typ
   pub room : row_count c + reserve c < vec_capacity state.values
   pub marks : MarksReplicas c values state.marks
   pub counts : CountsCommands c values state.counts.items
+  pub held : state.held ≡ length (rows_in c values)
   pub rows : StandsForClientRows c state.rows
 
 -- the state stands for the events of r

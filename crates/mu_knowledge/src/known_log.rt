@@ -3,7 +3,7 @@ ghost use Rattle.std.specs.List.{slice_get};
 ghost use Rattle.std.specs.Prelude.{IfOk, None, if◌then◌else◌, List, Some, [], length, replicate, vec_capacity, ℕ, ◌%◌, ◌++◌, ◌+◌, ◌<◌, ◌==◌, ◌||◌, ◌∷◌, ◌≡◌, ◌≤◌, take};
 ghost use Rattle.mu_model.specs.declared.config.Config.{Config};
 ghost use Rattle.mu_model.specs.declared.event.Event.{Event};
-ghost use Rattle.mu_model.specs.Contents.{IsConfig, client_of, command_count, marked, row_count};
+ghost use Rattle.mu_model.specs.Contents.{IsConfig, client_of, command_count, marked, row_count, rows_in, rows_of};
 ghost use Rattle.mu_model.specs.Histories.{has};
 ghost use Rattle.mu_model.specs.Knowledge.{entry_seen, greatest_fuo_read, grown, is_known_decided, known, learnt_by};
 ghost use Rattle.mu_model.specs.Parts.{IsPossible};
@@ -27,6 +27,8 @@ pub struct KnownLog {
     marks: [bool; 7],
     /// How many commands of each client it knows.
     counts: Vec<u16>,
+    /// How many commands it knows.
+    held: usize,
     /// Where the rows of each client stand.
     rows: ClientRows,
     /// The greatest FUO that it has read of each region.
@@ -81,6 +83,27 @@ fn count_rows(counts: &mut [u16], config: &Config, v: u16)
             count_row(counts, config, row + t);
         }
     }
+}
+
+/// How many rows the value `v` has: those of its batch, or none of a mark.
+#[tactic(auto, using(crate::proofs::Learning::rows_counted))]
+fn rows_of(config: &Config, v: u16) -> usize
+    ensures { result ≡ length (rows_of config.now v) }
+{
+    if stands_for_batch(config, v) {
+        usize::from(row_rest(config, v % PAYLOADS)) + 1
+    } else {
+        0
+    }
+}
+
+/// How many rows the values have after the value `v`, if they had `held` before it.
+fn held_after(held: usize, config: &Config, v: u16) -> usize
+    ensures { (values : List ℕ) → IsConfig config.now → length values < 2000
+        → held ≡ length (rows_in config.now values)
+        → result ≡ length (rows_in config.now (values ++ v ∷ [])) }
+{
+    held.saturating_add(rows_of(config, v))
 }
 
 /// Adds a value if there is room. Takes no memory.
@@ -166,6 +189,7 @@ impl KnownLog {
             values: no_values(alloc, config)?,
             marks: [false; 7],
             counts: no_counts(alloc)?,
+            held: 0,
             rows: ClientRows::new(alloc, config)?,
             fuos: [0; 7],
             seen: vec![in alloc; false; positions]?,
@@ -247,6 +271,7 @@ impl KnownLog {
             push_value(&mut self.values, v);
             note_mark(&mut self.marks, config, v);
             count_rows(&mut self.counts, config, v);
+            self.held = held_after(self.held, config, v);
         }
     }
 
@@ -297,10 +322,26 @@ impl KnownLog {
         ensures { (c : Config) → (r : ℕ) → (mine : List Event) → q < 7
             → StandsForKnownLog c r mine self.now → result ≡ marked c q (known c r mine) }
     {
+        self.has_mark(q)
+    }
+
+    /// Whether a mark of `q` is among the values.
+    pub fn has_mark(&self, q: u8) -> bool
+        ensures { (c : Config) → (values : List ℕ) → q < 7 → HoldsValues c values self.now
+            → result ≡ marked c q values }
+    {
         match self.marks.get(usize::from(q)) {
             None => false,
             Some(is_marked) => *is_marked,
         }
+    }
+
+    /// How many rows the values have.
+    pub fn held(&self) -> usize
+        ensures { (c : Config) → (values : List ℕ) → HoldsValues c values self.now
+            → result ≡ length (rows_in c values) }
+    {
+        self.held
     }
 
     /// How many commands of the client are known.

@@ -10,7 +10,9 @@ use Rattle.mu_model.specs.Again.{asks_again, foreign_row, is_astray, is_foreign,
 use Rattle.mu_model.specs.Histories.{count_below, newer_or, newest}
 use Rattle.mu_model.specs.Leaderships.{begins_leadership, fence_seen, is_member, proposal_number}
 use Rattle.mu_model.specs.Scores.{is_failed}
+use Rattle.mu_model.proofs.Scans.{all_at}
 use Rattle.mu_agree.proofs.Counting.{some_below}
+use Rattle.mu_leadership.specs.Leadership.{are_rows_short}
 use Rattle.mu_knowledge.specs.Offers.{IsFirst}
 use Rattle.mu_lead.specs.Again.{AsksAreApart, fences_numbered}
 
@@ -55,6 +57,19 @@ long_row : (r p : ℕ) (mine : List Event) → is_astray r mine p ≡ true → 1
 long_row r p mine astray =
     let rest = (and_parts (not (is_member r p mine)) (not (is_failed r p mine) && nat_le 16 (foreign_row r p mine)) astray).1 in
     leb-true 16 (foreign_row r p mine) (and_parts (not (is_failed r p mine)) (nat_le 16 (foreign_row r p mine)) rest).1
+
+-- where all rows are short no region has gone astray
+pub short_rows_none : (r n : ℕ) (mine : List Event) → n ≤ 7 → are_rows_short r mine ≡ true → nat_lt 0 (count_below n (λ p. is_astray r mine p)) ≡ false
+short_rows_none r n mine few short = go (nat_lt 0 (count_below n (λ p. is_astray r mine p))) refl
+  where
+    go : (t : Bool) → nat_lt 0 (count_below n (λ p. is_astray r mine p)) ≡ t → t ≡ false
+    go false is = refl
+    go true is =
+        let m = some_below n (λ p. is_astray r mine p) (ltb-true 0 (count_below n (λ p. is_astray r mine p)) is) in
+        let low = m.below in
+        let long = long_row r m.who mine m.passes in
+        let less = ltb-true (foreign_row r m.who mine) 16 (all_at 7 (λ p. nat_lt (foreign_row r p mine) 16) short m.who (omega (arith, low, few))) in
+        absurd (omega (arith, long, less))
 
 -- a fence of p was seen
 abbrev Saw : ℕ → ℕ → List Event → Type 0

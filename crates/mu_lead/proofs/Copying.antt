@@ -240,7 +240,7 @@ stranger_clear c r p j (e ∷ mine) possible stranger =
     step by (Verb.PutSlot q i b v) may out before = at_p (by == r) (q == p) (i == j) refl
       where
         at_p : (s t k : Bool) → (q == p) ≡ t → cond (s && (t && k)) true (has (λ f. is_put_at r p j f.by f.verb) (leadership r mine)) ≡ false
-        at_p true true k same = absurd (true≢false (sym (subst (λ x. is_member r x mine ≡ true) (eqb-true q p same) may.2.member) ∙ out))
+        at_p true true k same = absurd (true≢false (sym (subst (λ x. is_member r x mine ≡ true) (eqb-true q p same) may.1.1.1.1.1.0) ∙ out))
         at_p true false k same = before out
         at_p false t k same = before out
     step by v may out before = before out

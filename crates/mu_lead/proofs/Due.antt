@@ -50,20 +50,20 @@ needs_at c r b mine up reach heads written place verb config own possible t at i
     go (Place.ReadMin p) at is = by (Verb.Min p) is (may_read_min c r p mine at)
     go (Place.EnterMin p) at is = by (Verb.Enter p Target.Min) is (may_enter_min c r b p mine own at)
     go (Place.PutMin p) at is = by (Verb.PutMin p b) is (may_put_min c r b p mine at)
-    go (Place.ReadFuo p source) at is = by (Verb.Fuo p) is at.region
+    go (Place.ReadFuo p source) at is = by (Verb.Fuo p) is (at.region, tt)
     go (Place.Learn p) at is = by (Verb.Look p (end_of c r mine)) is (may_learn c r b p mine up reach (t.within p) at)
     go (Place.WidenBehind p then) at is = by (Verb.RaiseFuo p (get_or up p 0)) is (may_raise c r p (get_or up p 0) (get_or up p 0) mine at.behind.region (omega arith) (let low = at.lacks in omega (arith, low)) (t.brought p))
     go (Place.LookBehind p then) at is = by (Verb.Look p (get_or up p 0)) is (may_look_behind c r p (get_or up p 0) mine possible at.behind.leads.held at.behind.region at.behind.member at.lacks)
     go (Place.EnterBehind p then) at is = by (Verb.Enter p (Target.Place (get_or up p 0 % c.ring))) is (let b = at.near.behind in may_enter_place c r p (get_or up p 0) mine ring b.region b.member b.leads.goes_on)
     go (Place.PutBehind p then) at is = by (Verb.PutSlot p (get_or up p 0) b (get_or (known c r mine) (get_or up p 0) 0)) is (may_put_behind c r b p mine up reach then possible (t.brought p) (t.reached p) at)
     go (Place.RaiseBehind p then) at is = by (Verb.RaiseFuo p (get_or up p 0)) is (may_raise c r p (get_or up p 0) (get_or up p 0) mine at.behind.region (omega arith) (let same = at.done in omega (arith, same)) (t.brought p))
-    go (Place.FenceBehind p then) at is = by (Verb.Fence p) is (at.near.behind.region, at.near.behind.leads.begun)
-    go (Place.LateFence p) at is = by (Verb.Fence p) is (at.region, at.level.leads.begun)
-    go (Place.LateMin p) at is = by (Verb.Min p) is (at.late.region, at.granted, at.late.level.leads.goes_on)
-    go (Place.LateFuo p) at is = by (Verb.Fuo p) is at.late.region
+    go (Place.FenceBehind p then) at is = by (Verb.Fence p) is (at.near.behind.region, (at.near.behind.leads.begun, tt))
+    go (Place.LateFence p) at is = by (Verb.Fence p) is (at.region, (at.level.leads.begun, tt))
+    go (Place.LateMin p) at is = by (Verb.Min p) is (at.late.region, (at.granted, (at.late.level.leads.goes_on, tt)))
+    go (Place.LateFuo p) at is = by (Verb.Fuo p) is (at.late.region, tt)
     go (Place.LateEnter p) at is = by (Verb.Enter p Target.Min) is (may_enter_late c r b p mine up reach at)
     go (Place.LatePut p) at is = by (Verb.PutMin p b) is (may_put_late c r b p mine up reach at)
-    go (Place.ReadHead q candidate) at is = by (Verb.Head q) is at.region
+    go (Place.ReadHead q candidate) at is = by (Verb.Head q) is (at.region, tt)
     go (Place.Look p i candidate best) at is = by (Verb.Look p i) is (let l = at.looking in let low = l.roomy.within in let here = at.position in may_look_new c r p i mine l.level.leads.held at.region at.member (omega (arith, low, here)))
     go (Place.Write j last offer) at is =
         let k = get_or written j 12 in
@@ -72,7 +72,7 @@ needs_at c r b mine up reach heads written place verb config own possible t at i
     go (Place.Enter p offer) at is = by (Verb.Enter p (Target.Place (end_of c r mine % c.ring))) is (let o = at.0.offering in may_enter_place c r p (end_of c r mine) mine ring at.0.region at.0.member o.goes_on)
     go (Place.Put p offer) at is = by (Verb.PutSlot p (end_of c r mine) b offer.value) is (may_put_new c r b offer.value p mine up reach ring (t.brought p) (t.reached p) at.0)
     go (Place.Raise p) at is = by (Verb.RaiseFuo p (end_of c r mine)) is (may_raise c r p (get_or up p 0) (end_of c r mine) mine at.region (let same = at.have p at.region at.member in omega (arith, same)) (omega arith) (t.brought p))
-    go (Place.Evidence p) at is = by (Verb.Fence p) is (at.region, at.begun)
+    go (Place.Evidence p) at is = by (Verb.Fence p) is (at.region, (at.begun, tt))
     go Place.Outrun at is = cc
     go Place.Rest at is = cc
 

@@ -8,7 +8,9 @@ use Rattle.mu_model.specs.declared.event.Event.{Event}
 use Rattle.mu_model.specs.declared.event.Verb.{Verb}
 use Rattle.mu_model.specs.Leaderships.{is_member, proposal_number}
 use Rattle.mu_model.specs.Parts.{IsPossible}
+use Rattle.mu_model.specs.Points.{AreMet, new_values}
 use Rattle.mu_model.proofs.Basics.{event_by}
+use Rattle.mu_model.proofs.Putting.{new_met}
 use Rattle.mu_lead.specs.declared.place.Place.{Place}
 use Rattle.mu_lead.specs.declared.place.Then.{Then}
 use Rattle.mu_lead.specs.declared.place.Sight.{Sight}
@@ -87,6 +89,11 @@ looking_fuo c r b s answer mine up reach p candidate best possible l = record {
   shows = l.shows;
 }
 
+new_fuo : (c : Config) (r s i v : ℕ) (answer : Answer) (mine : List Event) → AreMet c r mine (new_values c r mine i v) → AreMet c r (fuo_of r s answer ∷ mine) (new_values c r (fuo_of r s answer ∷ mine) i v)
+new_fuo c r s i v answer mine met =
+    let n = (new_met c r mine i v).0 met in
+    (new_met c r (fuo_of r s answer ∷ mine) i v).1 record { next = n.next; room = n.room; reserve_kept = n.reserve_kept; none_past = n.none_past; value = n.value }
+
 offering_fuo : (c : Config) (r b v s : ℕ) (answer : Answer) (mine : List Event) (up : List ℕ) (reach : List (Option ℕ)) (p : ℕ) → Offering c r b v mine up reach p → Offering c r b v (fuo_of r s answer ∷ mine) up reach p
 offering_fuo c r b v s answer mine up reach p o = record {
   begun = o.begun;
@@ -98,7 +105,7 @@ offering_fuo c r b v s answer mine up reach p o = record {
   raised = raised_fuo r s c.replicas answer mine up reach o.raised;
   few = o.few;
   within = o.within;
-  new = (let n = o.new in record { next = n.next; room = n.room; reserve_kept = n.reserve_kept; none_past = n.none_past; value = n.value });
+  new = new_fuo c r s (end_of c r mine) v answer mine o.new;
   below = o.below;
   above = o.above;
   unput = o.unput;

@@ -1,16 +1,15 @@
 -- Whether entries hold all commands: no row is among theirs twice, so it is enough to count them.
-use Rattle.std.proofs.Common.{Bool, List, [], ap, arith, eqb-true, eq-eqb, false, get_or, inl, inr, length, length-append, nat_lt, refl, subst, suc, sym, take, true, true≢false, zero, ℕ, ◌%◌, ◌*◌, ◌++◌, ◌+◌, ◌<◌, ◌==◌, ◌∙◌, ◌∷◌, ◌≡◌, ◌≤◌}
+use Rattle.std.proofs.Common.{Bool, List, [], ap, arith, eqb-true, eq-eqb, false, inl, inr, length, refl, subst, suc, sym, true, true≢false, zero, ℕ, ◌%◌, ◌++◌, ◌+◌, ◌<◌, ◌==◌, ◌∙◌, ◌∷◌, ◌≡◌, ◌≤◌}
 use Rattle.std.specs.Prelude.{if◌then◌else◌, ◌⊎◌}
 use Rattle.std.specs.List.{AllByRecursion, IsDistinct, list_any}
 use Rattle.std.proofs.Math.Dec.{eqb}
-use Rattle.std.proofs.lemmas.Bool.{false_from_ne_true, ltb-true, ne_eqb, or_cases}
-use Rattle.std.proofs.lemmas.List.{append-nil, take_more}
+use Rattle.std.proofs.lemmas.Bool.{false_from_ne_true, ne_eqb, or_cases}
 use Rattle.std.proofs.lemmas.Map.Keys.{IsDistinct-cons}
 use Rattle.std.proofs.lemmas.Map.Steps.{length-le_from_distinct_below}
 use Rattle.mu_model.specs.declared.config.Config.{Config}
 use Rattle.mu_model.specs.Contents.{IsConfig, IsInSession, client_of, counted, holds_all, includes, is_batch, number_of, numbers_in, rest_of, row_count, rows_from, rows_in, rows_of, session}
 use Rattle.mu_model.proofs.Basics.{same_number}
-use Rattle.mu_model.proofs.Scans.{all_at, rows_in-append}
+use Rattle.mu_model.proofs.Scans.{all_at}
 use Rattle.mu_agree.proofs.Sessions.{row_within}
 use Rattle.mu_agree.proofs.Sound.{Failing, some_fails}
 use Rattle.mu_lead.proofs.Due.{last_there}
@@ -205,41 +204,3 @@ all_held c values config s = go (holds_all c values) refl
                 by_test : (t : Bool) → (f.who == q) ≡ t → (if t then true else includes q (rows_in c values)) ≡ true → q < row_count c
                 by_test true here is = let same = eqb-true f.who q here in let low = f.below in omega (arith, same, low)
                 by_test false here is = rows_below c values q config is
-
--- how many rows one entry more has
-pub rows_more : (c : Config) (i : ℕ) (values : List ℕ) → i < length values → length (rows_in c (take (i + 1) values)) ≡ length (rows_in c (take i values)) + length (rows_of c (get_or values i 0))
-rows_more c i values low =
-    ap (λ xs. length (rows_in c xs)) (take_more values i 0 low) ∙ ap length (rows_in-append c (take i values) (get_or values i 0 ∷ []))
-    ∙ length-append (rows_in c (take i values)) (rows_of c (get_or values i 0) ++ []) ∙ ap (λ xs. length (rows_in c (take i values)) + length xs) (append-nil (rows_of c (get_or values i 0)))
-
-from_length : (n j : ℕ) → length (rows_from n j) ≡ n
-from_length zero j = refl
-from_length (suc n) j = ap suc (from_length n (j + 1))
-
--- how many rows an entry has
-pub rows_count : (c : Config) (v : ℕ) (t : Bool) → is_batch c v ≡ t → length (rows_of c v) ≡ (if t then rest_of c (v % 4096) + 1 else 0)
-rows_count c v true is = rw is (from_length (rest_of c (v % 4096) + 1) (v % 4096))
-rows_count c v false is = rw is refl
-
-few_of : (c : Config) (v : ℕ) (t : Bool) → IsConfig c → is_batch c v ≡ t → length (rows_of c v) ≤ c.width
-few_of c v true config is =
-    let rows = rows_count c v true is in
-    let low = config.rests (v % 4096) (row_within c v is) in
-    omega (arith, rows, low)
-few_of c v false config is = let rows = rows_count c v false is in omega (arith, rows)
-
--- each entry has no more rows than a batch may have
-rows_few : (c : Config) (values : List ℕ) → IsConfig c → length (rows_in c values) ≤ length values * c.width
-rows_few c [] config = omega arith
-rows_few c (v ∷ values) config =
-    let long = length-append (rows_of c v) (rows_in c values) in
-    let first = few_of c v (is_batch c v) config refl in
-    let rest = rows_few c values config in
-    omega (arith, long, first, rest)
-
--- in session, the entries lack a command if they are too few to have all rows
-pub lacks_some : (c : Config) (values : List ℕ) → IsConfig c → IsInSession c values → nat_lt (length values * c.width) (row_count c) ≡ true → false ≡ holds_all c values
-lacks_some c values config s low =
-    let few = rows_few c values config in
-    let short = ltb-true (length values * c.width) (row_count c) low in
-    sym (ne_eqb (length (rows_in c values)) (row_count c) (λ same. absurd (omega (arith, few, short, same)))) ∙ all_held c values config s

@@ -26,7 +26,6 @@ mod Listed
 mod Looks
 mod LooksBeside
 mod Losses
-mod Marks
 mod Misses
 mod NextRows
 mod NoteKinds

@@ -13,7 +13,7 @@ use Rattle.mu_model.specs.Knowledge.{grown, is_put_done, known, learnt_by, lands
 use Rattle.mu_model.specs.Leaderships.{begins_leadership, is_member, leadership}
 use Rattle.mu_model.specs.Parts.{IsPossible}
 use Rattle.mu_model.specs.Picks.{entry_of, highest_accepted, is_mark_offer, is_offer, is_past, is_past_look, larger, last_look, look_answer, may_pick_at, may_propose, value_put}
-use Rattle.mu_model.specs.Placing.{IsNew}
+use Rattle.mu_model.specs.Points.{AreMet, new_values}
 use Rattle.mu_model.specs.Room.{is_mark_candidate, lacks_room, head_read, last_head, reserve}
 use Rattle.mu_model.specs.Scores.{is_failed}
 use Rattle.mu_model.proofs.Basics.{event_by, none_some, or_true, same_number, true_or}
@@ -27,6 +27,7 @@ use Rattle.mu_knowledge.specs.Offers.{IsFirst}
 use Rattle.mu_lead.proofs.Bringing.{look_event, looked_now}
 use Rattle.mu_lead.proofs.Keeping.{leads_kept}
 use Rattle.mu_lead.proofs.Sights.{all_empty}
+use Rattle.mu_model.proofs.Putting.{new_met}
 
 -- the event of a head that was read
 abbrev pub head_event : ℕ → ℕ → ℕ → Event
@@ -271,10 +272,10 @@ either_way true n h = h refl
 either_way false n h = refl
 
 -- the value that is picked may be put
-pub new_picked : (c : Config) (r b v : ℕ) (mine : List Event) (up : List ℕ) (reach : List (Option ℕ)) (candidate : Option ℕ) (best : Option Sight) → Looking c r b mine up reach c.replicas candidate best → MayOffer c r mine candidate v → IsNew c r mine (end_of c r mine) v
+pub new_picked : (c : Config) (r b v : ℕ) (mine : List Event) (up : List ℕ) (reach : List (Option ℕ)) (candidate : Option ℕ) (best : Option Sight) → Looking c r b mine up reach c.replicas candidate best → MayOffer c r mine candidate v → AreMet c r mine (new_values c r mine (end_of c r mine) v)
 new_picked c r b v mine up reach candidate best l may =
     let i = end_of c r mine in
-    record {
+    (new_met c r mine i v).1 record {
       next = refl;
       room = each_all c.replicas (leaves_room c r mine i 0) (λ k low. l.roomy.room k low);
       reserve_kept = λ fresh. each_all c.replicas (leaves_room c r mine i (reserve c)) (λ k low. l.roomy.free (may.fresh fresh) k low);

@@ -15,7 +15,8 @@ use Rattle.mu_model.specs.Histories.{all_below, has, newer_or, since}
 use Rattle.mu_model.specs.Knowledge.{known, wrote_batch}
 use Rattle.mu_model.specs.Leaderships.{is_member, leadership, proposal_number}
 use Rattle.mu_model.specs.Picks.{entry_of, first_value, highest_accepted, is_past_look, larger, last_look, look_answer, may_pick_at, may_propose, pick}
-use Rattle.mu_model.specs.Placing.{IsNew, has_looked_since, is_good_look, is_slot_put_at, looked_before_entering, since_joining}
+use Rattle.mu_model.specs.Placing.{has_looked_since, is_good_look, is_slot_put_at, looked_before_entering, since_joining}
+use Rattle.mu_model.specs.Points.{AreMet, new_values}
 use Rattle.mu_model.specs.Room.{is_mark_candidate, last_head, reserve}
 use Rattle.mu_model.proofs.Scans.{all_at, each_all}
 use Rattle.mu_agree.proofs.Landings.{has_more}
@@ -31,6 +32,7 @@ use Rattle.mu_lead.proofs.Bringing.{behind_looked, look_event, look_known}
 use Rattle.mu_lead.proofs.Calm.{number_calm}
 use Rattle.mu_lead.proofs.Keeping.{leads_kept, most_on, source_calm}
 use Rattle.mu_lead.proofs.Looks.{level_looked, roomy_looked}
+use Rattle.mu_model.proofs.Putting.{new_met}
 
 -- it is no look at the position i
 no_look : (s t k : Bool) (a : Answer) → k ≡ false → cond (s && (t && k)) (Some a) None ≡ None
@@ -90,16 +92,18 @@ proposed_else c r q u i v a mine None other same is =
     (each_all c.replicas (λ p. not (is_member r p mine) || is_some (last_look r p i now)) (λ p low. ap (λ o. not (is_member r p mine) || is_some o) (last_else r p q u i a mine other) ∙ all_at c.replicas (λ k. not (is_member r k mine) || is_some (last_look r k i mine)) parts.0 p low))
     (subst (λ o. pick c r now v o ≡ true) (sym (shows_else r q u i c.replicas a mine other)) (picked_else c r q u v a mine (highest_accepted r i mine c.replicas) same parts.1))
 
-new_else : (c : Config) (r q u i v : ℕ) (a : Answer) (mine : List Event) → u ≢ i → known c r (look_event r q u a ∷ mine) ≡ known c r mine → IsNew c r mine i v → IsNew c r (look_event r q u a ∷ mine) i v
-new_else c r q u i v a mine other same n = record {
-  next = n.next ∙ sym (ap length same);
-  room = subst (λ values. all_below c.replicas (λ k. marked c k values || nat_lt (i + 0) (last_head r k mine + c.ring)) ≡ true) (sym same) n.room;
-  reserve_kept = λ fresh. subst (λ values. all_below c.replicas (λ k. marked c k values || nat_lt (i + reserve c) (last_head r k mine + c.ring)) ≡ true) (sym same)
-      (n.reserve_kept (sym (ap (λ o. is_batch c v && is_none o) (shows_else r q u i c.replicas a mine other)) ∙ fresh));
-  none_past = each_all c.replicas (λ p. not (is_member r p mine && has_seen_past r p i (look_event r q u a ∷ leadership r mine)))
-      (λ p low. ap (λ t. not (is_member r p mine && t)) (has_else is_past_look r p q u i a (leadership r mine) refl other) ∙ all_at c.replicas (λ k. not (is_member r k mine && has_seen_past r k i (leadership r mine))) n.none_past p low);
-  value = proposed_else c r q u i v a mine (first_value r i mine) other same n.value;
-}
+new_else : (c : Config) (r q u i v : ℕ) (a : Answer) (mine : List Event) → u ≢ i → known c r (look_event r q u a ∷ mine) ≡ known c r mine → AreMet c r mine (new_values c r mine i v) → AreMet c r (look_event r q u a ∷ mine) (new_values c r (look_event r q u a ∷ mine) i v)
+new_else c r q u i v a mine other same met =
+    let n = (new_met c r mine i v).0 met in
+    (new_met c r (look_event r q u a ∷ mine) i v).1 record {
+      next = n.next ∙ sym (ap length same);
+      room = subst (λ values. all_below c.replicas (λ k. marked c k values || nat_lt (i + 0) (last_head r k mine + c.ring)) ≡ true) (sym same) n.room;
+      reserve_kept = λ fresh. subst (λ values. all_below c.replicas (λ k. marked c k values || nat_lt (i + reserve c) (last_head r k mine + c.ring)) ≡ true) (sym same)
+          (n.reserve_kept (sym (ap (λ o. is_batch c v && is_none o) (shows_else r q u i c.replicas a mine other)) ∙ fresh));
+      none_past = each_all c.replicas (λ p. not (is_member r p mine && has_seen_past r p i (look_event r q u a ∷ leadership r mine)))
+          (λ p low. ap (λ t. not (is_member r p mine && t)) (has_else is_past_look r p q u i a (leadership r mine) refl other) ∙ all_at c.replicas (λ k. not (is_member r k mine && has_seen_past r k i (leadership r mine))) n.none_past p low);
+      value = proposed_else c r q u i v a mine (first_value r i mine) other same n.value;
+    }
 
 near_else : (c : Config) (r b q u : ℕ) (a : Answer) (mine : List Event) (up : List ℕ) (reach : List (Option ℕ)) (p : ℕ) (on : Then) → known c r (look_event r q u a ∷ mine) ≡ known c r mine → Near c r b mine up reach p on → Near c r b (look_event r q u a ∷ mine) up reach p on
 near_else c r b q u a mine up reach p on same h = record { behind = behind_looked c r b p q u a mine up reach on same h.behind; lacks = subst (λ values. get_or up p 0 < length values) (sym same) h.lacks; near = h.near }
@@ -139,7 +143,7 @@ offering_else c r b v q u a mine up reach p other same o = record {
   raised = o.raised;
   few = λ k region member. subst (λ values. get_or up k 0 ≤ length values) (sym same) (o.few k region member);
   within = subst (λ values. length values ≤ row_count c + reserve c) (sym same) o.within;
-  new = subst (λ values. IsNew c r (look_event r q u a ∷ mine) (length values) v) (sym same) (new_else c r q u (end_of c r mine) v a mine other same o.new);
+  new = subst (λ values. AreMet c r (look_event r q u a ∷ mine) (new_values c r (look_event r q u a ∷ mine) (length values) v)) (sym same) (new_else c r q u (end_of c r mine) v a mine other same o.new);
   below = λ k low member. subst (λ values. took r k (length values) b v mine ≡ true) (sym same) (o.below k low member);
   above = λ k more. subst (λ values. took r k (length values) b v mine ≡ false) (sym same) (o.above k more);
   unput = λ i more. o.unput i (subst (λ values. length values < i) same more);

@@ -7,14 +7,13 @@ use Rattle.mu_model.specs.declared.config.Config.{Config}
 use Rattle.mu_model.specs.declared.event.Answer.{Answer}
 use Rattle.mu_model.specs.declared.event.Event.{Event}
 use Rattle.mu_model.specs.declared.event.Verb.{Verb}
-use Rattle.mu_model.specs.Allowed.{last_ask}
+use Rattle.mu_model.specs.Points.{AreMet, last_ask, new_values}
 use Rattle.mu_model.specs.Contents.{client_of, command_count, is_batch, is_mark, marked, number_of}
 use Rattle.mu_model.specs.Histories.{all_below, newest}
 use Rattle.mu_model.specs.Knowledge.{known, wrote_batch}
 use Rattle.mu_model.specs.Leaderships.{begins_leadership, is_member, proposal_number}
 use Rattle.mu_model.specs.Parts.{IsPossible}
 use Rattle.mu_model.specs.Picks.{first_value, highest_accepted, is_mark_offer, is_offer, last_look, may_pick_at, may_propose, pick}
-use Rattle.mu_model.specs.Placing.{IsNew}
 use Rattle.mu_model.specs.Room.{head_read, is_mark_candidate, lacks_room, reserve}
 use Rattle.mu_model.specs.Scores.{is_failed}
 use Rattle.mu_model.proofs.Basics.{event_by, or_true, true_or}
@@ -36,6 +35,7 @@ use Rattle.mu_lead.proofs.Keeping.{leading_calm, leads_kept, source_calm, most_o
 use Rattle.mu_lead.proofs.Looks.{head_event}
 use Rattle.mu_lead.proofs.Sights.{keeps_looks, shows_kept}
 use Rattle.mu_lead.proofs.Tables.{tables_kept}
+use Rattle.mu_model.proofs.Putting.{new_met}
 
 -- a mark that may be offered still may
 not_all : (n : ℕ) (f g : ℕ → Bool) → ((q : ℕ) → g q ≡ true → f q ≡ true) → not (all_below n f) ≡ true → not (all_below n g) ≡ true
@@ -76,14 +76,16 @@ proposed_head c r q h i v mine None is =
     and_from (all_below c.replicas (λ p. not (is_member r p mine) || is_some (last_look r p i mine))) (may_pick_at c r (head_event r q h ∷ mine) i v) parts.0 (picked_head c r q h v mine (highest_accepted r i mine c.replicas) parts.1)
 
 -- a new value may be put after a head that was read in between
-new_head : (c : Config) (r q h i v : ℕ) (mine : List Event) → IsPossible c r (head_event r q h ∷ mine) → IsNew c r mine i v → IsNew c r (head_event r q h ∷ mine) i v
-new_head c r q h i v mine possible n = record {
-  next = n.next;
-  room = each_all c.replicas (leaves_room c r (head_event r q h ∷ mine) i 0) (λ k low. room_more c r i 0 k (head_event r q h) mine possible refl (all_at c.replicas (leaves_room c r mine i 0) n.room k low));
-  reserve_kept = λ fresh. each_all c.replicas (leaves_room c r (head_event r q h ∷ mine) i (reserve c)) (λ k low. room_more c r i (reserve c) k (head_event r q h) mine possible refl (all_at c.replicas (leaves_room c r mine i (reserve c)) (n.reserve_kept fresh) k low));
-  none_past = n.none_past;
-  value = proposed_head c r q h i v mine (first_value r i mine) n.value;
-}
+new_head : (c : Config) (r q h i v : ℕ) (mine : List Event) → IsPossible c r (head_event r q h ∷ mine) → AreMet c r mine (new_values c r mine i v) → AreMet c r (head_event r q h ∷ mine) (new_values c r (head_event r q h ∷ mine) i v)
+new_head c r q h i v mine possible met =
+    let n = (new_met c r mine i v).0 met in
+    (new_met c r (head_event r q h ∷ mine) i v).1 record {
+      next = n.next;
+      room = each_all c.replicas (leaves_room c r (head_event r q h ∷ mine) i 0) (λ k low. room_more c r i 0 k (head_event r q h) mine possible refl (all_at c.replicas (leaves_room c r mine i 0) n.room k low));
+      reserve_kept = λ fresh. each_all c.replicas (leaves_room c r (head_event r q h ∷ mine) i (reserve c)) (λ k low. room_more c r i (reserve c) k (head_event r q h) mine possible refl (all_at c.replicas (leaves_room c r mine i (reserve c)) (n.reserve_kept fresh) k low));
+      none_past = n.none_past;
+      value = proposed_head c r q h i v mine (first_value r i mine) n.value;
+    }
 
 fresh_beside : (c : Config) (r : ℕ) (verb : Verb) (answer : Answer) (mine : List Event) → is_beside false verb ≡ true → Fresh r mine → Fresh r (event_by r verb answer ∷ mine)
 fresh_beside c r (Verb.Ask q) answer mine beside h = absurd (true≢false (sym beside))
@@ -147,18 +149,22 @@ proposed_row c r i v j k x answer mine None is =
     let parts = and_parts (all_below c.replicas (λ p. not (is_member r p mine) || is_some (last_look r p i mine))) (may_pick_at c r mine i v) is in
     and_from (all_below c.replicas (λ p. not (is_member r p mine) || is_some (last_look r p i mine))) (may_pick_at c r (event_by r (Verb.WriteRow j k x) answer ∷ mine) i v) parts.0 (picked_row c r v j k x answer mine (highest_accepted r i mine c.replicas) parts.1)
 
-new_beside : (c : Config) (r : ℕ) (verb : Verb) (answer : Answer) (mine : List Event) (i v : ℕ) → is_beside true verb ≡ true → IsPossible c r (event_by r verb answer ∷ mine) → IsNew c r mine i v → IsNew c r (event_by r verb answer ∷ mine) i v
-new_beside c r (Verb.Ask q) answer mine i v beside possible n = absurd (true≢false (sym beside))
-new_beside c r (Verb.Fence q) answer mine i v beside possible n = absurd (true≢false (sym beside))
-new_beside c r (Verb.Min q) answer mine i v beside possible n = absurd (true≢false (sym beside))
-new_beside c r (Verb.Enter q t) answer mine i v beside possible n = absurd (true≢false (sym beside))
-new_beside c r (Verb.PutMin q m) answer mine i v beside possible n = absurd (true≢false (sym beside))
-new_beside c r (Verb.PutSlot q u m w) answer mine i v beside possible n = absurd (true≢false (sym beside))
-new_beside c r (Verb.WriteRow j k x) answer mine i v beside possible n = record { next = n.next; room = n.room; reserve_kept = n.reserve_kept; none_past = n.none_past; value = proposed_row c r i v j k x answer mine (first_value r i mine) n.value }
-new_beside c r (Verb.Fuo q) answer mine i v beside possible n = absurd (true≢false (sym beside))
-new_beside c r (Verb.Look q u) answer mine i v beside possible n = absurd (true≢false (sym beside))
-new_beside c r (Verb.Head q) (Answer.Number h) mine i v beside possible n = new_head c r q h i v mine possible n
-new_beside c r verb answer mine i v beside possible n = record { next = n.next; room = n.room; reserve_kept = n.reserve_kept; none_past = n.none_past; value = n.value }
+new_beside : (c : Config) (r : ℕ) (verb : Verb) (answer : Answer) (mine : List Event) (i v : ℕ) → is_beside true verb ≡ true → IsPossible c r (event_by r verb answer ∷ mine) → AreMet c r mine (new_values c r mine i v) → AreMet c r (event_by r verb answer ∷ mine) (new_values c r (event_by r verb answer ∷ mine) i v)
+new_beside c r (Verb.Ask q) answer mine i v beside possible met = absurd (true≢false (sym beside))
+new_beside c r (Verb.Fence q) answer mine i v beside possible met = absurd (true≢false (sym beside))
+new_beside c r (Verb.Min q) answer mine i v beside possible met = absurd (true≢false (sym beside))
+new_beside c r (Verb.Enter q t) answer mine i v beside possible met = absurd (true≢false (sym beside))
+new_beside c r (Verb.PutMin q m) answer mine i v beside possible met = absurd (true≢false (sym beside))
+new_beside c r (Verb.PutSlot q u m w) answer mine i v beside possible met = absurd (true≢false (sym beside))
+new_beside c r (Verb.WriteRow j k x) answer mine i v beside possible met =
+    let n = (new_met c r mine i v).0 met in
+    (new_met c r (event_by r (Verb.WriteRow j k x) answer ∷ mine) i v).1 record { next = n.next; room = n.room; reserve_kept = n.reserve_kept; none_past = n.none_past; value = proposed_row c r i v j k x answer mine (first_value r i mine) n.value }
+new_beside c r (Verb.Fuo q) answer mine i v beside possible met = absurd (true≢false (sym beside))
+new_beside c r (Verb.Look q u) answer mine i v beside possible met = absurd (true≢false (sym beside))
+new_beside c r (Verb.Head q) (Answer.Number h) mine i v beside possible met = new_head c r q h i v mine possible met
+new_beside c r verb answer mine i v beside possible met =
+    let n = (new_met c r mine i v).0 met in
+    (new_met c r (event_by r verb answer ∷ mine) i v).1 record { next = n.next; room = n.room; reserve_kept = n.reserve_kept; none_past = n.none_past; value = n.value }
 
 keeps_beside : (verb : Verb) → is_beside true verb ≡ true → keeps_looks verb ≡ true
 keeps_beside (Verb.Ask q) beside = absurd (true≢false (sym beside))

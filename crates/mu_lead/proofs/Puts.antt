@@ -15,7 +15,8 @@ use Rattle.mu_model.specs.Knowledge.{fills, greatest_fuo_read, grown, is_accepte
 use Rattle.mu_model.specs.Leaderships.{begins_leadership, grant_at_joining, has_quorum, is_member, is_over, leadership, noted_grant, proposal_number}
 use Rattle.mu_model.specs.Parts.{IsPossible}
 use Rattle.mu_model.specs.Picks.{first_value, is_joining, joined_since_first_put, may_propose, value_put}
-use Rattle.mu_model.specs.Placing.{IsNew, is_caught_up_at, is_known_put, has_looked_since}
+use Rattle.mu_model.specs.Placing.{is_caught_up_at, is_known_put, has_looked_since}
+use Rattle.mu_model.specs.Points.{AreMet, new_values}
 use Rattle.mu_model.specs.Room.{last_head, reserve}
 use Rattle.mu_model.proofs.Basics.{event_by, or_true, same_number, true_or}
 use Rattle.mu_model.proofs.Lists.{get_push_here}
@@ -31,12 +32,15 @@ use Rattle.mu_lead.proofs.Copying.{read_less}
 use Rattle.mu_lead.proofs.Keeping.{leads_kept, raise_event, raised_other}
 use Rattle.mu_lead.proofs.Tables.{brought_kept, caught_up_with}
 use Rattle.mu_lead.proofs.Looks.{four, either_way, earlier_none}
+use Rattle.mu_model.proofs.Putting.{new_met}
 
 held_same : (c : Config) (r : ℕ) (e : Event) (mine : List Event) → HoldsGrants c r mine → ((q : ℕ) → HasGrant r q mine → HasGrant r q (e ∷ mine)) → ((q : ℕ) → is_member r q (e ∷ mine) ≡ true → is_member r q mine ≡ true) → HoldsGrants c r (e ∷ mine)
 held_same c r e mine held on was q region member = on q (held q region (was q member))
 
-new_entered : (c : Config) (r p s i v : ℕ) (mine : List Event) → IsNew c r mine i v → IsNew c r (enter_event r p s ∷ mine) i v
-new_entered c r p s i v mine n = record { next = n.next; room = n.room; reserve_kept = n.reserve_kept; none_past = n.none_past; value = n.value }
+new_entered : (c : Config) (r p s i v : ℕ) (mine : List Event) → AreMet c r mine (new_values c r mine i v) → AreMet c r (enter_event r p s ∷ mine) (new_values c r (enter_event r p s ∷ mine) i v)
+new_entered c r p s i v mine met =
+    let n = (new_met c r mine i v).0 met in
+    (new_met c r (enter_event r p s ∷ mine) i v).1 record { next = n.next; room = n.room; reserve_kept = n.reserve_kept; none_past = n.none_past; value = n.value }
 
 looked_on : (c : Config) (r p s q i : ℕ) (mine : List Event) → is_member r q mine ≡ true → has_looked_since c r q i mine ≡ true → has_looked_since c r q i (enter_event r p s ∷ mine) ≡ true
 looked_on c r p s q i mine member looked = rw member looked
@@ -154,14 +158,16 @@ leaves_as : (c : Config) (r : ℕ) (mine : List Event) (values : List ℕ) (i fr
     → all_below c.replicas (λ q. marked c q values || nat_lt (i + free) (last_head r q mine + c.ring)) ≡ true
 leaves_as c r mine values i free same is = subst (λ xs. all_below c.replicas (λ q. marked c q xs || nat_lt (i + free) (last_head r q mine + c.ring)) ≡ true) same is
 
-new_put : (c : Config) (r p i b v : ℕ) (mine : List Event) → known c r (put_event r p i b v ∷ mine) ≡ known c r mine → IsNew c r mine i v → IsNew c r (put_event r p i b v ∷ mine) i v
-new_put c r p i b v mine same n = record {
-  next = n.next ∙ sym (ap length same);
-  room = leaves_as c r mine (known c r (put_event r p i b v ∷ mine)) i 0 (sym same) n.room;
-  reserve_kept = λ fresh. leaves_as c r mine (known c r (put_event r p i b v ∷ mine)) i (reserve c) (sym same) (n.reserve_kept fresh);
-  none_past = n.none_past;
-  value = rw (same_number r, same_number i) (proposed_on c r p i b v mine (first_value r i mine) refl n.value);
-}
+new_put : (c : Config) (r p i b v : ℕ) (mine : List Event) → known c r (put_event r p i b v ∷ mine) ≡ known c r mine → AreMet c r mine (new_values c r mine i v) → AreMet c r (put_event r p i b v ∷ mine) (new_values c r (put_event r p i b v ∷ mine) i v)
+new_put c r p i b v mine same met =
+    let n = (new_met c r mine i v).0 met in
+    (new_met c r (put_event r p i b v ∷ mine) i v).1 record {
+      next = n.next ∙ sym (ap length same);
+      room = leaves_as c r mine (known c r (put_event r p i b v ∷ mine)) i 0 (sym same) n.room;
+      reserve_kept = λ fresh. leaves_as c r mine (known c r (put_event r p i b v ∷ mine)) i (reserve c) (sym same) (n.reserve_kept fresh);
+      none_past = n.none_past;
+      value = rw (same_number r, same_number i) (proposed_on c r p i b v mine (first_value r i mine) refl n.value);
+    }
 
 looked_put : (c : Config) (r p i b v q : ℕ) (mine : List Event) → is_member r q mine ≡ true → p ≢ q → has_looked_since c r q i mine ≡ true → has_looked_since c r q i (put_event r p i b v ∷ mine) ≡ true
 looked_put c r p i b v q mine member other looked = rw (member, same_number r, ne_eqb p q other) looked
@@ -198,7 +204,7 @@ enters_next c r b v p q from mine up reach at is first =
         raised = o.raised;
         few = subst (λ values. HaveAtMost c r mine up (length values)) (sym same) o.few;
         within = subst (λ values. length values ≤ row_count c + reserve c) (sym same) o.within;
-        new = subst (λ x. IsNew c r (put_event r p i b v ∷ mine) x v) (sym (ap length same)) (new_put c r p i b v mine same o.new);
+        new = subst (λ x. AreMet c r (put_event r p i b v ∷ mine) (new_values c r (put_event r p i b v ∷ mine) x v)) (sym (ap length same)) (new_put c r p i b v mine same o.new);
         below = subst (λ x. (k : ℕ) → k < q → is_member r k mine ≡ true → took r k x b v (put_event r p i b v ∷ mine) ≡ true) (sym (ap length same)) (below_put c r b v p q mine up reach o none);
         above = subst (λ x. (k : ℕ) → q ≤ k → took r k x b v (put_event r p i b v ∷ mine) ≡ false) (sym (ap length same))
             (λ k more. took_other r p k i b v mine (λ e. (let low = first.0 in omega (arith, low, is, e, more))) ∙ o.above k (let low = first.0 in omega (arith, low, is, more)));

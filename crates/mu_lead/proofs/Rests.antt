@@ -1,5 +1,5 @@
 -- If nothing is due, all commands are known, and every region is a member.
-use Rattle.std.proofs.Common.{Bool, List, arith, false, length, subst, sym, true, ℕ, ◌+◌, ◌<◌, ◌≡◌, ◌≤◌}
+use Rattle.std.proofs.Common.{Bool, List, arith, false, subst, sym, true, ℕ, ◌+◌, ◌<◌, ◌≡◌, ◌≤◌}
 use Rattle.std.specs.Prelude.{not}
 use Rattle.mu_model.specs.declared.config.Config.{Config}
 use Rattle.mu_model.specs.declared.event.Event.{Event}
@@ -11,7 +11,6 @@ use Rattle.mu_model.specs.Room.{reserve}
 use Rattle.mu_agree.proofs.Fitting.{parts_fit_law}
 use Rattle.mu_agree.proofs.NextBatch.{parts_have_next_law}
 use Rattle.mu_agree.proofs.Possible.{parts_in_session_law}
-use Rattle.mu_agree.proofs.Within.{known_few}
 use Rattle.mu_lead.specs.Leading.{end_of}
 use Rattle.mu_lead.specs.Offering.{AtRest}
 use Rattle.mu_knowledge.specs.Offers.{IsNextRow}
@@ -19,9 +18,9 @@ use Rattle.mu_pace.proofs.Pasts.{not_false}
 
 -- what is asked of the known list is asked of what the replica knows
 pub knows_is : (c : Config) (r : ℕ) (mine : List Event) (values : List ℕ) (told : Bool) → IsConfig c → IsPossible c r mine → values ≡ known c r mine
-    → (length values < 65536 → IsConfig c → IsInSession c values → told ≡ holds_all c values) → told ≡ holds_all c (known c r mine)
+    → (IsConfig c → IsInSession c values → told ≡ holds_all c values) → told ≡ holds_all c (known c r mine)
 knows_is c r mine values told config possible same is =
-    subst (λ xs. told ≡ holds_all c xs) same (is (subst (λ xs. length xs < 65536) (sym same) (known_few c r mine config possible)) config (subst (IsInSession c) (sym same) (parts_in_session_law c r mine config possible)))
+    subst (λ xs. told ≡ holds_all c xs) same (is config (subst (IsInSession c) (sym same) (parts_in_session_law c r mine config possible)))
 
 -- all is known and no region is left
 pub rests : (c : Config) (r : ℕ) (mine : List Event) → holds_all c (known c r mine) ≡ true → ((k : ℕ) → 0 ≤ k → k < c.replicas → not (is_member r k mine) ≡ false) → AtRest c r mine

@@ -4,7 +4,7 @@ use Rattle.std.specs.Prelude.{List, None, Some, false, is_some, true, ℕ, ◌++
 use Rattle.mu_model.specs.declared.config.Config.{Config}
 use Rattle.mu_model.specs.declared.event.Event.{Event}
 use Rattle.mu_model.specs.declared.event.Target.{Target}
-use Rattle.mu_model.specs.Allowed.{last_ask}
+use Rattle.mu_model.specs.Points.{last_ask}
 use Rattle.mu_model.specs.Entering.{any_min_read, has_read_min, number_allowed, open_target}
 use Rattle.mu_model.specs.Histories.{count_below, greatest, newest}
 use Rattle.mu_model.specs.Leaderships.{grant_at_joining, has_begun, is_member, is_over, leadership, majority_of, noted_grant, proposal_number}

@@ -12,7 +12,8 @@ use Rattle.mu_model.specs.Histories.{all_below, has}
 use Rattle.mu_model.specs.Knowledge.{known, lands_entry, wrote}
 use Rattle.mu_model.specs.Leaderships.{has_begun, has_quorum, is_member, is_over, leadership, proposal_number}
 use Rattle.mu_model.specs.Picks.{entry_of, first_value, highest_accepted, is_fresh_batch, is_past_look, last_look, look_answer, may_pick_at}
-use Rattle.mu_model.specs.Placing.{IsNew, looked_before_entering, has_looked_since}
+use Rattle.mu_model.specs.Placing.{looked_before_entering, has_looked_since}
+use Rattle.mu_model.specs.Points.{AreMet, new_values}
 use Rattle.mu_model.specs.Room.{is_mark_candidate, last_head, reserve}
 use Rattle.mu_lead.specs.declared.place.Offer.{Offer}
 use Rattle.mu_lead.specs.declared.place.Sight.{Sight}
@@ -166,7 +167,7 @@ pub record Offering (c : Config) (r b v : ℕ) (mine : List Event) (up : List �
   pub raised : RaisedBelow r mine up reach c.replicas
   pub few : HaveAtMost c r mine up (end_of c r mine)
   pub within : end_of c r mine ≤ row_count c + reserve c
-  pub new : IsNew c r mine (end_of c r mine) v
+  pub new : AreMet c r mine (new_values c r mine (end_of c r mine) v)
   pub below :
       (q : ℕ) → q < p → is_member r q mine ≡ true → took r q (end_of c r mine) b v mine ≡ true
   pub above : (q : ℕ) → p ≤ q → took r q (end_of c r mine) b v mine ≡ false

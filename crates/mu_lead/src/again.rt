@@ -44,7 +44,11 @@ impl Lead {
             → result
             ≡ nat_lt 0 (count_below self.now.config.replicas (λ p. is_astray self.now.id mine p)) }
     {
-        self.first_astray(failed).is_some()
+        if self.leading.has_short_rows() {
+            false
+        } else {
+            self.first_astray(failed).is_some()
+        }
     }
 
     /// Whether the leadership goes on under its number, and some region has gone astray. `failed`

@@ -1,88 +1,20 @@
-//! Commands and marks among the known values, and what a replica offers next.
-ghost use Rattle.std.specs.Prelude.{List, None, is_some, ℕ, [], ◌*◌, ◌++◌, ◌+◌, ◌<◌, ◌∷◌, ◌≡◌, ◌≤◌, length, nat_lt, not};
-ghost use Rattle.mu_model.specs.Contents.{IsConfig, IsInSession, client_of, holds_all, marked, row_count, rows_in, rows_of as rows_of_entry};
+//! Whether all commands are known, and what a replica offers next.
+ghost use Rattle.std.specs.Prelude.{List, None, is_some, ℕ, ◌*◌, ◌+◌, ◌<◌, ◌≡◌, ◌≤◌, length};
+ghost use Rattle.mu_model.specs.Contents.{IsConfig, IsInSession, client_of, holds_all};
 ghost use Rattle.mu_knowledge.specs.KnownLog.{HoldsValues};
 ghost use Rattle.mu_knowledge.specs.Offers.{IsNextRow, NamesRow, batch_of, first_in};
 ghost use Rattle.mu_lead.specs.Listing.{batch_of_named, own_offer};
 
 use mu_knowledge::KnownLog;
-use mu_model::{Config, count_of_rows, row_rest, stands_for_batch, stands_for_mark};
+use mu_model::{Config, count_of_rows};
 
-/// Whether a mark of `q` is among some values and `v`.
-#[tactic(auto, using(mu_model::proofs::Scans::marked_after))]
-fn mark_added(config: &Config, q: u8, found: bool, v: u16) -> bool
-    ensures { (values : List ℕ) → marked config.now q values ≡ found
-        → result ≡ marked config.now q (values ++ v ∷ []) }
+/// Whether all commands are known, by how many they are: no row is among theirs twice.
+#[tactic(auto, using(crate::proofs::Held::all_held))]
+pub(crate) fn knows_all(config: &Config, log: &KnownLog) -> bool
+    ensures { (values : List ℕ) → HoldsValues config.now values log.now → IsConfig config.now
+        → IsInSession config.now values → result ≡ holds_all config.now values }
 {
-    found || stands_for_mark(config, q, v)
-}
-
-/// Whether a mark of `q` is among the values. In the first version there are none.
-#[tactic(auto, using(crate::proofs::Marks::no_marks))]
-pub(crate) fn is_marked(config: &Config, q: u8, known: &[u16]) -> bool
-    ensures { result ≡ marked config.now q known.now }
-{
-    if config.version != 2 {
-        return false;
-    }
-    let mut found = false;
-    for v in known {
-        found = mark_added(config, q, found, *v);
-    }
-    found
-}
-
-/// The values, if they are no more than there are positions.
-fn first_values(known: &[u16]) -> &[u16]
-    ensures few { length result.now < 65536 }
-    ensures same { length known.now < 65536 → result.now ≡ known.now }
-{
-    &known[..known.len().min(65_535)]
-}
-
-/// How many rows the entry has: those of its batch, or none of a mark.
-#[tactic(auto, using(crate::proofs::Held::rows_count))]
-fn rows_of(config: &Config, v: u16) -> u64
-    ensures rows { result ≡ length (rows_of_entry config.now v) }
-    ensures few { result ≤ 256 }
-{
-    if stands_for_batch(config, v) {
-        u64::from(row_rest(config, v % 4096)) + 1
-    } else {
-        0
-    }
-}
-
-/// How many rows the values have.
-#[tactic(auto, using(crate::proofs::Held::rows_more))]
-fn rows_held(config: &Config, known: &[u16]) -> u64
-    requires { length known.now < 65536 }
-    ensures { result ≡ length (rows_in config.now known.now) }
-{
-    let mut count: u64 = 0;
-    for v in known {
-        count += rows_of(config, *v);
-    }
-    count
-}
-
-/// Whether this many entries may have all rows: each has no more than a batch may have.
-fn may_hold_all(config: &Config, known: &[u16]) -> bool
-    requires { length known.now < 65536 }
-    ensures { result ≡ not (nat_lt (length known.now * config.now.width) (row_count config.now)) }
-{
-    known.len() as u64 * u64::from(config.width) >= count_of_rows(config) as u64
-}
-
-/// Whether the values, which are in session, hold all commands: no row is among theirs twice. Rows
-/// are counted only if there are enough entries.
-#[tactic(auto, using(crate::proofs::Held::all_held, crate::proofs::Held::lacks_some))]
-pub(crate) fn knows_all(config: &Config, known: &[u16]) -> bool
-    ensures { length known.now < 65536 → IsConfig config.now → IsInSession config.now known.now
-        → result ≡ holds_all config.now known.now }
-{
-    let known = first_values(known);
-    may_hold_all(config, known) && rows_held(config, known) == count_of_rows(config) as u64
+    log.held() == count_of_rows(config)
 }
 
 /// The replica's own payload number of row `j`.

@@ -4,6 +4,7 @@ ghost use Rattle.mu_model.specs.declared.event.Event.{Event};
 ghost use Rattle.mu_model.specs.Knowledge.{known as known_of};
 ghost use Rattle.mu_model.specs.Leaderships.{is_member};
 ghost use Rattle.mu_model.specs.Placing.{is_within_ring};
+ghost use Rattle.mu_knowledge.specs.KnownLog.{HoldsValues};
 ghost use Rattle.mu_knowledge.specs.Offers.{IsFirst};
 ghost use Rattle.mu_lead.specs.Lasting.{tables_of};
 ghost use Rattle.mu_lead.specs.Leading.{end_of as end_of_known};
@@ -13,6 +14,7 @@ ghost use Rattle.mu_lead.specs.Standing.{Stands};
 use crate::lead::Lead;
 use crate::place::{Place, Then};
 use crate::regions::next_member;
+use mu_knowledge::KnownLog;
 
 impl Lead {
     /// The region of the greater FUO, the first at a tie.
@@ -26,8 +28,15 @@ impl Lead {
     }
 
     /// The place after the FUO of `p` was read.
-    pub(crate) fn after_fuo(&self, p: u8, source: Option<u8>, known: &[u16]) -> Place
-        ensures { (mine : List Event) → Stands mine self.now
+    pub(crate) fn after_fuo(
+        &self,
+        p: u8,
+        source: Option<u8>,
+        known: &[u16],
+        log: &KnownLog,
+    ) -> Place
+        ensures { HoldsValues self.now.config known.now log.now
+            → (mine : List Event) → Stands mine self.now
             → known.now ≡ known_of self.now.config self.now.id mine
             → p < self.now.config.replicas
             → result ≡ after_fuo self.now.config self.now.id mine (tables_of self.now) p
@@ -36,20 +45,21 @@ impl Lead {
         let from = self.farther(source, p);
         match next_member(&self.leading, p.saturating_add(1), self.config.replicas) {
             Some(q) => Place::ReadFuo(q, Some(from)),
-            None => self.learn_from(from, known),
+            None => self.learn_from(from, known, log),
         }
     }
 
     /// Learns on from the region, or goes on to bring up the members.
-    pub(crate) fn learn_from(&self, source: u8, known: &[u16]) -> Place
-        ensures { (mine : List Event) → Stands mine self.now
+    pub(crate) fn learn_from(&self, source: u8, known: &[u16], log: &KnownLog) -> Place
+        ensures { HoldsValues self.now.config known.now log.now
+            → (mine : List Event) → Stands mine self.now
             → known.now ≡ known_of self.now.config self.now.id mine
             → result ≡ learn_from self.now.config self.now.id mine (tables_of self.now) source }
     {
         if (known.len() as u64) < self.up_of(source) {
             Place::Learn(source)
         } else {
-            self.bring_up_from(0, Then::Late, known)
+            self.bring_up_from(0, Then::Late, known, log)
         }
     }
 
@@ -71,26 +81,28 @@ impl Lead {
     }
 
     /// Brings up the next member from `p` on that is behind, or goes on.
-    pub(crate) fn bring_up_from(&self, p: u8, then: Then, known: &[u16]) -> Place
-        ensures { (mine : List Event) → Stands mine self.now
+    pub(crate) fn bring_up_from(&self, p: u8, then: Then, known: &[u16], log: &KnownLog) -> Place
+        ensures { HoldsValues self.now.config known.now log.now
+            → (mine : List Event) → Stands mine self.now
             → known.now ≡ known_of self.now.config self.now.id mine
             → result ≡ bring_up_from self.now.config self.now.id mine (tables_of self.now) p then }
     {
         match self.next_behind(p, known) {
             Some(q) => self.bring_up(q, then),
-            None => self.after_all(then, known),
+            None => self.after_all(then, known, log),
         }
     }
 
     /// The place after all members were brought up.
-    fn after_all(&self, then: Then, known: &[u16]) -> Place
-        ensures { (mine : List Event) → Stands mine self.now
+    fn after_all(&self, then: Then, known: &[u16], log: &KnownLog) -> Place
+        ensures { HoldsValues self.now.config known.now log.now
+            → (mine : List Event) → Stands mine self.now
             → known.now ≡ known_of self.now.config self.now.id mine
             → result ≡ after_members self.now.config self.now.id mine self.now.heads then }
     {
         match then {
-            Then::Late => self.late_from(0, known),
-            _ => self.next_position(known),
+            Then::Late => self.late_from(0, known, log),
+            _ => self.next_position(known, log),
         }
     }
 
@@ -145,16 +157,17 @@ impl Lead {
     }
 
     /// The place after `p` was brought up and its FUO raised.
-    pub(crate) fn after_region(&self, p: u8, then: Then, known: &[u16]) -> Place
-        ensures { (now : List Event) → Stands now self.now
+    pub(crate) fn after_region(&self, p: u8, then: Then, known: &[u16], log: &KnownLog) -> Place
+        ensures { HoldsValues self.now.config known.now log.now
+            → (now : List Event) → Stands now self.now
             → known.now ≡ known_of self.now.config self.now.id now
             → p < self.now.config.replicas
             → result ≡ after_region self.now.config self.now.id now (tables_of self.now) p then }
     {
         let next = p.saturating_add(1);
         match then {
-            Then::Joined => self.late_from(next, known),
-            _ => self.bring_up_from(next, then, known),
+            Then::Joined => self.late_from(next, known, log),
+            _ => self.bring_up_from(next, then, known, log),
         }
     }
 }

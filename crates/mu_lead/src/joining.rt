@@ -3,6 +3,7 @@ ghost use Rattle.std.specs.Prelude.{List, get_or, if◌then◌else◌, is_some, 
 ghost use Rattle.mu_model.specs.declared.event.Event.{Event};
 ghost use Rattle.mu_model.specs.Knowledge.{known as known_of};
 ghost use Rattle.mu_model.specs.Leaderships.{noted_grant};
+ghost use Rattle.mu_knowledge.specs.KnownLog.{HoldsValues};
 ghost use Rattle.mu_lead.specs.declared.place.Place.{Place as SomePlace};
 ghost use Rattle.mu_lead.specs.declared.place.Then.{Then as SomeThen};
 ghost use Rattle.mu_lead.specs.Leading.{end_of};
@@ -12,23 +13,26 @@ ghost use Rattle.mu_lead.specs.Standing.{Stands};
 use crate::lead::Lead;
 use crate::place::{Place, Then};
 use crate::regions::next_stranger;
+use mu_knowledge::KnownLog;
 
 impl Lead {
     /// Goes on with the late followers from `p` on.
-    pub(crate) fn late_from(&self, p: u8, known: &[u16]) -> Place
-        ensures { (mine : List Event) → Stands mine self.now
+    pub(crate) fn late_from(&self, p: u8, known: &[u16], log: &KnownLog) -> Place
+        ensures { HoldsValues self.now.config known.now log.now
+            → (mine : List Event) → Stands mine self.now
             → known.now ≡ known_of self.now.config self.now.id mine
             → result ≡ late_from self.now.config self.now.id mine self.now.heads p }
     {
         match next_stranger(&self.leading, p, self.config.replicas) {
             Some(q) => Place::LateFence(q),
-            None => self.next_position(known),
+            None => self.next_position(known, log),
         }
     }
 
     /// The place after the fence of the late follower `p`.
-    pub(crate) fn after_late_fence(&self, p: u8, known: &[u16]) -> Place
-        ensures { (now : List Event) → Stands now self.now
+    pub(crate) fn after_late_fence(&self, p: u8, known: &[u16], log: &KnownLog) -> Place
+        ensures { HoldsValues self.now.config known.now log.now
+            → (now : List Event) → Stands now self.now
             → known.now ≡ known_of self.now.config self.now.id now
             → p < self.now.config.replicas
             → result
@@ -38,7 +42,7 @@ impl Lead {
         if self.leading.noted(p).is_some() {
             Place::LateMin(p)
         } else {
-            self.late_from(p.saturating_add(1), known)
+            self.late_from(p.saturating_add(1), known, log)
         }
     }
 
@@ -55,8 +59,9 @@ impl Lead {
     }
 
     /// The place after the FUO of the late follower `p`.
-    pub(crate) fn after_late_fuo(&self, p: u8, u: u64, known: &[u16]) -> Place
-        ensures { (now : List Event) → Stands now self.now
+    pub(crate) fn after_late_fuo(&self, p: u8, u: u64, known: &[u16], log: &KnownLog) -> Place
+        ensures { HoldsValues self.now.config known.now log.now
+            → (now : List Event) → Stands now self.now
             → known.now ≡ known_of self.now.config self.now.id now
             → p < self.now.config.replicas
             → result
@@ -65,15 +70,16 @@ impl Lead {
             else SomePlace.LateEnter p) }
     {
         if (known.len() as u64) < u {
-            self.late_from(p.saturating_add(1), known)
+            self.late_from(p.saturating_add(1), known, log)
         } else {
             Place::LateEnter(p)
         }
     }
 
     /// The place after the late follower `p` became a member.
-    pub(crate) fn after_late_put(&self, p: u8, known: &[u16]) -> Place
-        ensures { (now : List Event) → Stands now self.now
+    pub(crate) fn after_late_put(&self, p: u8, known: &[u16], log: &KnownLog) -> Place
+        ensures { HoldsValues self.now.config known.now log.now
+            → (now : List Event) → Stands now self.now
             → known.now ≡ known_of self.now.config self.now.id now
             → p < self.now.config.replicas
             → result
@@ -84,7 +90,7 @@ impl Lead {
         if self.up_of(p) < known.len() as u64 {
             self.bring_up(p, Then::Joined)
         } else {
-            self.late_from(p.saturating_add(1), known)
+            self.late_from(p.saturating_add(1), known, log)
         }
     }
 }

@@ -321,13 +321,15 @@ impl Lead {
         ensures id { self.new.id ≡ self.old.id }
         ensures named { self.new.named ≡ self.old.named }
         ensures failed { self.new.failed ≡ self.old.failed }
-        ensures says { SaysNext mine self.old known.now answer result }
-        ensures noted { NotedNext mine self.old known.now answer result }
+        ensures says { HoldsValues self.old.config known.now log.now
+            → SaysNext mine self.old known.now answer result }
+        ensures noted { HoldsValues self.old.config known.now log.now
+            → NotedNext mine self.old known.now answer result }
         ensures going { self.new.under_way
             ≡ going_after (begins_at self.old.place || self.old.under_way) result }
     {
         let note = self.step(verb, answer, known, log);
-        with_idle(&self.config, note, known)
+        with_idle(&self.config, note, log)
     }
 
     /// Makes the step of the listing: tells the leaderships, writes the tables, and goes to the place
@@ -393,14 +395,13 @@ fn is_calm(verb: Verb) -> bool
 }
 
 /// The note, but that all commands are known, if nothing else is to be said.
-fn with_idle(config: &Config, note: Note, known: &[u16]) -> Note
+fn with_idle(config: &Config, note: Note, log: &KnownLog) -> Note
     ensures kind { (result ≡ note) ⊎ ((result ≡ SomeNote.Idle) × (note ≡ SomeNote.Working)) }
-    ensures all { length known.now < 65536 → IsConfig config.now → IsInSession config.now known.now
-        → note ≡ SomeNote.Working
-        → result
-        ≡ (if holds_all config.now known.now then SomeNote.Idle else SomeNote.Working) }
+    ensures all { (values : List ℕ) → HoldsValues config.now values log.now → IsConfig config.now
+        → IsInSession config.now values → note ≡ SomeNote.Working
+        → result ≡ (if holds_all config.now values then SomeNote.Idle else SomeNote.Working) }
 {
-    if is_working(note) && knows_all(config, known) {
+    if is_working(note) && knows_all(config, log) {
         Note::Idle
     } else {
         note

@@ -37,24 +37,24 @@ impl Lead {
             Place::EnterMin(p) => unless_lost(answer, Place::PutMin(p)),
             Place::PutMin(p) => unless_missed(answer, p, self.after_put_min(p)),
             // FUOs, and what is known elsewhere
-            Place::ReadFuo(p, source) => self.after_fuo(p, source, known),
-            Place::Learn(source) => unless_past(answer, self.learn_from(source, known)),
+            Place::ReadFuo(p, source) => self.after_fuo(p, source, known, log),
+            Place::Learn(source) => unless_past(answer, self.learn_from(source, known, log)),
             // members that are behind
             Place::WidenBehind(p, then) => Place::LookBehind(p, then),
             Place::LookBehind(p, then) => after_look_behind(answer, p, then),
             Place::EnterBehind(p, then) => unless_lost(answer, Place::PutBehind(p, then)),
             Place::PutBehind(p, then) => unless_missed(answer, p, self.after_copy(p, then, known)),
-            Place::RaiseBehind(p, then) => self.after_region(p, then, known),
+            Place::RaiseBehind(p, then) => self.after_region(p, then, known, log),
             Place::FenceBehind(p, then) => self.after_fence_behind(p, then),
             // late followers
-            Place::LateFence(p) => self.after_late_fence(p, known),
+            Place::LateFence(p) => self.after_late_fence(p, known, log),
             Place::LateMin(p) => self.after_late_min(p, number_told(answer)),
-            Place::LateFuo(p) => self.after_late_fuo(p, number_told(answer), known),
+            Place::LateFuo(p) => self.after_late_fuo(p, number_told(answer), known, log),
             Place::LateEnter(p) => unless_lost(answer, Place::LatePut(p)),
-            Place::LatePut(p) => unless_missed(answer, p, self.after_late_put(p, known)),
+            Place::LatePut(p) => unless_missed(answer, p, self.after_late_put(p, known, log)),
             // heads
             Place::ReadHead(q, candidate) => {
-                self.after_head(q, candidate, number_told(answer), known)
+                self.after_head(q, candidate, number_told(answer), known, log)
             }
             // looks, and the rows of an own batch
             Place::Look(p, i, candidate, best) => unless_past(
@@ -65,7 +65,7 @@ impl Lead {
             // the offer at each member, and its FUOs
             Place::Enter(p, offer) => unless_lost(answer, Place::Put(p, offer)),
             Place::Put(p, offer) => unless_missed(answer, p, self.after_put(p, offer)),
-            Place::Raise(p) => self.after_raise(p, known),
+            Place::Raise(p) => self.after_raise(p, known, log),
             // what ends
             Place::Evidence(_) => Place::Ask(0),
             Place::Outrun => Place::Outrun,

@@ -17,7 +17,7 @@ ghost use Rattle.mu_lead.specs.Sets.{is_bit};
 ghost use Rattle.mu_lead.specs.Standing.{Stands};
 ghost use Rattle.mu_lead.specs.Stepping.{IsRegion, lands_last};
 
-use crate::batches::{is_marked, knows_all, next_offer, own_value};
+use crate::batches::{knows_all, next_offer, own_value};
 use crate::lead::Lead;
 use crate::place::{Offer, Place, Sight, Then};
 use crate::positions::end_of;
@@ -27,18 +27,19 @@ use mu_model::{Answer, count_of_rows, reserve_of, row_rest};
 
 impl Lead {
     /// Goes on with the next position, or with late followers if all commands are known.
-    pub(crate) fn next_position(&self, known: &[u16]) -> Place
-        ensures { (now : List Event) → Stands now self.now
+    pub(crate) fn next_position(&self, known: &[u16], log: &KnownLog) -> Place
+        ensures { HoldsValues self.now.config known.now log.now
+            → (now : List Event) → Stands now self.now
             → known.now ≡ known_of self.now.config self.now.id now
             → result ≡ next_position self.now.config self.now.id now self.now.heads }
     {
-        if knows_all(&self.config, known) {
+        if knows_all(&self.config, log) {
             match next_stranger(&self.leading, 0, self.config.replicas) {
                 Some(q) => Place::LateFence(q),
                 None => Place::Rest,
             }
         } else if known.len() < self.count_of_places() {
-            self.heads_from(0, None, known)
+            self.heads_from(0, None, known, log)
         } else {
             Place::Rest
         }
@@ -69,8 +70,9 @@ impl Lead {
     }
 
     /// The first replica from `from` on whose head, as it was read last, is too low.
-    fn next_low(&self, from: u8, known: &[u16]) -> Option<u8>
-        ensures { length known.now < 65536 → length self.now.heads ≡ 7
+    fn next_low(&self, from: u8, known: &[u16], log: &KnownLog) -> Option<u8>
+        ensures { HoldsValues self.now.config known.now log.now → self.now.config.replicas ≤ 7
+            → length known.now < 65536 → length self.now.heads ≡ 7
             → IsFirst
             (λ k. not
             (marked self.now.config k known.now
@@ -80,7 +82,7 @@ impl Lead {
     {
         for p in from..self.config.replicas {
             if !self.leaves_room(self.head_of(p), reserve_of(&self.config), known)
-                && !is_marked(&self.config, p, known)
+                && !log.has_mark(p)
             {
                 return Some(p);
             }
@@ -89,12 +91,13 @@ impl Lead {
     }
 
     /// Reads the next head from `q` on that is too low, or goes on with the looks.
-    fn heads_from(&self, q: u8, candidate: Option<u8>, known: &[u16]) -> Place
-        ensures { (now : List Event) → Stands now self.now
+    fn heads_from(&self, q: u8, candidate: Option<u8>, known: &[u16], log: &KnownLog) -> Place
+        ensures { HoldsValues self.now.config known.now log.now
+            → (now : List Event) → Stands now self.now
             → known.now ≡ known_of self.now.config self.now.id now
             → result ≡ heads_from self.now.config self.now.id now self.now.heads q candidate }
     {
-        match self.next_low(q, known) {
+        match self.next_low(q, known, log) {
             Some(p) => Place::ReadHead(p, candidate),
             None => Place::Look(self.first_member(), end_of(known), candidate, None),
         }
@@ -118,8 +121,16 @@ impl Lead {
     }
 
     /// The place after the head of `q`.
-    pub(crate) fn after_head(&self, q: u8, candidate: Option<u8>, head: u64, known: &[u16]) -> Place
-        ensures { (now : List Event) → Stands now self.now
+    pub(crate) fn after_head(
+        &self,
+        q: u8,
+        candidate: Option<u8>,
+        head: u64,
+        known: &[u16],
+        log: &KnownLog,
+    ) -> Place
+        ensures { HoldsValues self.now.config known.now log.now
+            → (now : List Event) → Stands now self.now
             → known.now ≡ known_of self.now.config self.now.id now
             → q < self.now.config.replicas
             → is_bit q self.now.failed ≡ is_failed self.now.id q now
@@ -128,11 +139,11 @@ impl Lead {
     {
         let next = q.saturating_add(1);
         if self.leaves_room(head, reserve_of(&self.config), known) {
-            self.heads_from(next, candidate, known)
+            self.heads_from(next, candidate, known, log)
         } else if self.may_mark(q, head, known) {
-            self.heads_from(next, Some(first_of(candidate, q)), known)
+            self.heads_from(next, Some(first_of(candidate, q)), known, log)
         } else {
-            self.late_from(0, known)
+            self.late_from(0, known, log)
         }
     }
 
@@ -155,7 +166,7 @@ impl Lead {
             best }
     {
         if usize::from(position) < known.len() {
-            self.bring_up_from(0, Then::Position, known)
+            self.bring_up_from(0, Then::Position, known, log)
         } else {
             self.look_on(p, candidate, best, known, log)
         }
@@ -288,8 +299,9 @@ impl Lead {
     }
 
     /// The place after the FUO of `p` was raised over what was committed.
-    pub(crate) fn after_raise(&self, p: u8, known: &[u16]) -> Place
-        ensures { (now : List Event) → Stands now self.now
+    pub(crate) fn after_raise(&self, p: u8, known: &[u16], log: &KnownLog) -> Place
+        ensures { HoldsValues self.now.config known.now log.now
+            → (now : List Event) → Stands now self.now
             → known.now ≡ known_of self.now.config self.now.id now
             → p < self.now.config.replicas
             → result
@@ -298,7 +310,7 @@ impl Lead {
     {
         match next_member(&self.leading, p.saturating_add(1), self.config.replicas) {
             Some(q) => Place::Raise(q),
-            None => self.late_from(0, known),
+            None => self.late_from(0, known, log),
         }
     }
 }

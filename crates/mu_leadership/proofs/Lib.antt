@@ -1,5 +1,6 @@
 mod Elsewhere
 mod Entries
+mod Fences
 mod Grants
 mod Kept
 mod Within

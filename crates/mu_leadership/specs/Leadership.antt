@@ -1,14 +1,14 @@
 -- stands for (leadership): the state of leaderships and grants stands for the events of r.
-use Rattle.std.specs.Prelude.{List, None, Some, ℕ, ◌<◌, ◌≡◌}
+use Rattle.std.specs.Prelude.{Bool, List, None, Some, nat_lt, ℕ, ◌<◌, ◌≡◌}
 use Rattle.std.specs.declared.option.Option.{Option}
 use Rattle.std.specs.List.{slice_get}
 use Rattle.mu_model.specs.declared.event.Event.{Event}
 use Rattle.mu_model.specs.declared.event.Fence.{Fence}
 use Rattle.mu_model.specs.declared.event.Verb.{Verb}
 use Rattle.mu_model.specs.Again.{foreign_row}
-use Rattle.mu_model.specs.Allowed.{last_ask}
+use Rattle.mu_model.specs.Points.{last_ask}
 use Rattle.mu_model.specs.Entering.{any_min_read, last_opened, min_read, min_read_since, open_target}
-use Rattle.mu_model.specs.Histories.{greatest, newest, or_zero}
+use Rattle.mu_model.specs.Histories.{all_below, greatest, newest, or_zero}
 use Rattle.mu_model.specs.Leaderships.{fence_seen, grant_at_joining, has_begun, is_over, leadership, noted_grant, number_put, proposal_number}
 use Rattle.mu_leadership.specs.declared.region_notes.RegionNotes.{RegionNotes}
 use Rattle.mu_leadership.specs.declared.leadership.Leadership.{Leadership}
@@ -40,6 +40,10 @@ StandForRegionNotes r mine all =
     (p : ℕ) (notes : RegionNotes) → slice_get all p ≡ Some notes
     → StandsForRegionNotes r p mine notes
 
+-- no region was seen open to another as often as one that has gone astray
+abbrev pub are_rows_short : ℕ → List Event → Bool
+are_rows_short r mine = all_below 7 (λ p. nat_lt (foreign_row r p mine) 16)
+
 -- the state stands for the events of r
 pub record StandsForLeadership (r : ℕ) (mine : List Event) (state : Leadership) : Type 0 where
   pub replica : state.replica ≡ r
@@ -52,6 +56,7 @@ pub record StandsForLeadership (r : ℕ) (mine : List Event) (state : Leadership
       ≡ greatest (λ e. any_min_read r e.by e.verb e.answer) (leadership r mine)
   pub put : state.greatest_number ≡ greatest (λ e. number_put r e.by e.verb) mine
   pub notes : StandForRegionNotes r mine state.notes
+  pub rows_short : state.rows_short ≡ are_rows_short r mine
 
 -- the fence that the verb reads is of one of the first n regions
 abbrev pub ReadsWithin : ℕ → Verb → Type 0

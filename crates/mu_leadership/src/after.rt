@@ -1,7 +1,7 @@
 //! What the next event makes of each thing that a leadership has come to.
 ghost use Rattle.std.specs.Prelude.{List, ◌∷◌, ◌≡◌};
 ghost use Rattle.mu_model.specs.declared.event.Event.{Event};
-ghost use Rattle.mu_model.specs.Allowed.{last_ask};
+ghost use Rattle.mu_model.specs.Points.{last_ask};
 ghost use Rattle.mu_model.specs.Entering.{any_min_read};
 ghost use Rattle.mu_model.specs.Histories.{greatest, newest};
 ghost use Rattle.mu_model.specs.Leaderships.{has_begun, leadership, number_put, proposal_number};

@@ -1,22 +1,24 @@
 //! What the leaderships of a replica have come to.
-ghost use Rattle.std.specs.Prelude.{IsTrue, List, None, Some, [], is_some, true, ℕ, ◌%◌, ◌+◌, ◌<◌, ◌∷◌, ◌≡◌, ◌≤◌, ◌↔◌, ◌⊎◌};
+ghost use Rattle.std.specs.Prelude.{IsTrue, List, None, Some, [], ℕ, ◌%◌, ◌+◌, ◌<◌, ◌∷◌, ◌≡◌, ◌≤◌, ◌↔◌, ◌⊎◌};
+ghost use Rattle.std.specs.declared.option.Option.{Option};
 ghost use Rattle.mu_model.specs.declared.config.Config.{Config};
 ghost use Rattle.mu_model.specs.declared.event.Event.{Event};
 ghost use Rattle.mu_model.specs.declared.event.Verb.{Verb};
+ghost use Rattle.mu_model.specs.declared.reason.Reason.{Reason};
 ghost use Rattle.mu_model.specs.Again.{foreign_row};
-ghost use Rattle.mu_model.specs.Allowed.{Needs, last_ask};
+ghost use Rattle.mu_model.specs.Points.{IsMet, last_ask};
 ghost use Rattle.mu_model.specs.Entering.{any_min_read, has_confirmed_majority, has_read_min, last_opened, min_read, number_allowed, open_target};
 ghost use Rattle.mu_model.specs.Histories.{count_below, greatest, newest, or_zero};
 ghost use Rattle.mu_model.specs.Leaderships.{ends_leadership, fence_seen, grant_at_joining, has_begun, has_quorum, is_changed, is_member, is_over, leadership, noted_grant, number_put, proposal_number};
 ghost use Rattle.mu_model.specs.Parts.{IsPossible};
-ghost use Rattle.mu_leadership.specs.Leadership.{StandsForRegionNotes, StandsForLeadership, ReadsWithin};
+ghost use Rattle.mu_leadership.specs.Leadership.{StandsForRegionNotes, StandsForLeadership, ReadsWithin, are_rows_short};
 
 use crate::after::{
     asked_after, begun_after, greatest_minimum_after, greatest_number_after, number_after,
 };
 use crate::bearing::changes_leadership;
 use crate::entering::{enter_at, is_lost, is_missed, target_named};
-use crate::region_notes::{RegionNotes, begins, no_notes, take_at_regions};
+use crate::region_notes::{RegionNotes, are_short, begins, no_notes, see_at, take_at_regions};
 use mu_model::{Answer, Config, Event, Fence, Target, Verb, majority, next_number};
 
 /// What the leaderships of a replica have come to.
@@ -30,6 +32,9 @@ pub struct Leadership {
     greatest_minimum: u64,
     greatest_number: u32,
     notes: [RegionNotes; 7],
+    /// Whether the rows of foreign fences are short at all regions: so no turn has to look for a
+    /// long one.
+    rows_short: bool,
 }
 
 /// Whether a fence isn't the one under which the region joined.
@@ -89,6 +94,7 @@ impl Leadership {
             greatest_minimum: 0,
             greatest_number: 0,
             notes: no_notes(),
+            rows_short: true,
         }
     }
 
@@ -166,6 +172,7 @@ impl Leadership {
         match event.verb {
             Verb::Enter(p, target) => self.take_entry(p, target, event),
             Verb::PutSlot(p, _, _, _) => self.take_put(p, event),
+            Verb::Fence(p) => self.take_fence(r, p, event),
             _ => self.take_other(r, event),
         }
     }
@@ -194,6 +201,25 @@ impl Leadership {
         enter_at(&mut self.notes, p, Target::None);
     }
 
+    /// Takes a read of the fence of `p`.
+    #[inline(always)]
+    fn take_fence(&mut self, r: u8, p: u8, event: &Event)
+        ensures { (c : Config) → (mine : List Event) → c.replicas ≤ 7
+            → event.now.verb ≡ Verb.Fence p → IsPossible c r (event.now ∷ mine)
+            → StandsForLeadership r mine self.old
+            → StandsForLeadership r (event.now ∷ mine) self.new }
+    {
+        match event.answer {
+            Answer::Seen(fence) => {
+                let numbered = self.number.is_some();
+                self.over |= is_fence_changed(self.joined(p), fence);
+                see_at(&mut self.notes, p, r, fence, numbered);
+                self.rows_short = are_short(&self.notes);
+            }
+            _ => self.take_other(r, event),
+        }
+    }
+
     /// Takes an event with any other verb.
     #[inline(never)]
     fn take_other(&mut self, r: u8, event: &Event)
@@ -210,6 +236,7 @@ impl Leadership {
         self.greatest_minimum = greatest_minimum_after(self.greatest_minimum, r, event);
         self.greatest_number = greatest_number_after(self.greatest_number, r, event);
         take_at_regions(&mut self.notes, r, event, numbered);
+        self.rows_short = are_short(&self.notes);
     }
 
     /// Whether the leadership is over.
@@ -295,6 +322,14 @@ impl Leadership {
             → result ≡ foreign_row r p mine }
     {
         self.notes_of(p).foreign
+    }
+
+    /// Whether no region was seen open to another 16 times in a row under the number.
+    pub fn has_short_rows(&self) -> bool
+        ensures { (r : ℕ) → (mine : List Event) → StandsForLeadership r mine self.now
+            → result ≡ are_rows_short r mine }
+    {
+        self.rows_short
     }
 
     /// The target that `p` was entered with last.
@@ -385,60 +420,22 @@ impl Leadership {
         self.has_read(self.replica) && majority(n) <= self.minimums_read(n)
     }
 
-    /// Whether it may ask the region `p`.
-    pub fn may_ask(&self, n: u8, p: u8) -> bool
-        ensures { (c : Config) → (r : ℕ) → (mine : List Event) → n ≡ c.replicas
-            → StandsForLeadership r mine self.now → (IsTrue result ↔ Needs c r mine (Verb.Ask p)) }
-    {
-        p < n && (p == 0 || (self.begun && self.asked == Some(p - 1)))
-    }
-
-    /// Whether it may read the fence of `p`.
-    pub fn may_read_fence(&self, n: u8, p: u8) -> bool
-        ensures { (c : Config) → (r : ℕ) → (mine : List Event) → n ≡ c.replicas
+    /// Whether the region `p` is the next to ask.
+    pub fn is_next_to_ask(&self, p: u8) -> bool
+        ensures { (c : Config) → (r : ℕ) → (mine : List Event) → (asked : Option ℕ)
             → StandsForLeadership r mine self.now
-            → (IsTrue result ↔ Needs c r mine (Verb.Fence p)) }
+            → (IsTrue result ↔ IsMet c r mine (Reason.OutOfTurn p asked)) }
     {
-        p < n && self.begun
+        p == 0 || (self.begun && self.asked == Some(p - 1))
     }
 
-    /// Whether it may read the minimum of `p`.
-    pub fn may_read_minimum(&self, n: u8, p: u8) -> bool
-        requires { n ≤ 7 }
-        ensures { (c : Config) → (r : ℕ) → (mine : List Event) → n ≡ c.replicas
-            → StandsForLeadership r mine self.now → (IsTrue result ↔ Needs c r mine (Verb.Min p)) }
-    {
-        p < n && self.noted(p).is_some() && !self.over
-    }
-
-    /// Whether it may look at the region `p`, at any position that there is.
-    pub fn may_look(&self, n: u8, p: u8) -> bool
-        requires { n ≤ 7 }
-        ensures { (r : ℕ) → (mine : List Event) → StandsForLeadership r mine self.now
-            → (IsTrue result ↔ ((p < n) × ((p ≡ r) ⊎ (is_some (noted_grant r p mine) ≡ true)))) }
-    {
-        p < n && (p == self.replica || self.noted(p).is_some())
-    }
-
-    /// Whether it may enter the region `p` with the target.
-    pub fn may_enter(&self, n: u8, ring: u16, p: u8, target: Target) -> bool
-        requires { n ≤ 7 }
-        ensures { (c : Config) → (r : ℕ) → (mine : List Event) → n ≡ c.replicas → ring ≡ c.ring
-            → r < 7
+    /// Whether it may read the log of the region `p`.
+    pub fn is_readable(&self, p: u8) -> bool
+        ensures { (c : Config) → (r : ℕ) → (mine : List Event) → p < 7
             → StandsForLeadership r mine self.now
-            → (IsTrue result ↔ Needs c r mine (Verb.Enter p target)) }
+            → (IsTrue result ↔ IsMet c r mine (Reason.NotReadable p)) }
     {
-        p < n
-            && match target {
-                Target::None => false,
-                Target::Min => {
-                    self.noted(p).is_some()
-                        && !self.over
-                        && self.has_read(p)
-                        && (self.number.is_some() || self.has_confirmed(n))
-                }
-                Target::Place(place) => self.is_member(p) && !self.over && place < ring,
-            }
+        p == self.replica || self.noted(p).is_some()
     }
 
     /// Whether it may put the number.
@@ -450,19 +447,5 @@ impl Leadership {
             Some(number) => b == number,
             None => is_least_number(b, self.replica, self.greatest_minimum, self.greatest_number),
         }
-    }
-
-    /// Whether it may put the number `b` into the minimum of `p`.
-    pub fn may_put_minimum(&self, n: u8, p: u8, b: u32) -> bool
-        requires { n ≤ 7 }
-        ensures { (c : Config) → (r : ℕ) → (mine : List Event) → n ≡ c.replicas
-            → StandsForLeadership r mine self.now
-            → (IsTrue result ↔ Needs c r mine (Verb.PutMin p b)) }
-    {
-        p < n
-            && !self.over
-            && self.notes_of(p).entered == Some(Target::Min)
-            && self.notes_of(p).minimum <= u64::from(b)
-            && self.may_take_number(b)
     }
 }

@@ -1,13 +1,15 @@
 //! What a replica has done at one region.
-ghost use Rattle.std.specs.Prelude.{List, Some, [], false, if◌then◌else◌, is_some, ℕ, ◌∷◌, ◌≡◌, ◌≢◌};
+ghost use Rattle.std.specs.Prelude.{List, Some, [], false, if◌then◌else◌, is_some, nat_lt, ℕ, ◌<◌, ◌∷◌, ◌≡◌, ◌≢◌};
 ghost use Rattle.mu_model.specs.declared.config.Config.{Config};
+ghost use Rattle.mu_model.specs.declared.event.Answer.{Answer as SomeAnswer};
 ghost use Rattle.mu_model.specs.declared.event.Event.{Event};
-ghost use Rattle.mu_model.specs.Again.{foreign_row, is_foreign, one_more};
+ghost use Rattle.mu_model.specs.declared.event.Verb.{Verb as SomeVerb};
+ghost use Rattle.mu_model.specs.Again.{foreign_row, is_foreign, one_more, row_with};
 ghost use Rattle.mu_model.specs.Entering.{has_read_min, last_opened, min_read, min_read_since, min_read_under, open_target};
 ghost use Rattle.mu_model.specs.Histories.{newest, or_zero};
 ghost use Rattle.mu_model.specs.Leaderships.{begins_leadership, fence_seen, grant_at_joining, grant_for, noted_grant, proposal_number};
 ghost use Rattle.mu_model.specs.Parts.{IsPossible};
-ghost use Rattle.mu_leadership.specs.Leadership.{StandForRegionNotes, StandsForRegionNotes, last_grant};
+ghost use Rattle.mu_leadership.specs.Leadership.{StandForRegionNotes, StandsForRegionNotes, are_rows_short, last_grant};
 ghost use Rattle.mu_leadership.specs.Bearing.{region_named};
 
 use crate::bearing::region_of;
@@ -259,6 +261,17 @@ fn row_after(held: u8, r: u8, fence: Fence) -> u8
     }
 }
 
+/// The row after a fence, by whether the leadership has its number.
+fn row_with(held: u8, numbered: bool, r: u8, fence: Fence) -> u8
+    ensures { result ≡ row_with r numbered (Some fence) held }
+{
+    if numbered {
+        row_after(held, r, fence)
+    } else {
+        held
+    }
+}
+
 /// How many times in a row `r` saw the region `p` open to another, after the event.
 fn foreign_after(held: u8, numbered: bool, r: u8, p: u8, event: &Event) -> u8
     ensures { (mine : List Event) → held ≡ foreign_row r p mine
@@ -317,6 +330,22 @@ impl RegionNotes {
         }
     }
 
+    /// Notes the fence that `r` saw. `numbered` says whether its leadership has its number.
+    #[inline(always)]
+    fn see(&mut self, r: u8, fence: Fence, numbered: bool)
+        ensures { (c : Config) → (p : ℕ) → (e : Event) → (mine : List Event)
+            → IsPossible c r (e ∷ mine) → e.verb ≡ SomeVerb.Fence p
+            → e.answer ≡ SomeAnswer.Seen fence → numbered ≡ is_some (proposal_number r mine)
+            → StandsForRegionNotes r p mine self.old
+            → StandsForRegionNotes r p (e ∷ mine) self.new }
+    {
+        self.noted = grant_named(r, fence);
+        self.has_read = has_read_under(self.has_read, self.shown, fence.grant);
+        self.shown = Some(fence.grant);
+        self.seen = Some(fence);
+        self.foreign = row_with(self.foreign, numbered, r, fence);
+    }
+
     /// Whether the minimum was read under the noted grant.
     #[tactic(auto, using(crate::proofs::Grants::read_of_noted))]
     pub fn has_read_minimum(&self) -> bool
@@ -362,6 +391,19 @@ fn take_at(notes: &mut [RegionNotes; 7], p: u8, r: u8, event: &Event, numbered: 
     }
 }
 
+/// Notes at `p` the fence that `r` saw there.
+#[inline(always)]
+pub(crate) fn see_at(notes: &mut [RegionNotes; 7], p: u8, r: u8, fence: Fence, numbered: bool)
+    ensures { (c : Config) → (e : Event) → (mine : List Event) → IsPossible c r (e ∷ mine)
+        → e.verb ≡ SomeVerb.Fence p → e.answer ≡ SomeAnswer.Seen fence
+        → numbered ≡ is_some (proposal_number r mine)
+        → StandForRegionNotes r mine notes.old → StandForRegionNotes r (e ∷ mine) notes.new }
+{
+    if p < 7 {
+        notes[usize::from(p)].see(r, fence, numbered);
+    }
+}
+
 /// What was done at the regions that the event bears on, with the event.
 pub(crate) fn take_at_regions(notes: &mut [RegionNotes; 7], r: u8, event: &Event, numbered: bool)
     ensures { (c : Config) → (mine : List Event) → IsPossible c r (event.now ∷ mine)
@@ -373,4 +415,28 @@ pub(crate) fn take_at_regions(notes: &mut [RegionNotes; 7], r: u8, event: &Event
         Some(p) => take_at(notes, p, r, event, numbered),
         None => take_at_each(notes, r, event, numbered),
     }
+}
+
+/// Whether the region `p` was seen open to another less than 16 times in a row.
+fn is_short(notes: &[RegionNotes; 7], p: u8) -> bool
+    ensures { (r : ℕ) → (mine : List Event) → p < 7 → StandForRegionNotes r mine notes.now
+        → result ≡ nat_lt (foreign_row r p mine) 16 }
+{
+    if p < 7 {
+        notes[usize::from(p)].foreign < 16
+    } else {
+        true
+    }
+}
+
+/// Whether all regions were.
+pub(crate) fn are_short(notes: &[RegionNotes; 7]) -> bool
+    ensures { (r : ℕ) → (mine : List Event) → StandForRegionNotes r mine notes.now
+        → result ≡ are_rows_short r mine }
+{
+    let mut all = true;
+    for p in 0..7u8 {
+        all = is_short(notes, p) && all;
+    }
+    all
 }

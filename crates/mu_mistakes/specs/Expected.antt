@@ -4,6 +4,10 @@ use Rattle.std.specs.declared.option.Option.{Option}
 use Rattle.std.specs.Fmt.{decimal}
 use Rattle.std.specs.List.{slice_get}
 use Rattle.std.specs.Str.{bytes_eq}
+use Rattle.kv_store.specs.Kinds.{name_of_kind, shape_of_kind}
+use Rattle.kv_store.specs.declared.command.OpKind.{OpKind}
+use Rattle.kv_store.specs.declared.command.OpShape.{OpShape}
+use Rattle.kv_store.specs.declared.command.TheConstants.{OP_KINDS}
 use Rattle.mu_input.specs.declared.TheConstants.{MOST_REPLICAS}
 use Rattle.mu_input.specs.declared.cause.TheConstants.{BATCH, CLIENT, EVENT, OPERATION, SCRIPT}
 use Rattle.mu_text.specs.Lines.{is_first, lines, words}
@@ -68,11 +72,23 @@ cause_words cause =
     else if cause == 12 then codes "no line after the last end"
     else codes "batch M, with M from 1 to 4, the fifth line of a job of mu 2"
 
+-- what stands behind the name of an operation
+abbrev pub shape_words : OpShape → List ℕ
+shape_words OpShape.Nothing = codes " KEY, "
+shape_words OpShape.Text = codes " KEY TEXT, "
+shape_words OpShape.Texts = codes " KEY OLD NEW, "
+
+-- how the lines of these operations read
+abbrev pub kinds_words : List OpKind → List ℕ
+kinds_words [] = []
+kinds_words (kind ∷ kinds) =
+    name_of_kind kind ++ shape_words (shape_of_kind kind) ++ kinds_words kinds
+
 -- a command, or what else may stand there
 abbrev pub operations_words : List ℕ
 operations_words =
-    codes "put KEY TEXT, get KEY, del KEY, swap KEY TEXT, cas KEY OLD NEW, client N, script or "
-    ++ codes "end, in small letters; no key or text has a space"
+    kinds_words OP_KINDS
+    ++ codes "client N, script or end, in small letters; no key or text has a space"
 
 -- the same, or what goes before a stop or pause
 abbrev pub command_words : List ℕ → List ℕ

@@ -1,10 +1,11 @@
 //! What is expected in place of a line that leaves the grammar.
 ghost use Rattle.std.specs.Prelude.{◌≡◌, ◌≤◌, ◌<◌, ◌+◌, ◌++◌, length, map, option_map, IfSome};
 ghost use Rattle.mu_input.specs.declared.TheConstants.{TRACE_LIMIT};
-ghost use Rattle.mu_mistakes.specs.Expected.{below_words, cause_words, client_words, command_words, ending_words, event_words, expected_words, form_words, is_line, is_replica, lacks_batch, line_of_form, line_words, missing_words, operations_words, replica_words, script_words, verb_words};
+ghost use Rattle.mu_mistakes.specs.Expected.{below_words, cause_words, client_words, command_words, ending_words, event_words, expected_words, form_words, is_line, is_replica, kinds_words, lacks_batch, line_of_form, line_words, missing_words, operations_words, replica_words, script_words, shape_words, verb_words};
 
 use crate::events::form_of;
 use crate::finding::{begins_with, clients_before, line_at, replicas_in};
+use kv_store::{OP_KINDS, OpShape};
 use mu_input::cause::{BATCH, CLIENT, EVENT, OPERATION, SCRIPT};
 use mu_text::{Line, Words, number};
 
@@ -139,10 +140,32 @@ fn push_operations(out: &mut Line)
     ensures bytes { out.new ≡ out.old ++ operations_words }
     ensures room { length out.new ≤ 190 }
 {
-    out.push(
-        b"put KEY TEXT, get KEY, del KEY, swap KEY TEXT, cas KEY OLD NEW, client N, script or ",
-    );
-    out.push(b"end, in small letters; no key or text has a space");
+    push_kinds(out);
+    out.push(b"client N, script or end, in small letters; no key or text has a space");
+}
+
+/// Adds how the lines of operations read.
+fn push_kinds(out: &mut Line)
+    requires { length out.old ≤ 10 }
+    ensures bytes { out.new ≡ out.old ++ kinds_words OP_KINDS }
+    ensures room { length out.new ≤ 121 }
+{
+    for kind in &OP_KINDS {
+        out.push(kind.name());
+        out.push(behind_name(kind.shape()));
+    }
+}
+
+/// What stands behind the name of an operation.
+fn behind_name(shape: OpShape) -> &'static [u8]
+    ensures words { result.now ≡ shape_words shape }
+    ensures short { length result.now ≤ 14 }
+{
+    match shape {
+        OpShape::Nothing => b" KEY, ",
+        OpShape::Text => b" KEY TEXT, ",
+        OpShape::Texts => b" KEY OLD NEW, ",
+    }
 }
 
 /// Adds a line of the script.

@@ -1,7 +1,11 @@
+pub mod AllMet
 pub mod Basics
 pub mod Budgets
 pub mod Counts
+pub mod FirstBelow
 pub mod Lists
 pub mod Owned
 pub mod Parts
+pub mod Putting
+pub mod Reasons
 pub mod Scans

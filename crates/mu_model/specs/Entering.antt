@@ -1,13 +1,13 @@
 -- entering: when a replica may enter a region, and when it may put its minimum.
-use Rattle.std.specs.Prelude.{Bool, List, None, Some, [], false, if◌then◌else◌, is_some, nat_le, true, ℕ, ◌%◌, ◌&&◌, ◌<◌, ◌==◌, ◌||◌, ◌∷◌, ◌≡◌, ◌≤◌}
+use Rattle.std.specs.Prelude.{Bool, List, None, Some, [], false, if◌then◌else◌, is_some, nat_le, ℕ, ◌%◌, ◌&&◌, ◌<◌, ◌==◌, ◌||◌, ◌∷◌, ◌≡◌, ◌≤◌}
 use Rattle.std.specs.declared.option.Option.{Option}
 use Rattle.mu_model.specs.declared.config.Config.{Config}
 use Rattle.mu_model.specs.declared.event.Answer.{Answer}
 use Rattle.mu_model.specs.declared.event.Event.{Event}
 use Rattle.mu_model.specs.declared.event.Target.{Target}
 use Rattle.mu_model.specs.declared.event.Verb.{Verb}
-use Rattle.mu_model.specs.Histories.{count_below, greatest, has, newest, or_zero}
-use Rattle.mu_model.specs.Leaderships.{is_member, is_over, leadership, majority_of, noted_grant, number_put, proposal_number}
+use Rattle.mu_model.specs.Histories.{count_below, greatest, has, newest}
+use Rattle.mu_model.specs.Leaderships.{leadership, majority_of, noted_grant, number_put}
 
 -- the answer of a `Min(p)` of r
 abbrev pub min_read : ℕ → ℕ → ℕ → Verb → Answer → Option ℕ
@@ -47,16 +47,6 @@ has_confirmed_majority c r past =
     has_read_min r r past
     && nat_le (majority_of c.replicas) (count_below c.replicas (λ p. has_read_min r p past))
 
--- r may enter p with the target
-abbrev pub MayEnter : Config → ℕ → List Event → ℕ → Target → Type 0
-MayEnter c r past p Target.None = ⊥
-MayEnter c r past p Target.Min =
-    (is_some (noted_grant r p past) ≡ true) × (is_over r past ≡ false)
-    × (has_read_min r p past ≡ true)
-    × (proposal_number r past ≡ None → has_confirmed_majority c r past ≡ true)
-MayEnter c r past p (Target.Place s) =
-    (is_member r p past ≡ true) × (is_over r past ≡ false) × (s < c.ring)
-
 -- what the step makes of the target that r has entered p with: an `Enter` names it, a lost one or a
 -- put clears it
 abbrev pub enter_open : ℕ → ℕ → ℕ → Verb → Answer → Option Target
@@ -86,10 +76,3 @@ number_allowed r past b None =
     × ((n : ℕ) → n % 8 ≡ r → 8 ≤ n
     → greatest (λ e. any_min_read r e.by e.verb e.answer) (leadership r past) < n
     → greatest (λ e. number_put r e.by e.verb) past < n → b ≤ n)
-
--- r may put the number b into the minimum of p
-pub record MayPutMin (r : ℕ) (past : List Event) (p b : ℕ) : Type 0 where
-  pub not_over : is_over r past ≡ false
-  pub entered : open_target r p past ≡ Some Target.Min
-  pub read : or_zero (newest (λ e. min_read r p e.by e.verb e.answer) past) ≤ b
-  pub numbered : number_allowed r past b (proposal_number r past)

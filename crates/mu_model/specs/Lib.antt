@@ -15,6 +15,8 @@ pub mod Legal
 pub mod Parts
 pub mod Picks
 pub mod Placing
+pub mod Points
+pub mod Reasons
 pub mod Regions
 pub mod Room
 pub mod Scores

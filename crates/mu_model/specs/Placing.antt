@@ -1,19 +1,16 @@
 -- placing: when an entry may be put into the log of a region.
-use Rattle.std.specs.Prelude.{Bool, List, None, Some, [], false, if◌then◌else◌, length, nat_le, nat_lt, not, true, ℕ, ◌%◌, ◌&&◌, ◌+◌, ◌<◌, ◌==◌, ◌||◌, ◌∷◌, ◌≡◌, ◌⊎◌}
+use Rattle.std.specs.Prelude.{Bool, List, None, Some, [], false, if◌then◌else◌, nat_le, nat_lt, not, ℕ, ◌%◌, ◌&&◌, ◌+◌, ◌==◌, ◌||◌, ◌∷◌}
 use Rattle.std.specs.declared.option.Option.{Option}
 use Rattle.std.specs.List.{slice_get}
 use Rattle.mu_model.specs.declared.config.Config.{Config}
 use Rattle.mu_model.specs.declared.event.Answer.{Answer}
 use Rattle.mu_model.specs.declared.event.Event.{Event}
-use Rattle.mu_model.specs.declared.event.Target.{Target}
 use Rattle.mu_model.specs.declared.event.Verb.{Verb}
 use Rattle.mu_model.specs.Answers.{is_enter_of}
-use Rattle.mu_model.specs.Entering.{last_opened}
-use Rattle.mu_model.specs.Histories.{all_below, before, has, since}
+use Rattle.mu_model.specs.Histories.{before, has, since}
 use Rattle.mu_model.specs.Knowledge.{greatest_fuo_read, is_value, known}
-use Rattle.mu_model.specs.Leaderships.{begins_leadership, has_quorum, is_member, is_over, leadership, proposal_number}
-use Rattle.mu_model.specs.Picks.{first_value, is_fresh_batch, is_past, is_past_look, look_answer, may_propose}
-use Rattle.mu_model.specs.Room.{has_room, reserve}
+use Rattle.mu_model.specs.Leaderships.{begins_leadership, is_member, leadership}
+use Rattle.mu_model.specs.Picks.{is_past, look_answer}
 
 -- the look, if there is one, had another answer than `Past`
 abbrev pub is_good_look : Option Answer → Bool
@@ -77,32 +74,3 @@ is_within_ring i ring (Some u) = nat_lt i (u + ring)
 abbrev pub reaches_head : ℕ → Option ℕ → Bool
 reaches_head h None = false
 reaches_head h (Some u) = nat_le h u
-
--- v may be put at the new position i, which r does not know yet
-pub record IsNew (c : Config) (r : ℕ) (past : List Event) (i v : ℕ) : Type 0 where
-  pub next : i ≡ length (known c r past)
-  pub room : has_room c r past i 0 ≡ true
-  pub reserve_kept : is_fresh_batch c r past i v ≡ true → has_room c r past i (reserve c) ≡ true
-  pub none_past :
-      all_below c.replicas
-      (λ p. not
-      (is_member r p past
-      && has (λ e. is_past_look (look_answer r p i e.by e.verb e.answer)) (leadership r past)))
-      ≡ true
-  pub value : may_propose c r past i v (first_value r i past) ≡ true
-
--- r may put v at position i of region p under the number b
-pub record MayPutSlot (c : Config) (r : ℕ) (past : List Event) (p i b v : ℕ) : Type 0 where
-  pub within_ring :
-      c.version ≡ 2
-      → has (λ e. is_within_ring i c.ring (fuo_read_or_raised r p e.by e.verb e.answer))
-      (leadership r past)
-      ≡ true
-  pub not_over : is_over r past ≡ false
-  pub carried : has_quorum c r past ≡ true
-  pub member : is_member r p past ≡ true
-  pub numbered : proposal_number r past ≡ Some b
-  pub entered : last_opened r p past ≡ Some (Target.Place (i % c.ring))
-  pub looked : looked_before_entering c r p i past ≡ true
-  pub caught_up : (j : ℕ) → j < i → is_caught_up_at c r p past j ≡ true
-  pub value : (slice_get (known c r past) i ≡ Some v) ⊎ IsNew c r past i v

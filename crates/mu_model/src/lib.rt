@@ -10,6 +10,7 @@ mod contents;
 mod event;
 mod journal;
 mod numbers;
+mod reason;
 mod scoring;
 mod script;
 mod sequence;
@@ -22,6 +23,7 @@ pub use contents::{
 pub use event::{Answer, Event, Fence, Target, Verb};
 pub use journal::Journal;
 pub use numbers::{majority, next_number};
+pub use reason::Reason;
 pub use scoring::score_after;
 pub use script::{End, Pause, Pauses, Script, Stop, Stops};
 pub use sequence::Sequence;

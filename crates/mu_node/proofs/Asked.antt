@@ -1,23 +1,17 @@
--- A replica that names itself asks each region in turn, reads a minimum only after that, and then puts its number soon.
-use Rattle.std.proofs.Common.{◌≡◌, ◌∙◌, ◌≢◌, ℕ, suc, zero, ◌+◌, ◌-◌, ◌*◌, ◌<◌, ◌≤◌, ◌==◌, ◌&&◌, ◌||◌, ◌⊎◌, inl, inr, Bool, true, false, cond, None, Some, List, [], ◌∷◌, ◌++◌, ap, arith, length, refl, subst, sym}
+-- A replica that names itself asks each region in turn, and reads a minimum only after that.
+use Rattle.std.proofs.Common.{◌≡◌, ◌∙◌, ◌≢◌, ℕ, suc, ◌+◌, ◌-◌, ◌*◌, ◌<◌, ◌≤◌, ◌==◌, ◌&&◌, ◌||◌, ◌⊎◌, inl, inr, Bool, true, false, cond, None, Some, List, [], ◌∷◌, ◌++◌, ap, arith, length, refl, subst, sym}
 use Rattle.std.specs.declared.option.Option.{Option}
 use Rattle.std.specs.Prelude.{if◌then◌else◌, is_some, nat_lt, not}
 use Rattle.std.proofs.Math.Nat.{mul-le-mul_right}
 use Rattle.std.proofs.lemmas.Bool.{and_from, and_parts, cases_eq, cases_lt, eq-eqb, eqb-true, ltb-false, ltb-true, true≢false}
-use Rattle.mu_agree.specs.Possible.{CameBy}
 use Rattle.mu_agree.proofs.Landings.{has_more}
-use Rattle.mu_agree.proofs.Possible.{parts_shorten_law}
 use Rattle.mu_model.specs.declared.config.Config.{Config}
-use Rattle.mu_model.specs.declared.event.Answer.{Answer}
 use Rattle.mu_model.specs.declared.event.Event.{Event}
-use Rattle.mu_model.specs.declared.event.Target.{Target}
 use Rattle.mu_model.specs.declared.event.Verb.{Verb}
-use Rattle.mu_model.specs.Allowed.{Needs}
 use Rattle.mu_model.specs.Diligence.{is_confirmed}
 use Rattle.mu_model.specs.Histories.{has, or_zero}
 use Rattle.mu_model.specs.Knowledge.{known}
-use Rattle.mu_model.specs.Leaderships.{begins_leadership, has_begun, is_first_ask, is_over, noted_grant, number_put, proposal_number}
-use Rattle.mu_model.specs.Parts.{IsPossible}
+use Rattle.mu_model.specs.Leaderships.{begins_leadership, has_begun, is_first_ask, noted_grant, proposal_number}
 use Rattle.mu_model.specs.Scores.{leader}
 use Rattle.mu_model.specs.Steps.{has_min, is_asking, is_asking_verb, is_min, is_min_verb, is_named, named_throughout, replicates}
 use Rattle.mu_model.specs.Stretches.{is_odd, replications}
@@ -30,10 +24,9 @@ use Rattle.mu_lead.specs.declared.place.Place.{Place}
 use Rattle.mu_lead.specs.Beside.{leads_at}
 use Rattle.mu_lead.specs.Journal.{due_after, number_due, place_after, place_before, tables_at}
 use Rattle.mu_lead.proofs.Folding.{before_due}
-use Rattle.mu_lead.specs.Listing.{after_round, is_lost, next_place, noted_from, or_else}
+use Rattle.mu_lead.specs.Listing.{after_round, next_place, noted_from, or_else}
 use Rattle.mu_lead.specs.Standing.{verb_at}
 use Rattle.mu_pace.specs.Counters.{AtEachMoment, AtEachStep}
-use Rattle.mu_pace.proofs.Counting.{last_moment}
 use Rattle.mu_follow.specs.CatchingUp.{or_else as or_else_due}
 use Rattle.mu_node.proofs.CatchingUp.{catches_reading, made_led, reading_fails}
 use Rattle.mu_node.specs.Cycle.{other_at, place_now}
@@ -41,8 +34,7 @@ use Rattle.mu_node.specs.Due.{or_ahead, verb_or_beat}
 use Rattle.mu_node.specs.Journal.{IsListed, WasMade}
 use Rattle.mu_node.specs.declared.zeal.Zeal.{Zeal}
 use Rattle.mu_node.proofs.Rounding.{FailsBackground, background_fails}
-use Rattle.mu_pace.specs.Watches.{puts_number}
-use Rattle.mu_pace.proofs.Pasts.{min_on, min_now}
+use Rattle.mu_pace.proofs.Pasts.{min_now}
 
 -- the place of the listing that the event was made from
 abbrev pub place_of : Config → ℕ → List Event → Event → Place
@@ -178,7 +170,7 @@ abbrev pub MadePlain : Config → ℕ → List Event → Event → Type 0
 MadePlain c r mine e = WasMade c r mine e × IsListed Zeal.Plain c r mine e
 
 -- which makes in a turn of its leader what the listing has due, so from the place after its events
-placed_before : (c : Config) (r : ℕ) (mine : List Event) (e : Event) → MadePlain c r mine e → is_odd (length mine) ≡ true → is_named c r mine ≡ true → place_of c r mine e ≡ place_after c r mine
+pub placed_before : (c : Config) (r : ℕ) (mine : List Event) (e : Event) → MadePlain c r mine e → is_odd (length mine) ≡ true → is_named c r mine ≡ true → place_of c r mine e ≡ place_after c r mine
 placed_before c r mine e held odd named = go (placed c r mine place) refl
   where
     place : Place
@@ -198,12 +190,12 @@ placed_before c r mine e held odd named = go (placed c r mine place) refl
     go (Some verb) some = is verb (due ∙ ap verb_or_beat some) (before_due c r (number_due r mine) (known c r mine) (tables_at c r mine).up (tables_at c r mine).written place verb e.answer some)
     go None none = is Verb.Beat (due ∙ ap verb_or_beat none) refl
 
-each_made : (c : Config) (r : ℕ) (mine : List Event) → AtEachStep (MadePlain c r) mine → AtEachStep (WasMade c r) mine
+pub each_made : (c : Config) (r : ℕ) (mine : List Event) → AtEachStep (MadePlain c r) mine → AtEachStep (WasMade c r) mine
 each_made c r [] made = tt
 each_made c r (e ∷ mine) made = (each_made c r mine made.0, made.1.0)
 
 -- of the noted grants from a region on there is a first one, if one is there
-first_noted : (c : Config) (r from p : ℕ) (now : List Event) (P : Place → Type 0) (there : ℕ → Place) (other : Place) → from ≤ p → p < c.replicas → is_some (noted_grant r p now) ≡ true → ((q : ℕ) → from ≤ q → q < c.replicas → P (there q)) → P (or_else (noted_from c r now from) there other)
+pub first_noted : (c : Config) (r from p : ℕ) (now : List Event) (P : Place → Type 0) (there : ℕ → Place) (other : Place) → from ≤ p → p < c.replicas → is_some (noted_grant r p now) ≡ true → ((q : ℕ) → from ≤ q → q < c.replicas → P (there q)) → P (or_else (noted_from c r now from) there other)
 first_noted c r from p now P there other low inside some all = go (noted_from c r now from) (first_in_is (λ q. is_some (noted_grant r q now)) from c.replicas)
   where
     go : (o : Option ℕ) → IsFirst (λ q. is_some (noted_grant r q now)) from c.replicas o → P (or_else o there other)
@@ -211,7 +203,7 @@ first_noted c r from p now P there other low inside some all = go (noted_from c 
     go (Some q) first = all q first.0 first.1
 
 -- the events of r: who asked region 0 has begun, and a minimum is the first of the leadership then
-begun_asked : (c : Config) (r : ℕ) (mine : List Event) → AtEachStep (WasMade c r) mine → has (is_asking 0) mine ≡ true → has_begun r mine ≡ true
+pub begun_asked : (c : Config) (r : ℕ) (mine : List Event) → AtEachStep (WasMade c r) mine → has (is_asking 0) mine ≡ true → has_begun r mine ≡ true
 begun_asked c r [] made some = absurd (true≢false (sym some))
 begun_asked c r (e ∷ mine) made some = go (is_asking 0 e) refl some (begun_asked c r mine made.0)
   where
@@ -224,7 +216,7 @@ begun_asked c r (e ∷ mine) made some = go (is_asking 0 e) refl some (begun_ask
     go false is some ih = has_more (begins_leadership r) e mine (ih some)
 
 -- the places before the first minimum: those below were asked, then all
-abbrev Opens : Config → List Event → Place → Type 0
+abbrev pub Opens : Config → List Event → Place → Type 0
 Opens c mine (Place.Ask p) = (p < c.replicas) × ((q : ℕ) → q < p → has (is_asking q) mine ≡ true)
 Opens c mine (Place.Confirm k p) = (k < 16) × (p < c.replicas) × ((q : ℕ) → q < c.replicas → has (is_asking q) mine ≡ true)
 Opens c mine (Place.ReadMin p) = (q : ℕ) → q < c.replicas → has (is_asking q) mine ≡ true
@@ -284,7 +276,7 @@ opens c r (e ∷ mine) inside made none = go (is_odd (length mine)) refl (is_nam
     go true odd false named o = subst (Opens c (e ∷ mine)) (sym (place_anew c r mine e odd named)) (opens_first c r (e ∷ mine) inside)
     go false even u named o = subst (Opens c (e ∷ mine)) (sym (place_still c r mine e even)) (opens_more c e mine (place_after c r mine) o)
 
-opened : (c : Config) (r : ℕ) (mine : List Event) (e : Event) → r < c.replicas → AtEachStep (WasMade c r) mine → AtEachMoment (λ now. has_min r now ≡ false) mine → Opens c mine (place_of c r mine e)
+pub opened : (c : Config) (r : ℕ) (mine : List Event) (e : Event) → r < c.replicas → AtEachStep (WasMade c r) mine → AtEachMoment (λ now. has_min r now ≡ false) mine → Opens c mine (place_of c r mine e)
 opened c r mine e inside made none = at_place (Opens c mine) c r mine e (opens_first c r mine inside) (opens c r mine inside made none)
 
 -- before its first minimum it has asked each region
@@ -402,143 +394,3 @@ asks_until_min c r p window older inside low made none many named = elim (toward
     never (Place.Confirm k q) o near = let l = o.1 in let r = few_rounds k c.replicas o.0 in omega (arith, near, l, r)
     never (Place.ReadMin q) o near = omega (arith, near)
     never place o near = o
-
--- within d steps the number is put
-abbrev ToPut : Config → ℕ → Place → Type 0
-ToPut c d (Place.ReadMin q) = (q < c.replicas) × (c.replicas + 2 ≤ q + d)
-ToPut c d (Place.EnterMin q) = 2 ≤ d
-ToPut c d (Place.PutMin q) = 1 ≤ d
-ToPut c d place = ⊥
-
--- the grant of a region whose minimum it read is noted
-still_noted : (c : Config) (r q : ℕ) (mine : List Event) (e : Event) → e.verb ≡ Verb.Min q → Needs c r mine e.verb → (q < c.replicas) × (is_some (noted_grant r q (e ∷ mine)) ≡ true)
-still_noted c r q mine e is needs = go e.by e.verb e.answer is needs
-  where
-    go : (by : ℕ) (verb : Verb) (answer : Answer) → verb ≡ Verb.Min q → Needs c r mine verb → (q < c.replicas) × (is_some (noted_grant r q (record { by = by; verb = verb; answer = answer } ∷ mine)) ≡ true)
-    go by verb answer is needs = let n = subst (Needs c r mine) is needs in (n.0, subst (λ v. is_some (noted_grant r q (record { by = by; verb = v; answer = answer } ∷ mine)) ≡ true) (sym is) n.1)
-
-after_min : (c : Config) (r d q : ℕ) (mine : List Event) (e : Event) → e.verb ≡ Verb.Min q → Needs c r mine e.verb → c.replicas + 2 ≤ q + 1 + d → 2 ≤ d → ToPut c d (follows c r mine e (Place.ReadMin q))
-after_min c r d q mine e is needs near two = go (noted_from c r (e ∷ mine) (q + 1)) (first_in_is (λ p. is_some (noted_grant r p (e ∷ mine))) (q + 1) c.replicas)
-  where
-    noted : (q < c.replicas) × (is_some (noted_grant r q (e ∷ mine)) ≡ true)
-    noted = still_noted c r q mine e is needs
-
-    go : (o : Option ℕ) → IsFirst (λ p. is_some (noted_grant r p (e ∷ mine))) (q + 1) c.replicas o → ToPut c d (or_else o Place.ReadMin (or_else (noted_from c r (e ∷ mine) 0) Place.EnterMin Place.Rest))
-    go (Some p) first = let l = first.0 in (first.1, omega (arith, near, l))
-    go None none = first_noted c r 0 q (e ∷ mine) (ToPut c d) Place.EnterMin Place.Rest (omega arith) noted.0 noted.1 (λ _ _ _. two)
-
--- who loses an entering is over
-lost_over : (r q : ℕ) (t : Target) (by : ℕ) (answer : Answer) (mine : List Event) → by ≡ r → is_lost answer ≡ true → is_over r (record { by = by; verb = Verb.Enter q t; answer = answer } ∷ mine) ≡ true
-lost_over r q t by (Answer.Lost f) mine own is = ap (λ t. t || is_over r mine) (eq-eqb by r own)
-lost_over r q t by answer mine own is = absurd (true≢false (sym is))
-
--- each step of a replica that names itself takes one, unless it puts the number
-nearer_put : (c : Config) (r d : ℕ) (mine : List Event) (e : Event) (place : Place) → e.by ≡ r → ((verb : Verb) → placed c r mine place ≡ Some verb → e.verb ≡ verb) → Needs c r mine e.verb → is_over r (e ∷ mine) ≡ false → ToPut c (suc d) place → (puts_number r e ≡ true) ⊎ ToPut c d (follows c r mine e place)
-nearer_put c r d mine e (Place.ReadMin q) own verb needs on near = inr (let l = near.0 in let k = near.1 in after_min c r d q mine e (verb (Verb.Min q) refl) needs (omega (arith, k)) (omega (arith, k, l)))
-nearer_put c r d mine e (Place.EnterMin q) own verb needs on near = go (is_lost e.answer) refl
-  where
-    go : (t : Bool) → is_lost e.answer ≡ t → (puts_number r e ≡ true) ⊎ ToPut c d (if t then Place.Ask 0 else Place.PutMin q)
-    go true lost = absurd (true≢false (sym (subst (λ v. is_over r (record { by = e.by; verb = v; answer = e.answer } ∷ mine) ≡ true) (sym (verb (Verb.Enter q Target.Min) refl)) (lost_over r q Target.Min e.by e.answer mine own lost)) ∙ on))
-    go false entered = inr (omega (arith, near))
-nearer_put c r d mine e (Place.PutMin q) own verb needs on near = inl (ap (λ v. is_some (number_put r e.by v)) (verb (Verb.PutMin q (number_due r mine)) refl) ∙ ap (λ t. is_some (if t then Some (number_due r mine) else None)) (eq-eqb e.by r own))
-nearer_put c r d mine e place own verb needs on near = absurd near
-
--- and begins no leadership
-asks_no_more : (c : Config) (r d : ℕ) (mine : List Event) (e : Event) → MadePlain c r mine e → ToPut c d (place_after c r mine) → begins_leadership r e ≡ false
-asks_no_more c r d mine e held near = go (begins_leadership r e) refl
-  where
-    any : (by : ℕ) (verb : Verb) → is_first_ask r by verb ≡ true → is_any_ask verb ≡ true
-    any by (Verb.Ask q) is = refl
-    any by verb is = absurd (true≢false (sym is))
-
-    due_ask : Option Verb → Bool
-    due_ask None = false
-    due_ask (Some verb) = is_any_ask verb
-
-    none : (place : Place) → ToPut c d place → due_ask (placed c r mine place) ≡ false
-    none (Place.ReadMin q) near = refl
-    none (Place.EnterMin q) near = refl
-    none (Place.PutMin q) near = refl
-    none place near = absurd near
-
-    go : (t : Bool) → begins_leadership r e ≡ t → t ≡ false
-    go false is = refl
-    go true is =
-        let ask = any e.by e.verb is in
-        let turn = of_lead is_any_ask c r mine e held.0 any_asks_fail (λ j k x. refl) refl (λ q. refl) (λ w. refl) ask in
-        absurd (true≢false (sym (ap due_ask turn.verb ∙ ask) ∙ none (place_of c r mine e) (subst (ToPut c d) (sym (placed_before c r mine e held turn.odd turn.named)) near)))
-
--- so it is on its way to put its number after its first minimum
-record OnWay (c : Config) (r : ℕ) (window older : List Event) : Type 0 where
-  left : ℕ
-  near : ToPut c left (place_after c r (window ++ older))
-  all : left + replications window older ≡ c.replicas + 1
-  min : has_min r (window ++ older) ≡ true
-
-to_put : (c : Config) (r : ℕ) (e : Event) (window older : List Event) → r < c.replicas → IsPossible c r (window ++ e ∷ older) → AtEachStep (MadePlain c r) (window ++ e ∷ older) → is_min e ≡ true → AtEachMoment (λ now. has_min r now ≡ false) older → AtEachMoment (λ now. is_over r now ≡ false) (window ++ e ∷ older)
-    → AtEachMoment (λ now. has_min r now ≡ true → is_named c r now ≡ true) (window ++ e ∷ older) → (has (puts_number r) window ≡ true) ⊎ OnWay c r window (e ∷ older)
-to_put c r e [] older inside possible made min none on named = inr (record { left = c.replicas + 1; near = near; all = omega arith; min = there })
-  where
-    turn : OfLead c r older e made.1.0
-    turn = of_lead is_min_verb c r older e made.1.0 mins_fail (λ j k x. refl) refl (λ q. refl) (λ w. refl) min
-
-    there : has_min r (e ∷ older) ≡ true
-    there = let all = each_made c r (e ∷ older) made in min_now r e older min (begun_asked c r older all.0 (asks_all_first c r older e inside all none min 0 (omega (arith, inside))))
-
-    due_min : Option Verb → Bool
-    due_min None = false
-    due_min (Some verb) = is_min_verb verb
-
-    go : (place : Place) → placed c r older place ≡ Some e.verb → due_min (placed c r older place) ≡ true → Opens c older place → ToPut c (c.replicas + 1) (follows c r older e place)
-    go (Place.ReadMin q) is due o = after_min c r (c.replicas + 1) q older e (same_some e.verb (Verb.Min q) (sym is)) (parts_shorten_law c r older e possible).allowed.may (omega arith) (omega (arith, inside))
-    go (Place.Ask q) is due o = absurd (true≢false (sym due))
-    go (Place.Confirm k q) is due o = absurd (true≢false (sym due))
-    go place is due o = absurd o
-
-    near : ToPut c (c.replicas + 1) (place_after c r (e ∷ older))
-    near = subst (ToPut c (c.replicas + 1)) (sym (place_on c r older e turn.odd turn.named)) (go (place_of c r older e) turn.verb (ap due_min turn.verb ∙ min) (opened c r older e inside (each_made c r older made.0) none))
-to_put c r e (f ∷ window) older inside possible made min none on named = elim (to_put c r e window older inside came.before made.0 min none on.0 named.0) [
-  | inl some ↦ inl (has_more (puts_number r) f window some)
-  | inr k ↦ step k k.left k.near k.all (is_odd (length mine)) refl
-]
-  where
-    mine : List Event
-    mine = window ++ e ∷ older
-
-    came : CameBy c r mine f
-    came = parts_shorten_law c r mine f possible
-
-    never : (place : Place) → ToPut c 0 place → ⊥
-    never (Place.ReadMin q) near = let l = near.0 in let k = near.1 in omega (arith, l, k)
-    never (Place.EnterMin q) near = omega (arith, near)
-    never (Place.PutMin q) near = omega (arith, near)
-    never place near = near
-
-    step : (k : OnWay c r window (e ∷ older)) (d : ℕ) → ToPut c d (place_after c r mine) → d + replications window (e ∷ older) ≡ c.replicas + 1 → (t : Bool) → is_odd (length mine) ≡ t → (has (puts_number r) (f ∷ window) ≡ true) ⊎ OnWay c r (f ∷ window) (e ∷ older)
-    step k d near all false even =
-        inr (record {
-          left = d;
-          near = subst (ToPut c d) (sym (place_still c r mine f even)) near;
-          all = ap (λ t. d + (if t then replications window (e ∷ older) + 1 else replications window (e ∷ older))) even ∙ all;
-          min = min_on r f mine (asks_no_more c r d mine f made.1 near) k.min;
-        })
-    step k zero near all true odd = absurd (never (place_after c r mine) near)
-    step k (suc d) near all true odd =
-        let itself = last_moment (λ now. has_min r now ≡ true → is_named c r now ≡ true) mine named.0 k.min in
-        elim (nearer_put c r d mine f (place_of c r mine f) made.1.0.own (λ verb is. made_verb c r mine f verb made.1.0 odd itself is) came.allowed.may on.1 (subst (ToPut c (suc d)) (sym (placed_before c r mine f made.1 odd itself)) near)) [
-          | inl put ↦ inl (ap (λ t. cond t true (has (puts_number r) window)) put)
-          | inr on_way ↦ inr (record {
-            left = d;
-            near = subst (ToPut c d) (sym (place_on c r mine f odd itself)) on_way;
-            all = ap (λ t. d + (if t then replications window (e ∷ older) + 1 else replications window (e ∷ older))) odd ∙ (let one : d + (replications window (e ∷ older) + 1) ≡ c.replicas + 1 = omega (arith, all) in one);
-            min = min_on r f mine (asks_no_more c r (suc d) mine f made.1 near) k.min;
-          })
-        ]
-
--- n + 2 replication events after its first minimum it has put a number, if it goes on naming itself and isn't over
-pub numbers_in_time : (c : Config) (r : ℕ) (e : Event) (window older : List Event) → r < c.replicas → IsPossible c r (window ++ e ∷ older) → AtEachStep (MadePlain c r) (window ++ e ∷ older) → is_min e ≡ true → AtEachMoment (λ now. has_min r now ≡ false) older → AtEachMoment (λ now. is_over r now ≡ false) (window ++ e ∷ older)
-    → AtEachMoment (λ now. has_min r now ≡ true → is_named c r now ≡ true) (window ++ e ∷ older) → c.replicas + 2 ≤ replications window (e ∷ older) → has (puts_number r) window ≡ true
-numbers_in_time c r e window older inside possible made min none on named long = elim (to_put c r e window older inside possible made min none on named) [
-  | inl some ↦ some
-  | inr k ↦ absurd (let all = k.all in omega (arith, all, long))
-]

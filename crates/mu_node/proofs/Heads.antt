@@ -17,6 +17,7 @@ use Rattle.mu_model.specs.Room.{head_read, last_head}
 use Rattle.mu_agree.proofs.Within.{known_few}
 use Rattle.mu_knowledge.proofs.Fetched.{front_fits}
 use Rattle.mu_model.proofs.Parts.{part_is_possible}
+use Rattle.mu_model.proofs.Putting.{head_applied}
 use Rattle.mu_lead.specs.Listing.{number_told}
 
 few_applied : (c : Config) (r : ℕ) (mine : List Event) → IsConfig c → IsPossible c r mine → length (applied c r mine) < 65536
@@ -26,7 +27,7 @@ raised_by : (c : Config) (q by old : ℕ) (mine : List Event) (verb : Verb) → 
 raised_by c q by old mine (Verb.RaiseHead h) needs few fits = go (by == q)
   where
     go : (t : Bool) → max_with (cond t (Some h) None) old < 65536
-    go true = let low = needs.0 in omega (arith, low, few, fits)
+    go true = let low = head_applied c by mine h needs in omega (arith, low, few, fits)
     go false = fits
 raised_by c q by old mine verb needs few fits = fits
 

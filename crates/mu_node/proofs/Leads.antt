@@ -160,8 +160,8 @@ read_may c r mine lead place verb short inside low is = subst (λ v. MayBeside c
 
     go : (s : Bool) → (place == 0) ≡ s → (t : Bool) → nat_lt place c.replicas ≡ t → MayBeside c r mine lead (if s then Verb.Beat else if t then Verb.ReadBeat (other_at r place) else Verb.ReadAsk (place - c.replicas))
     go true first t few = may Verb.Beat tt refl
-    go false first true few = may (Verb.ReadBeat (other_at r place)) (other (nat_lt r place) refl (ltb-true place c.replicas few) first) refl
-    go false first false few = let high = ltb-false place c.replicas few in may (Verb.ReadAsk (place - c.replicas)) (omega (arith, low, high)) refl
+    go false first true few = let one = other (nat_lt r place) refl (ltb-true place c.replicas few) first in may (Verb.ReadBeat (other_at r place)) (one.0, (one.1, tt)) refl
+    go false first false few = let high = ltb-false place c.replicas few in may (Verb.ReadAsk (place - c.replicas)) (omega (arith, low, high), tt) refl
 
 -- and what the replayer has due
 pub replay_may : (c : Config) (r : ℕ) (mine : List Event) (lead : Lead) (leading : Bool) (due : Option Verb) → leading ≡ leads_at lead.place → IfSome due (λ verb. Allowed c r mine verb × IsReplay leading verb) → IfSome due (λ verb. MayBeside c r mine lead verb)

@@ -10,11 +10,13 @@ pub mod Fetching
 pub mod FewRows
 pub mod HeadRaises
 mod Heads
+mod Later
 mod Leading
 mod Leads
 pub mod Left
 mod Moving
 pub mod Naming
+pub mod Numbered
 mod Open
 mod OwnRows
 mod Paces

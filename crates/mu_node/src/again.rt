@@ -29,7 +29,7 @@ impl Node {
     {
         match self.zeal {
             Zeal::Plain => false,
-            Zeal::Eager => self.is_astray() && is_turn_of_leader(self.follow.steps()),
+            Zeal::Eager => is_turn_of_leader(self.follow.steps()) && self.is_astray(),
         }
     }
 

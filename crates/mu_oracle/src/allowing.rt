@@ -1,8 +1,9 @@
 //! What a replica may do next.
 ghost use Rattle.std.specs.Prelude.{IsTrue, length, ◌+◌, ◌<◌, ◌^◌, ◌↔◌, ◌≡◌, ◌≤◌};
-ghost use Rattle.mu_model.specs.Allowed.{Allowed, Needs, last_ask};
+ghost use Rattle.mu_model.specs.Allowed.{Allowed, Needs};
 ghost use Rattle.mu_model.specs.Contents.{row_count};
 ghost use Rattle.mu_model.specs.Histories.{history, newest};
+ghost use Rattle.mu_model.specs.Points.{last_ask};
 ghost use Rattle.mu_model.specs.Room.{reserve};
 
 use crate::entering::{may_enter, may_put_min};
@@ -51,7 +52,7 @@ fn meets_needs(config: &Config, r: u8, part: &[Event], verb: &Verb) -> bool
         Verb::Fence(p) => p < n && has_asked(r, part),
         Verb::Min(p) => p < n && grant_noted(r, p, part).is_some() && !has_ended(r, part),
         Verb::Enter(p, t) => p < n && may_enter(config, r, part, p, t),
-        Verb::PutMin(p, b) => p < n && may_put_min(r, part, p, b),
+        Verb::PutMin(p, b) => may_put_min(config, r, part, p, b),
         Verb::Look(p, i) => p < n
             && is_position(config, i)
             && (p == r || grant_noted(r, p, part).is_some()),

@@ -1,8 +1,11 @@
 //! When a replica may enter a region, and when it may put its minimum.
 ghost use Rattle.std.specs.Prelude.{IsTrue, ℕ, ◌%◌, ◌+◌, ◌<◌, ◌↔◌, ◌≡◌, ◌≤◌, ◌⊎◌};
-ghost use Rattle.mu_model.specs.Entering.{MayEnter, MayPutMin, any_min_read, has_confirmed_majority, has_read_min, min_read, min_read_under, number_allowed, open_target};
+ghost use Rattle.mu_model.specs.Allowed.{Needs};
+ghost use Rattle.mu_model.specs.Entering.{any_min_read, has_confirmed_majority, has_read_min, min_read, min_read_under, number_allowed, open_target};
 ghost use Rattle.mu_model.specs.Histories.{count_below, greatest, history, newest, or_zero};
 ghost use Rattle.mu_model.specs.Leaderships.{leadership, number_put, proposal_number};
+ghost use Rattle.mu_model.specs.Points.{AreMet, enters};
+ghost use Rattle.mu_model.specs.declared.event.Verb.{Verb as SomeVerb};
 
 use crate::leadership::{grant_noted, has_ended, is_in, proposal_of, starts_leadership};
 use mu_model::{Answer, Config, Event, Fence, Target, Verb, majority};
@@ -64,7 +67,7 @@ fn has_majority(config: &Config, r: u8, part: &[Event]) -> bool
 
 /// Whether `r` may enter the region `p` with the target.
 pub fn may_enter(config: &Config, r: u8, part: &[Event], p: u8, target: Target) -> bool
-    ensures { IsTrue result ↔ MayEnter config.now r (history part.now) p target }
+    ensures { IsTrue result ↔ AreMet config.now r (history part.now) (enters p target) }
 {
     match target {
         Target::None => false,
@@ -204,10 +207,11 @@ fn may_take_number(r: u8, part: &[Event], b: u32) -> bool
 }
 
 /// Whether `r` may put the number `b` into the minimum of `p`.
-pub fn may_put_min(r: u8, part: &[Event], p: u8, b: u32) -> bool
-    ensures { IsTrue result ↔ MayPutMin r (history part.now) p b }
+pub fn may_put_min(config: &Config, r: u8, part: &[Event], p: u8, b: u32) -> bool
+    ensures { IsTrue result ↔ Needs config.now r (history part.now) (SomeVerb.PutMin p b) }
 {
-    !has_ended(r, part)
+    p < config.replicas
+        && !has_ended(r, part)
         && entered_target(r, p, part) == Some(Target::Min)
         && last_minimum_read(r, p, part) <= u64::from(b)
         && may_take_number(r, part, b)

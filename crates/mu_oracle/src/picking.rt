@@ -1,9 +1,10 @@
 //! Which value may be put at a position that is not known yet.
-ghost use Rattle.std.specs.Prelude.{IsTrue, None, if◌then◌else◌, is_some, length, not, ◌&&◌, ◌<◌, ◌^◌, ◌||◌, ◌↔◌, ◌≡◌};
+ghost use Rattle.std.specs.Prelude.{IsTrue, None, if◌then◌else◌, is_some, length, not, true, ◌&&◌, ◌<◌, ◌^◌, ◌||◌, ◌↔◌, ◌≡◌};
 ghost use Rattle.mu_model.specs.Histories.{all_below, has, history};
 ghost use Rattle.mu_model.specs.Leaderships.{is_member, leadership};
 ghost use Rattle.mu_model.specs.Picks.{entry_of, first_value, highest_accepted, is_fresh_batch, is_joining, is_offer, is_past_look, joined_since_first_put, larger, last_look, look_answer, may_pick_at, may_propose, value_put};
-ghost use Rattle.mu_model.specs.Placing.{IsNew};
+ghost use Rattle.mu_model.specs.Knowledge.{known};
+ghost use Rattle.mu_model.specs.Room.{has_room, reserve};
 
 use crate::fetching::has_written_batch;
 use crate::knowledge::{commands_known, known_length};
@@ -231,7 +232,19 @@ fn none_past(n: u8, r: u8, i: u16, part: &[Event]) -> bool
 /// Whether `v` may be put at the new position `i`.
 pub fn may_begin(config: &Config, r: u8, part: &[Event], i: u16, v: u16) -> bool
     requires short { length part.now < 2 ^ 32 }
-    ensures { IsTrue result ↔ IsNew config.now r (history part.now) i v }
+    ensures { IsTrue result
+        ↔ ((i ≡ length (known config.now r (history part.now)))
+        × (has_room config.now r (history part.now) i 0 ≡ true)
+        × (is_fresh_batch config.now r (history part.now) i v ≡ true
+        → has_room config.now r (history part.now) i (reserve config.now) ≡ true)
+        × (all_below config.now.replicas
+        (λ p. not
+        (is_member r p (history part.now)
+        && has (λ e. is_past_look (look_answer r p i e.by e.verb e.answer))
+        (leadership r (history part.now))))
+        ≡ true)
+        × (may_propose config.now r (history part.now) i v (first_value r i (history part.now))
+        ≡ true)) }
 {
     u64::from(i) == known_length(config, r, part)
         && leaves_room(config, r, part, i, 0)

@@ -1,14 +1,15 @@
 //! When an entry may be put into the log of a region.
 ghost use Rattle.std.specs.List.{slice_get};
-ghost use Rattle.std.specs.Prelude.{IsTrue, List, Some, false, length, true, ℕ, ◌%◌, ◌<◌, ◌^◌, ◌↔◌, ◌≡◌, ◌⊎◌};
+ghost use Rattle.std.specs.Prelude.{IsTrue, List, [], length, ℕ, ◌++◌, ◌<◌, ◌^◌, ◌∷◌, ◌↔◌, ◌≡◌};
 ghost use Rattle.mu_model.specs.Answers.{is_enter_of};
 ghost use Rattle.mu_model.specs.Entering.{enter_open, last_opened};
 ghost use Rattle.mu_model.specs.Histories.{all_below, has, history};
-ghost use Rattle.mu_model.specs.Knowledge.{greatest_fuo_read, known};
-ghost use Rattle.mu_model.specs.Leaderships.{has_quorum, is_member, is_over, leadership, proposal_number};
+ghost use Rattle.mu_model.specs.Knowledge.{greatest_fuo_read};
+ghost use Rattle.mu_model.specs.Leaderships.{leadership};
 ghost use Rattle.mu_model.specs.Picks.{look_answer};
-ghost use Rattle.mu_model.specs.Placing.{IsNew, MayPutSlot, fuo_read_or_raised, is_caught_up_at, is_good_look, is_known_put, is_slot_put_at, is_within_ring, looked_before_entering, reaches_head};
-ghost use Rattle.mu_model.specs.declared.event.Target.{Target as SomeTarget};
+ghost use Rattle.mu_model.specs.Placing.{fuo_read_or_raised, is_caught_up_at, is_good_look, is_known_put, is_slot_put_at, is_within_ring, looked_before_entering, reaches_head};
+ghost use Rattle.mu_model.specs.Points.{AreMet, each_below, puts, values};
+ghost use Rattle.mu_model.specs.declared.reason.Reason.{Reason};
 
 use crate::knowledge::known_at;
 use crate::leadership::{has_ended, is_carried, is_in, proposal_of, starts_leadership};
@@ -217,10 +218,9 @@ fn is_caught_up_below(config: &Config, r: u8, p: u8, part: &[Event], i: u16) -> 
 }
 
 /// Whether each position below `i` is brought.
-#[tactic(auto, using(mu_model::proofs::Scans::all_at, mu_model::proofs::Scans::each_all))]
 fn has_caught_up(config: &Config, r: u8, p: u8, part: &[Event], i: u16) -> bool
     ensures { IsTrue result
-        ↔ ((j : ℕ) → j < i → is_caught_up_at config.now r p (history part.now) j ≡ true) }
+        ↔ AreMet config.now r (history part.now) (each_below i (λ j. Reason.Behind p j ∷ [])) }
 {
     is_caught_up_below(config, r, p, part, i)
 }
@@ -229,8 +229,7 @@ fn has_caught_up(config: &Config, r: u8, p: u8, part: &[Event], i: u16) -> bool
 fn is_value_for(config: &Config, r: u8, part: &[Event], i: u16, v: u16) -> bool
     requires short { length part.now < 2 ^ 32 }
     ensures { IsTrue result
-        ↔ ((slice_get (known config.now r (history part.now)) i ≡ Some v)
-        ⊎ IsNew config.now r (history part.now) i v) }
+        ↔ AreMet config.now r (history part.now) (values config.now r (history part.now) i v) }
 {
     known_at(config, r, part, i) == Some(v) || may_begin(config, r, part, i, v)
 }
@@ -239,18 +238,7 @@ fn is_value_for(config: &Config, r: u8, part: &[Event], i: u16, v: u16) -> bool
 fn may_write(config: &Config, r: u8, part: &[Event], p: u8, i: u16, b: u32) -> bool
     requires ring { 0 < config.now.ring }
     ensures { IsTrue result
-        ↔ ((config.now.version ≡ 2
-        → has
-        (λ e. is_within_ring i config.now.ring
-        (fuo_read_or_raised r p e.by e.verb e.answer))
-        (leadership r (history part.now))
-        ≡ true)
-        × (is_over r (history part.now) ≡ false)
-        × (has_quorum config.now r (history part.now) ≡ true)
-        × (is_member r p (history part.now) ≡ true)
-        × (proposal_number r (history part.now) ≡ Some b)
-        × (last_opened r p (history part.now) ≡ Some (SomeTarget.Place (i % config.now.ring)))
-        × (looked_before_entering config.now r p i (history part.now) ≡ true)) }
+        ↔ AreMet config.now r (history part.now) (puts config.now r (history part.now) p i b) }
 {
     (config.version != 2 || is_within_reach(r, p, i, config.ring, part))
         && !has_ended(r, part)
@@ -272,7 +260,11 @@ fn all_hold(write: bool, caught_up: bool, value: bool) -> bool
 pub fn may_put_slot(config: &Config, r: u8, part: &[Event], p: u8, i: u16, b: u32, v: u16) -> bool
     requires short { length part.now < 2 ^ 32 }
     requires ring { 0 < config.now.ring }
-    ensures { IsTrue result ↔ MayPutSlot config.now r (history part.now) p i b v }
+    ensures { IsTrue result
+        ↔ AreMet config.now r (history part.now)
+        (puts config.now r (history part.now) p i b
+        ++ (each_below i (λ j. Reason.Behind p j ∷ [])
+        ++ values config.now r (history part.now) i v)) }
 {
     let write = may_write(config, r, part, p, i, b);
     let caught_up = has_caught_up(config, r, p, part, i);

@@ -1,6 +1,7 @@
 pub mod Agreeing
 pub mod Completing
 mod Deciding
+pub mod Faults
 pub mod Journals
 pub mod LogCommands
 pub mod LongestLogs

@@ -1,4 +1,5 @@
 pub mod AllEvents
+pub mod Breaks
 pub mod Completion
 pub mod Entries
 pub mod Outcomes

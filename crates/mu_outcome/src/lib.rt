@@ -4,6 +4,7 @@
 
 mod account;
 mod entries;
+mod fault;
 mod logs;
 mod moment;
 mod outcome;
@@ -12,6 +13,7 @@ mod verdict;
 
 pub use account::{Account, EndSoFar};
 pub use entries::commands_of;
+pub use fault::{Broken, Fault};
 pub use logs::longest;
 pub use moment::{Fact, Leads, Moment};
 pub use mu_knowledge::{Commit, Commits, Log};

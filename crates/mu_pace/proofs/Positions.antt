@@ -40,7 +40,7 @@ fuo_fits_step : (c : Config) (p by : ℕ) (v : Verb) (past : List Event) → IsC
 fuo_fits_step c p by (Verb.RaiseFuo q u) past g h may s = go (q == p)
   where
     go : (t : Bool) → max_with (cond t (Some u) None) (region_fuo p past) ≤ row_count c + reserve c
-    go true = let a = may.1 in let b = all_fit c by past g h in omega arith
+    go true = let a = may.1.0 in let b = all_fit c by past g h in omega arith
     go false = s
 fuo_fits_step c p by v past g h may s = s
 

@@ -29,15 +29,15 @@ pub record KeepsRounds (c : Config) (r : ℕ) (now : List Event) : Type 0 where
       × IsMadeAt ((c.replicas - 1) * cycle c) k (is_head_of q) now)
 
 -- what the leader keeps with the event, which asks again if it may
-pub record LeaderKeepsBy (again : Bool) (c : Config) (r : ℕ) (past : List Event) (e : Event) : Type 0
-  where
-    pub asks : AsksLately c r past e
-    pub cause : HasCauseBy again c r past e
-    pub confirmation : ConfirmsInTime c r past e
-    pub places : AreInTime c r (e ∷ past)
-    pub evidence : (p : ℕ) → IsInTime (explaining c r p) (e ∷ past)
-    pub raises : (p : ℕ) → p < c.replicas → IsInTime (raising c r p) (e ∷ past)
-    pub joins : (p : ℕ) → p < c.replicas → IsInTime (joining c r p) (e ∷ past)
+pub record LeaderKeepsBy (again : Bool) (c : Config) (r : ℕ) (past : List Event) (e : Event)
+    : Type 0 where
+  pub asks : AsksLately c r past e
+  pub cause : HasCauseBy again c r past e
+  pub confirmation : ConfirmsInTime c r past e
+  pub places : AreInTime c r (e ∷ past)
+  pub evidence : (p : ℕ) → IsInTime (explaining c r p) (e ∷ past)
+  pub raises : (p : ℕ) → p < c.replicas → IsInTime (raising c r p) (e ∷ past)
+  pub joins : (p : ℕ) → p < c.replicas → IsInTime (joining c r p) (e ∷ past)
 
 abbrev pub LeaderKeeps : Config → ℕ → List Event → Event → Type 0
 LeaderKeeps c r past e = LeaderKeepsBy false c r past e

@@ -9,7 +9,7 @@ use Rattle.mu_model.proofs.Basics.{true_or}
 use Rattle.mu_input.specs.declared.job.Job.{Job}
 use Rattle.mu_events.specs.Lines.{event_line}
 use Rattle.mu_model.specs.declared.config.Config.{Config}
-use Rattle.mu_picture.specs.Drawing.{axis_piece, breach_inside, breach_pieces, breach_shape, content_of, document_of, facts_words, fault_piece, figure_pieces, fold_pieces, foot_pieces, front_of, hatching, head_pieces, last_cursor, lane_pieces, lanes_from, legend, mark_pieces, more_pieces, note_piece, row_pieces, rows_from, sample_block, sample_cross, sample_dot, sample_level, sample_line, sample_piece, standing_pieces, strip_shape, style, svg_of, title_pieces, titles_again, titles_pieces}
+use Rattle.mu_picture.specs.Drawing.{axis_piece, breach_inside, breach_pieces, breach_shape, content_of, document_of, facts_words, fault_piece, figure_pieces, fold_pieces, foot_pieces, front_of, hatching, head_pieces, last_cursor, lane_pieces, lanes_from, legend, mark_pieces, more_pieces, note_piece, row_pieces, rows_from, sample_block, sample_cross, sample_dot, sample_level, sample_line, sample_piece, standing_pieces, strip_shape, style, svg_of, title, title_pieces, titles_again, titles_pieces}
 use Rattle.mu_picture.specs.Lanes.{deed_shapes, halt_shapes, lane_shapes, paused_shape, region_shapes, resumed_shapes}
 use Rattle.mu_picture.specs.Layout.{after, bottom_of, has_titles, lane_of, row_of, stretch_top_of, top}
 use Rattle.mu_picture.specs.Shapes.{escape, escaped, group_piece, head_bytes, look_class, said_piece, shape_piece, shape_pieces, square_bytes, text_piece, way_then}
@@ -307,6 +307,9 @@ lanes_are : (r : ℕ) (openings : List Opening) → IsContent (lanes_from r open
 lanes_are r [] = nothing
 lanes_are r (opening ∷ openings) = both (lane_is r opening) (lanes_are (r + 1) openings)
 
+title_is : IsContent title
+title_is = element {name = codes "title"} refl (whole {content = codes "A run of replicas: their steps from top to bottom"} (plain_content (codes "A run of replicas: their steps from top to bottom") refl) line_feed)
+
 style_is : IsContent style
 style_is = element {name = codes "style"} refl (whole {content = codes "text{font:9px sans-serif;paint-order:stroke;stroke:#fff;stroke-width:5px}.t{font-family:monospace}.s{text-anchor:end;fill:#555}path{stroke:#000;fill:none}rect,circle{stroke:#000;stroke-width:.6}.w,.l,.z{stroke:none}.w,.c{fill:#fff}.l{fill:#888}.z{fill:url(#z)}.f{fill:#fff;stroke:#888;stroke-dasharray:2 2}.p,.k{fill:#000}.q{stroke-dasharray:4 2}.k,.x,.r{stroke-width:2}.a{stroke:#333;stroke-dasharray:2 2}.e{fill:#c00}.r{stroke:#c00}.o0{fill:#e69f00}.o1{fill:#56b4e9}.o2{fill:#009e73}.o3{fill:#f0e442}.o4{fill:#0072b2}.o5{fill:#d55e00}.o6{fill:#cc79a7}"} (plain_content (codes "text{font:9px sans-serif;paint-order:stroke;stroke:#fff;stroke-width:5px}.t{font-family:monospace}.s{text-anchor:end;fill:#555}path{stroke:#000;fill:none}rect,circle{stroke:#000;stroke-width:.6}.w,.l,.z{stroke:none}.w,.c{fill:#fff}.l{fill:#888}.z{fill:url(#z)}.f{fill:#fff;stroke:#888;stroke-dasharray:2 2}.p,.k{fill:#000}.q{stroke-dasharray:4 2}.k,.x,.r{stroke-width:2}.a{stroke:#333;stroke-dasharray:2 2}.e{fill:#c00}.r{stroke:#c00}.o0{fill:#e69f00}.o1{fill:#56b4e9}.o2{fill:#009e73}.o3{fill:#f0e442}.o4{fill:#0072b2}.o5{fill:#d55e00}.o6{fill:#cc79a7}") refl) line_feed)
 
@@ -340,8 +343,8 @@ legend_is =
 
 head_is : (c : Config) (picture : Picture) (width : ℕ) → IsContent (head_pieces c picture width)
 head_is c picture width =
-    both style_is
-    (both hatching_is (both (shape_is (Shape.Bar Look.Ground 0 0 width)) (both (text_is Look.Label 4 14 (facts_words c picture)) legend_is)))
+    both title_is
+    (both style_is (both hatching_is (both (shape_is (Shape.Bar Look.Ground 0 0 width)) (both (text_is Look.Label 4 14 (facts_words c picture)) legend_is))))
 
 content_is : (job : Job) (line : ℕ) (picture : Picture) (breach : Option Breach) (width : ℕ) → IsContent (content_of job line picture breach width)
 content_is job line picture breach width =
@@ -358,7 +361,7 @@ view_plain width height =
 
 -- the front of a document with what follows, as the name of an element and its attributes
 front_before : (width height : ℕ) (rest : List ℕ) → front_of width height ++ rest
-    ≡ codes "<svg xmlns='http://www.w3.org/2000/svg' viewBox='"
+    ≡ codes "<svg xmlns='http://www.w3.org/2000/svg' role='img' viewBox='"
     ++ ((codes "0 0 " ++ (decimal width ++ (codes " " ++ decimal height)))
     ++ (codes "' width='" ++ (decimal width ++ (codes "' height='" ++ (decimal height ++ (codes "'>\n" ++ rest))))))
 front_before width height rest =
@@ -366,7 +369,7 @@ front_before width height rest =
     let third = codes "' height='" ++ (decimal height ++ end) in
     let second = codes "' width='" ++ (decimal width ++ third) in
     let more = codes "' width='" ++ (decimal width ++ (codes "' height='" ++ (decimal height ++ (end ++ rest)))) in
-    ap (λ l. codes "<svg xmlns='http://www.w3.org/2000/svg' viewBox='0 0 " ++ l)
+    ap (λ l. codes "<svg xmlns='http://www.w3.org/2000/svg' role='img' viewBox='0 0 " ++ l)
     (append_assoc (decimal width) (codes " " ++ (decimal height ++ second)) rest
     ∙ (ap (λ l. decimal width ++ (codes " " ++ l))
     (append_assoc (decimal height) second rest
@@ -381,9 +384,10 @@ document_is width height content is = subst IsDocument (sym (front_before width 
   named = refl;
   tag =
       attribute {name = codes "xmlns"} (codes "http://www.w3.org/2000/svg") refl refl refl
+      (attribute {name = codes "role"} (codes "img") refl refl refl
       (attribute {name = codes "viewBox"} (codes "0 0 " ++ (decimal width ++ (codes " " ++ decimal height))) refl refl (view_plain width height)
       (attribute {name = codes "width"} (decimal width) refl refl (number_plain width)
-      (attribute {name = codes "height"} (decimal height) refl refl (number_plain height) (whole {content = 10 ∷ content} (character {byte = 10} refl is) line_feed))));
+      (attribute {name = codes "height"} (decimal height) refl refl (number_plain height) (whole {content = 10 ∷ content} (character {byte = 10} refl is) line_feed)))));
   is = refl;
 })
 

@@ -163,6 +163,9 @@ lanes_from r [] = []
 lanes_from r (opening ∷ openings) = lane_pieces r opening ++ lanes_from (r + 1) openings
 
 -- how text and shapes look
+abbrev pub title : List ℕ
+title = codes "<title>A run of replicas: their steps from top to bottom</title>\n"
+
 abbrev pub style : List ℕ
 style =
     codes "<style>text{font:9px sans-serif;paint-order:stroke;stroke:#fff;stroke-width:5px}"
@@ -257,11 +260,12 @@ facts_words c picture =
 -- and the legend
 abbrev pub head_pieces : Config → Picture → ℕ → List ℕ
 head_pieces c picture width =
-    style
+    title
+    ++ (style
     ++ (hatching
     ++ (shape_piece (Shape.Bar Look.Ground 0 0 width)
     ++ (text_piece Look.Label 4 14 (facts_words c picture)
-    ++ legend)))
+    ++ legend))))
 
 -- what stands in the document
 abbrev pub content_of : Job → ℕ → Picture → Option Breach → ℕ → List ℕ
@@ -275,7 +279,7 @@ content_of job line picture breach width =
 -- the front of a document of this width and height
 abbrev pub front_of : ℕ → ℕ → List ℕ
 front_of width height =
-    codes "<svg xmlns='http://www.w3.org/2000/svg' viewBox='0 0 "
+    codes "<svg xmlns='http://www.w3.org/2000/svg' role='img' viewBox='0 0 "
     ++ (decimal width ++ (codes " " ++ (decimal height ++ (codes "' width='"
     ++ (decimal width ++ (codes "' height='" ++ (decimal height ++ codes "'>\n")))))))
 

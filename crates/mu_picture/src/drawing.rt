@@ -318,7 +318,7 @@ fn push_front(sheet: &mut Sheet, width: u64, height: u64) -> Result<(), NoMemory
     push_parts(
         sheet,
         &[
-            Part::Words(b"<svg xmlns='http://www.w3.org/2000/svg' viewBox='0 0 "),
+            Part::Words(b"<svg xmlns='http://www.w3.org/2000/svg' role='img' viewBox='0 0 "),
             Part::Number(width),
             Part::Words(b" "),
             Part::Number(height),

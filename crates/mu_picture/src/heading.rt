@@ -1,12 +1,19 @@
 //! What stands above the lanes: how a picture looks, what it is of, and its legend.
 ghost use Rattle.std.specs.Prelude.{◌≡◌, ◌++◌, ◌+◌, ◌<◌, ◌≤◌, length, OnOk};
-ghost use Rattle.mu_picture.specs.Drawing.{brief_words as brief_words_of, facts_words, hatching, head_pieces, legend, legend_of_bars, legend_of_lanes, legend_of_lines, sample_block, sample_cross, sample_dot, sample_level, sample_line, sample_piece, style};
+ghost use Rattle.mu_picture.specs.Drawing.{brief_words as brief_words_of, facts_words, hatching, head_pieces, legend, legend_of_bars, legend_of_lanes, legend_of_lines, sample_block, sample_cross, sample_dot, sample_level, sample_line, sample_piece, style, title};
 
 use crate::pictures::Picture;
 use crate::shapes::{Look, Part, Shape, Way, push_parts, push_shape, push_text};
 use crate::sheet::Sheet;
 use mu_model::{Config, NoMemory};
 use std::alloc::Global;
+
+/// Adds what the picture is, for who doesn't see it.
+fn push_title(sheet: &mut Sheet) -> Result<(), NoMemory>
+    ensures { OnOk result (sheet.new ≡ sheet.old ++ title) }
+{
+    sheet.push(b"<title>A run of replicas: their steps from top to bottom</title>\n")
+}
 
 /// Adds how text and shapes look.
 fn push_style(sheet: &mut Sheet) -> Result<(), NoMemory>
@@ -244,6 +251,7 @@ pub fn push_head(
         y: 0,
         width,
     };
+    push_title(sheet)?;
     push_style(sheet)?;
     push_hatching(sheet)?;
     push_shape(sheet, ground)?;

@@ -16,7 +16,6 @@ use Rattle.mu_model.specs.Knowledge.{is_put_done, known, lands_entry}
 use Rattle.mu_model.specs.Leaderships.{begins_leadership, is_first_ask, leadership, leaderships, number_put, proposal_number}
 use Rattle.mu_model.specs.Parts.{IsPossible}
 use Rattle.mu_model.specs.Picks.{first_value, joined_since_first_put, may_propose, value_put}
-use Rattle.mu_model.specs.Placing.{IsNew}
 use Rattle.mu_model.specs.Room.{reserve}
 use Rattle.mu_agree.proofs.Landings.{has_cases, has_since}
 use Rattle.mu_agree.proofs.Possible.{parts_shorten_law}
@@ -24,6 +23,7 @@ use Rattle.mu_agree.proofs.Tame.{known_longer}
 use Rattle.mu_placing.specs.LandedPuts.{entry_put, is_entry, last_landed}
 use Rattle.mu_model.proofs.Basics.{same_number, same_some, none_some}
 use Rattle.mu_model.proofs.Counts.{how_many_within}
+use Rattle.mu_model.proofs.Putting.{IsNew, put_facts}
 
 -- there are no more leaderships than events
 pub few_leaderships : (r : ℕ) (mine : List Event) → leaderships r mine ≤ length mine
@@ -53,7 +53,7 @@ InRange c r mine = (p i b v : ℕ) → has (lands_entry r p i b v) mine ≡ true
 range_by : (c : Config) (r by : ℕ) (verb : Verb) (answer : Answer) (mine : List Event) → Needs c r mine verb → InRange c r mine → InRange c r (record { by = by; verb = verb; answer = answer } ∷ mine)
 range_by c r by (Verb.PutSlot q j n w) Answer.Done mine needs before = λ p i b v m.
     elim (has_cases ((by == r) && ((q == p) && ((j == i) && ((n == b) && (w == v))))) (has (lands_entry r p i b v) mine) m) [
-      | inl here ↦ (let put = is_put r p i b v by q j n w here in (subst (λ x. x < c.replicas) put.region needs.0, subst (λ x. x ≤ row_count c + reserve c) put.position needs.1))
+      | inl here ↦ (let put = is_put r p i b v by q j n w here in (subst (λ x. x < c.replicas) put.region needs.0, subst (λ x. x ≤ row_count c + reserve c) put.position needs.1.0))
       | inr old ↦ before p i b v old
     ]
 range_by c r by verb answer mine needs before = before
@@ -101,9 +101,9 @@ alike_by c r i by (Verb.PutSlot q j n w) Answer.Done mine needs unknown before =
     now : (p b v : ℕ) → IsPut r p i b v by q j n w → (proposal_number r mine ≡ Some b) × (earlier_or (value_put r i by (Verb.PutSlot q j n w)) (first_value r i mine) ≡ Some v)
     now p b v put =
         let told : value_put r i by (Verb.PutSlot q j n w) ≡ Some w = rw (put.own, put.position, same_number r, same_number i) refl in
-        let may = is_new c r mine j w (let at = put.position in omega arith) needs.2.value in
+        let may = is_new c r mine j w (let at = put.position in omega arith) (put_facts c r mine q j n w needs).value in
         let first : earlier_or (Some w) (first_value r j mine) ≡ Some w = proposed_first c r mine j w (first_value r j mine) may in (
-          needs.2.numbered ∙ ap Some put.number,
+          (put_facts c r mine q j n w needs).numbered ∙ ap Some put.number,
           ap (λ o. earlier_or o (first_value r i mine)) told ∙ ap (λ k. earlier_or (Some w) (first_value r k mine)) (sym put.position) ∙ first ∙ ap Some put.value,
         )
 alike_by c r i by (Verb.PutSlot q j n w) answer mine needs unknown before = λ p b v m.

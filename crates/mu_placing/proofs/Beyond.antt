@@ -24,7 +24,7 @@ use Rattle.mu_knowledge.proofs.Filled.{fills_by, filled_upto}
 
 -- no FUO is read there
 no_fuo : (c : Config) (r p by : ℕ) (verb : Verb) (answer : Answer) (mine : List Event) → c.replicas ≤ p → Needs c r mine verb → fuo_read r p by verb answer ≡ None
-no_fuo c r p by (Verb.Fuo q) (Answer.Number x) mine beyond needs = rw (ne_eqb q p (λ e. omega (arith, e, beyond, needs)), and-false (by == r)) refl
+no_fuo c r p by (Verb.Fuo q) (Answer.Number x) mine beyond needs = rw (ne_eqb q p (let low = needs.0 in λ e. omega (arith, e, beyond, low)), and-false (by == r)) refl
 no_fuo c r p by verb answer mine beyond needs = refl
 
 -- nothing was put there

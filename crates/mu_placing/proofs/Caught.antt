@@ -14,7 +14,7 @@ use Rattle.mu_model.specs.Histories.{has, max_with, newer_or}
 use Rattle.mu_model.specs.Knowledge.{fuo_read, greatest_fuo_read, grown, is_put_done, is_value, known, lands_entry, learnt_by}
 use Rattle.mu_model.specs.Leaderships.{begins_leadership, is_first_ask, leadership}
 use Rattle.mu_model.specs.Parts.{IsPossible}
-use Rattle.mu_model.specs.Placing.{IsNew, is_caught_up_at, is_known_put}
+use Rattle.mu_model.specs.Placing.{is_caught_up_at, is_known_put}
 use Rattle.mu_agree.proofs.Landings.{has_cases, has_implied, has_more}
 use Rattle.mu_agree.proofs.Possible.{parts_shorten_law}
 use Rattle.mu_placing.specs.FilledLogs.{IsFirstBehind, has_known}
@@ -24,6 +24,7 @@ use Rattle.mu_placing.proofs.Alike.{AreAlike, is_put, last_was_put, put_has_last
 use Rattle.mu_knowledge.proofs.Filled.{below_max}
 use Rattle.mu_model.proofs.Basics.{none_of_or, or_true, same_number, same_some, true_or}
 use Rattle.mu_model.proofs.Lists.{get_push_other}
+use Rattle.mu_model.proofs.Putting.{IsNew, put_facts}
 
 -- what is known at a position stays
 pub known_at_stays : (c : Config) (r j v : ℕ) (e : Event) (mine : List Event) → slice_get (known c r mine) j ≡ Some v → slice_get (known c r (e ∷ mine)) j ≡ Some v
@@ -136,7 +137,7 @@ last_known_by c r p j by (Verb.PutSlot q i n w) Answer.Done mine needs low same 
         → is_last_known (slice_get (known c r now) j) (newer_or (cond (t && (u && x)) (Some entry) None) (last_landed r p j mine)) ≡ true
     go true own true region true position m =
         let at : i ≡ j = eqb-true i j position in
-        let there : slice_get (known c r mine) i ≡ Some w = put_is_known c r i w mine (omega arith) needs.2.value in
+        let there : slice_get (known c r mine) i ≡ Some w = put_is_known c r i w mine (omega arith) (put_facts c r mine q i n w needs).value in
         let here : slice_get (known c r now) j ≡ Some w = same ∙ subst (λ k. slice_get (known c r mine) k ≡ Some w) at there in
         ap (λ o. is_value o w) here ∙ same_number w
     go true own true region false position m = old m

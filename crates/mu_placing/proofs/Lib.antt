@@ -1,5 +1,7 @@
 mod Alike
+mod Apart
 mod Beyond
+mod Calm
 mod Caught
 mod Cover
 mod Elsewhere

@@ -18,6 +18,12 @@ tells_of_peers (Verb.Head q) = true
 tells_of_peers (Verb.ReadBeat q) = true
 tells_of_peers _ = false
 
+-- a verb that reads a head, or may begin a leadership
+abbrev pub tells_of_heads : Verb → Bool
+tells_of_heads (Verb.Ask p) = true
+tells_of_heads (Verb.Head q) = true
+tells_of_heads _ = false
+
 -- r may mark q exactly if the head, if there is one, lacks room
 abbrev pub StandsForStuck : Config → ℕ → ℕ → List Event → Option ℕ → Type 0
 StandsForStuck c r q mine head =

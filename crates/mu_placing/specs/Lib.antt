@@ -2,3 +2,4 @@ pub mod FilledLogs
 pub mod Heads
 pub mod LandedPuts
 pub mod Looks
+pub mod Naming

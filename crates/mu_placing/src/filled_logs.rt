@@ -10,11 +10,13 @@ ghost use Rattle.mu_model.specs.Knowledge.{is_filled, is_value, known, lands_ent
 ghost use Rattle.mu_model.specs.Leaderships.{begins_leadership, leadership};
 ghost use Rattle.mu_model.specs.Parts.{IsPossible};
 ghost use Rattle.mu_model.specs.Placing.{is_caught_up_at};
+ghost use Rattle.mu_placing.specs.Naming.{named_region};
 ghost use Rattle.mu_placing.specs.FilledLogs.{HoldsCoverage, HoldsCoverages, StandsForFilledLogs, IsFirstBehind, has_known};
 ghost use Rattle.mu_knowledge.specs.FilledLog.{IsFilledTo, filled_spot};
 ghost use Rattle.mu_placing.specs.LandedPuts.{StandsForLandedPuts};
 
 use crate::landed_puts::LandedPuts;
+use crate::naming::named_region;
 use mu_knowledge::{FilledLog, fuo_in, raised};
 use mu_leadership::{begins, is_leader_verb};
 use mu_model::{Answer, Config, Event, NoMemory, Verb};
@@ -226,6 +228,66 @@ fn take_at_each(
     }
 }
 
+/// The region that the event names, if nothing becomes known by it: then it bears on no other.
+#[inline(always)]
+fn region_alone(known_before: &[u16], known_after: &[u16], event: &Event) -> Option<u8>
+    ensures { result
+        ≡ (if length known_before.now == length known_after.now
+        then named_region event.now.verb
+        else None) }
+{
+    if known_before.len() == known_after.len() {
+        named_region(&event.verb)
+    } else {
+        None
+    }
+}
+
+/// Takes the event at the region `p`, which it names, if nothing becomes known by it.
+#[inline(always)]
+fn take_at(
+    regions: &mut [Coverage],
+    p: u8,
+    r: u8,
+    known_before: &[u16],
+    known_after: &[u16],
+    landings: &LandedPuts,
+    event: &Event,
+)
+    ensures { (c : Config) → (mine : List Event) → IsConfig c → IsPossible c r (event.now ∷ mine)
+        → known_before.now ≡ known c r mine → known_after.now ≡ known c r (event.now ∷ mine)
+        → StandsForLandedPuts c r (event.now ∷ mine) landings.now
+        → length (known c r mine) ≡ length (known c r (event.now ∷ mine))
+        → named_region event.now.verb ≡ Some p
+        → HoldsCoverages c r mine regions.old → HoldsCoverages c r (event.now ∷ mine) regions.new }
+{
+    let at = usize::from(p);
+    if at < regions.len() {
+        regions[at].take(r, known_before, known_after, landings, event);
+    }
+}
+
+/// Takes the event at the regions that it bears on.
+#[inline(always)]
+fn take_at_regions(
+    regions: &mut [Coverage],
+    r: u8,
+    known_before: &[u16],
+    known_after: &[u16],
+    landings: &LandedPuts,
+    event: &Event,
+)
+    ensures { (c : Config) → (mine : List Event) → IsConfig c → IsPossible c r (event.now ∷ mine)
+        → known_before.now ≡ known c r mine → known_after.now ≡ known c r (event.now ∷ mine)
+        → StandsForLandedPuts c r (event.now ∷ mine) landings.now
+        → HoldsCoverages c r mine regions.old → HoldsCoverages c r (event.now ∷ mine) regions.new }
+{
+    match region_alone(known_before, known_after, event) {
+        Some(p) => take_at(regions, p, r, known_before, known_after, landings, event),
+        None => take_at_each(regions, r, known_before, known_after, landings, event),
+    }
+}
+
 impl FilledLogs {
     /// A state in which nothing is known yet. Takes all memory that it ever needs.
     pub fn new(alloc: Global, config: &Config) -> Result<FilledLogs, NoMemory>
@@ -263,7 +325,7 @@ impl FilledLogs {
         if !is_leader_verb(&event.verb) {
             return;
         }
-        take_at_each(
+        take_at_regions(
             &mut self.regions,
             r,
             known_before,

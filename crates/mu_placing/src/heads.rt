@@ -5,7 +5,7 @@ ghost use Rattle.mu_model.specs.declared.event.Event.{Event};
 ghost use Rattle.mu_model.specs.Room.{is_mark_candidate, lacks_room, last_head};
 ghost use Rattle.mu_model.specs.Scores.{score};
 ghost use Rattle.mu_detect.specs.Stands.{StandsFor};
-ghost use Rattle.mu_placing.specs.Heads.{StandsForHeads, HoldsPeer, HoldsPeers, StandsForStuck, tells_of_peers};
+ghost use Rattle.mu_placing.specs.Heads.{StandsForHeads, HoldsPeer, HoldsPeers, StandsForStuck, tells_of_heads, tells_of_peers};
 
 use mu_detect::Scores;
 use mu_model::{Answer, Config, Event, Verb};
@@ -34,6 +34,16 @@ fn tells_of_peers(verb: &Verb) -> bool
 {
     match verb {
         Verb::Ask(_) | Verb::Head(_) | Verb::ReadBeat(_) => true,
+        _ => false,
+    }
+}
+
+/// Whether the verb reads a head, or may begin a leadership.
+fn tells_of_heads(verb: &Verb) -> bool
+    ensures { result ≡ tells_of_heads verb.now }
+{
+    match verb {
+        Verb::Ask(_) | Verb::Head(_) => true,
         _ => false,
     }
 }
@@ -123,6 +133,17 @@ fn take_at_peers(peers: &mut [Peer; 7], scores: &Scores, r: u8, event: &Event)
     }
 }
 
+/// Takes the event at the peers, if it bears on one: most events read a count of beats.
+#[inline(always)]
+fn take_heads(peers: &mut [Peer; 7], scores: &Scores, r: u8, event: &Event)
+    ensures { (c : Config) → (mine : List Event) → StandsFor c.replicas r mine scores.now
+        → HoldsPeers c r mine peers.old → HoldsPeers c r (event.now ∷ mine) peers.new }
+{
+    if tells_of_heads(&event.verb) {
+        take_at_peers(peers, scores, r, event);
+    }
+}
+
 impl Heads {
     /// The state of the replica `id` with nothing read: all are alive.
     pub fn new(config: &Config, id: u8) -> Heads
@@ -148,7 +169,7 @@ impl Heads {
         if !tells_of_peers(&event.verb) {
             return;
         }
-        take_at_peers(&mut self.peers, &self.scores, r, event);
+        take_heads(&mut self.peers, &self.scores, r, event);
         self.scores.note(event);
     }
 

@@ -9,6 +9,7 @@ mod filled_logs;
 mod heads;
 mod landed_puts;
 mod looks;
+mod naming;
 mod region_looks;
 
 pub use filled_logs::FilledLogs;

@@ -12,8 +12,10 @@ ghost use Rattle.mu_model.specs.Picks.{entry_of, first_value, highest_accepted, 
 ghost use Rattle.mu_model.specs.Placing.{fuo_read_or_raised, is_within_ring, looked_before_entering, reaches_head};
 ghost use Rattle.mu_model.specs.Room.{reserve};
 ghost use Rattle.mu_leadership.specs.Leadership.{StandsForLeadership};
+ghost use Rattle.mu_placing.specs.Naming.{named_region};
 ghost use Rattle.mu_placing.specs.Looks.{HoldsEachRegion, HoldsFirst, HoldsFirsts, HoldsOwnReach, StandsForLooks, begun_time, joining_time};
 
+use crate::naming::named_region;
 use crate::region_looks::{RegionLooks, farther};
 use mu_leadership::{Leadership, begins, is_leader_verb};
 use mu_model::{Answer, Config, Event, NoMemory, Verb, positions_in};
@@ -141,6 +143,32 @@ fn take_at_each(regions: &mut [RegionLooks], r: u8, now: u32, event: &Event)
     }
 }
 
+/// Takes the event at the region `p` that it names.
+#[inline(always)]
+fn take_at(regions: &mut [RegionLooks], p: u8, r: u8, now: u32, event: &Event)
+    ensures { (c : Config) → (mine : List Event) → 0 < c.ring → now ≡ length mine + 1
+        → named_region event.now.verb ≡ Some p → HoldsEachRegion c r mine regions.old
+        → HoldsEachRegion c r (event.now ∷ mine) regions.new }
+{
+    let at = usize::from(p);
+    if at < regions.len() {
+        regions[at].take(r, now, event);
+    }
+}
+
+/// Takes the event at the regions that it bears on.
+#[inline(always)]
+fn take_at_regions(regions: &mut [RegionLooks], r: u8, now: u32, event: &Event)
+    ensures { (c : Config) → (mine : List Event) → 0 < c.ring → now ≡ length mine + 1
+        → HoldsEachRegion c r mine regions.old
+        → HoldsEachRegion c r (event.now ∷ mine) regions.new }
+{
+    match named_region(&event.verb) {
+        Some(p) => take_at(regions, p, r, now, event),
+        None => take_at_each(regions, r, now, event),
+    }
+}
+
 /// Whether a FUO, if there is one, is at least `h`.
 fn reaches_to(reach: Option<u64>, h: u16) -> bool
     ensures { result ≡ reaches_head h reach }
@@ -225,7 +253,7 @@ impl Looks {
         self.begun_at = begun_after(self.begun_at, r, now, event);
         self.joined_at = joined_after(self.joined_at, joining, r, now, event);
         self.own_reach = own_reach_after(self.own_reach, r, event);
-        take_at_each(&mut self.regions, r, now, event);
+        take_at_regions(&mut self.regions, r, now, event);
     }
 
     /// Whether the leadership read or raised a FUO of `p` within a ring of position `i`.

@@ -14,9 +14,9 @@ read_allowed c r mine (Verb.Enter p t) here needs = needs.0
 read_allowed c r mine (Verb.PutMin p b) here needs = needs.0
 read_allowed c r mine (Verb.Look p i) here needs = needs.0
 read_allowed c r mine (Verb.PutSlot p i b v) here needs = needs.0
-read_allowed c r mine (Verb.Fuo p) here needs = needs
+read_allowed c r mine (Verb.Fuo p) here needs = needs.0
 read_allowed c r mine (Verb.RaiseFuo p u) here needs = needs.0
-read_allowed c r mine (Verb.Head q) here needs = needs
+read_allowed c r mine (Verb.Head q) here needs = needs.0
 read_allowed c r mine (Verb.ReadBeat q) here needs = needs.0
 read_allowed c r mine (Verb.WriteRow j k x) here needs = here
 read_allowed c r mine (Verb.ReadRow v k) here needs = needs.0
@@ -29,10 +29,10 @@ read_allowed c r mine Verb.Drain here needs = here
 read_allowed c r mine (Verb.Grant w) here needs = here
 
 near_allowed : (c : Config) (r : ℕ) (mine : List Event) (verb : Verb) → Needs c r mine verb → IsNear c verb
-near_allowed c r mine (Verb.PutSlot p i b v) needs = needs.1
-near_allowed c r mine (Verb.WriteRow j k x) needs = (needs.0, needs.1)
-near_allowed c r mine (Verb.ReadRow v k) needs = (needs.1, needs.2)
-near_allowed c r mine (Verb.ReadAsk w) needs = needs
+near_allowed c r mine (Verb.PutSlot p i b v) needs = needs.1.0
+near_allowed c r mine (Verb.WriteRow j k x) needs = (needs.0, needs.1.0)
+near_allowed c r mine (Verb.ReadRow v k) needs = (needs.1.0, needs.1.1.0)
+near_allowed c r mine (Verb.ReadAsk w) needs = needs.0
 near_allowed c r mine (Verb.Ask p) needs = tt
 near_allowed c r mine (Verb.Fence p) needs = tt
 near_allowed c r mine (Verb.Min p) needs = tt

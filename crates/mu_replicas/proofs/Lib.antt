@@ -1,2 +1,3 @@
+mod Numbers
 mod Points
 mod Whole

@@ -10,10 +10,12 @@ use Rattle.mu_model.specs.Entering.{any_min_read}
 use Rattle.mu_model.specs.Histories.{all_below, greatest}
 use Rattle.mu_model.specs.Leaderships.{leadership, number_put, proposal_number}
 use Rattle.mu_model.specs.Serving.{has_unserved_ask, is_least_waiting}
-use Rattle.mu_reasons.specs.declared.reason.Reason.{Reason}
-use Rattle.mu_reasons.specs.Reasons.{AreMet, Finds, IsMet, each_below, first_below, greatest_used, right_number}
-use Rattle.mu_reasons.proofs.Lists.{found_on, met_front}
-use Rattle.mu_reasons.proofs.Numbers.{none_found, one_found}
+use Rattle.mu_model.specs.declared.reason.Reason.{Reason}
+use Rattle.mu_model.specs.Points.{AreMet, IsMet, each_below, first_below, greatest_used, right_number}
+use Rattle.mu_model.specs.Reasons.{Finds}
+use Rattle.mu_model.proofs.AllMet.{met_append, met_front}
+use Rattle.mu_model.proofs.Reasons.{found_on}
+use Rattle.mu_model.proofs.FirstBelow.{none_found, one_found}
 
 pub low : (p n : ℕ) → p < n → n ≤ 7 → p < 7
 low p n below few = omega (arith, below, few)
@@ -52,9 +54,6 @@ equal_as a b m n same also = subst (λ k. (IsTrue (a == b) ↔ (m ≡ k))) also 
 pub unequal_to : (a b n : ℕ) → b ≡ n → (IsTrue (not (a == b)) ↔ (a ≢ n))
 unequal_to a b n same = subst (λ k. (IsTrue (not (a == b)) ↔ (a ≢ k))) same (unequal a b)
 
-pub iff_both : (t : Bool) (P Q : Type 0) → (IsTrue t ↔ (P × Q)) → P → (IsTrue t ↔ Q)
-iff_both t P Q met p = (λ h. (met.0 h).1, λ q. met.1 (p, q))
-
 -- if a point fails, the search is over
 pub stops : (c : Config) (r : ℕ) (past : List Event) (xs more : List Reason) (found : Option Reason) → (AreMet c r past xs → ⊥) → Finds c r past xs found → Finds c r past (xs ++ more) found
 stops c r past xs more None fails finds = absurd (fails finds)
@@ -88,6 +87,11 @@ pub one_more : (c : Config) (r : ℕ) (past : List Event) (xs : List Reason) (n 
 one_more c r past xs n of_each found finds =
     let next : suc n ≡ n + 1 = omega arith in
     subst (λ k. Finds c r past (xs ++ each_below k of_each) found) next (apart c r past xs (each_below n of_each) (of_each n) found finds)
+
+-- further points that are met
+pub more_met : (c : Config) (r : ℕ) (past : List Event) (xs more : List Reason) (found : Option Reason) → AreMet c r past more → Finds c r past xs found → Finds c r past (xs ++ more) found
+more_met c r past xs more None met finds = met_append c r past xs more finds met
+more_met c r past xs more (Some q) met finds = found_on c r past xs more q finds
 
 -- no further points
 pub no_more : (c : Config) (r : ℕ) (past : List Event) (xs : List Reason) (found : Option Reason) → Finds c r past xs found → Finds c r past (xs ++ []) found

@@ -11,14 +11,16 @@ ghost use Rattle.mu_model.specs.Knowledge.{known};
 ghost use Rattle.mu_model.specs.Leaderships.{is_member, proposal_number};
 ghost use Rattle.mu_model.specs.Parts.{IsPossible};
 ghost use Rattle.mu_model.specs.Serving.{drained_since_close, must_drain};
-ghost use Rattle.mu_reasons.specs.Reasons.{Finds, bounds, last_position, least_number, points, right_number};
+ghost use Rattle.mu_model.specs.Points.{bounds, last_position, least_number, points, right_number};
+ghost use Rattle.mu_model.specs.Reasons.{Finds};
 ghost use Rattle.mu_replicas.specs.Stands.{StandsForReplica};
 
+use crate::found::Found;
 use crate::replica::{Replica, is_position};
-use mu_model::{Config, Target, Verb, positions_in};
-use mu_reasons::{Found, Reason};
+use mu_model::{Config, Reason, Target, Verb, positions_in};
 
 /// Whether a region is entered for the target.
+#[inline(always)]
 pub(crate) fn is_entered_for(entered: Option<Target>, target: Target) -> bool
     ensures { IsTrue result ↔ (entered ≡ Some target) }
 {
@@ -26,6 +28,7 @@ pub(crate) fn is_entered_for(entered: Option<Target>, target: Target) -> bool
 }
 
 /// The last position of a log.
+#[inline(always)]
 pub(crate) fn last_position(config: &Config) -> usize
     requires { IsConfig config.now }
     ensures { result ≡ last_position config.now }
@@ -34,6 +37,7 @@ pub(crate) fn last_position(config: &Config) -> usize
 }
 
 /// The least number above this that is `r` modulo 8, from 8 on.
+#[inline(always)]
 fn least_number(r: u8, above: u64) -> u128
     ensures { result ≡ least_number r above }
 {
@@ -47,6 +51,7 @@ fn least_number(r: u8, above: u64) -> u128
 }
 
 /// The number to put: that of the leadership, or the least of 32 bits that a new one may take.
+#[inline(always)]
 fn right_number(r: u8, above: u64, own: Option<u32>) -> Option<u32>
     ensures { result ≡ right_number r above own }
 {
@@ -58,6 +63,7 @@ fn right_number(r: u8, above: u64, own: Option<u32>) -> Option<u32>
 
 impl Replica {
     /// Whether the minimums of a majority are read, if no number is put in the leadership.
+    #[inline(always)]
     fn is_confirmed(&self, config: &Config) -> bool
         requires { IsConfig config.now }
         ensures { (r : ℕ) → (mine : List Event) → StandsForReplica config.now r mine self.now
@@ -69,6 +75,7 @@ impl Replica {
     }
 
     /// Whether the word that a closed fence names is drained, if it names one.
+    #[inline(always)]
     fn is_drained(&self) -> bool
         ensures { (c : Config) → (r : ℕ) → (mine : List Event) → StandsForReplica c r mine self.now
             → (IsTrue result
@@ -79,6 +86,7 @@ impl Replica {
     }
 
     /// The value that is known at a position.
+    #[inline(always)]
     pub(crate) fn value_at(&self, i: usize) -> Option<u16>
         ensures { (c : Config) → (r : ℕ) → (mine : List Event) → StandsForReplica c r mine self.now
             → result ≡ slice_get (known c r mine) i }
@@ -87,21 +95,24 @@ impl Replica {
     }
 
     /// What an `Ask` needs.
+    #[inline(always)]
     fn why_no_ask(&self, config: &Config, p: u8, found: Found) -> Found
         requires { IsConfig config.now }
         ensures { (r : ℕ) → (mine : List Event) → StandsForReplica config.now r mine self.now
             → Finds config.now r mine (bounds r mine) found.reason
             → Finds config.now r mine (points config.now r mine (SomeVerb.Ask p)) result.reason }
     {
-        let n = config.replicas;
         let asked = self.leadership.asked();
-        found.needs(p < n, Reason::NoRegion { region: p }).needs(
-            self.leadership.may_ask(n, p),
-            Reason::OutOfTurn { region: p, asked },
-        )
+        found
+            .needs(p < config.replicas, Reason::NoRegion { region: p })
+            .needs(
+                self.leadership.is_next_to_ask(p),
+                Reason::OutOfTurn { region: p, asked },
+            )
     }
 
     /// What a `Fence` needs.
+    #[inline(always)]
     fn why_no_fence(&self, config: &Config, p: u8, found: Found) -> Found
         requires { IsConfig config.now }
         ensures { (r : ℕ) → (mine : List Event) → StandsForReplica config.now r mine self.now
@@ -114,6 +125,7 @@ impl Replica {
     }
 
     /// What a `Min` needs.
+    #[inline(always)]
     fn why_no_minimum(&self, config: &Config, p: u8, found: Found) -> Found
         requires { IsConfig config.now }
         ensures { (r : ℕ) → (mine : List Event) → StandsForReplica config.now r mine self.now
@@ -128,6 +140,7 @@ impl Replica {
     }
 
     /// What an `Enter` for nothing needs.
+    #[inline(always)]
     fn why_no_enter(&self, config: &Config, p: u8, found: Found) -> Found
         requires { IsConfig config.now }
         ensures { (r : ℕ) → (mine : List Event) → StandsForReplica config.now r mine self.now
@@ -141,6 +154,7 @@ impl Replica {
     }
 
     /// What an `Enter` for a minimum needs.
+    #[inline(always)]
     fn why_no_enter_for_minimum(&self, config: &Config, p: u8, found: Found) -> Found
         requires { IsConfig config.now }
         ensures { (r : ℕ) → (mine : List Event) → StandsForReplica config.now r mine self.now
@@ -158,6 +172,7 @@ impl Replica {
     }
 
     /// What an `Enter` for a place needs.
+    #[inline(always)]
     fn why_no_enter_for_place(&self, config: &Config, p: u8, s: u16, found: Found) -> Found
         requires { IsConfig config.now }
         ensures { (r : ℕ) → (mine : List Event) → StandsForReplica config.now r mine self.now
@@ -174,6 +189,7 @@ impl Replica {
     }
 
     /// What an `Enter` needs.
+    #[inline(always)]
     fn why_no_enter_for(&self, config: &Config, p: u8, target: Target, found: Found) -> Found
         requires { IsConfig config.now }
         ensures { (r : ℕ) → (mine : List Event) → StandsForReplica config.now r mine self.now
@@ -189,6 +205,7 @@ impl Replica {
     }
 
     /// What a `PutMin` needs.
+    #[inline(always)]
     fn why_no_put_minimum(&self, config: &Config, p: u8, b: u32, found: Found) -> Found
         requires { IsConfig config.now }
         ensures { (r : ℕ) → (mine : List Event) → StandsForReplica config.now r mine self.now
@@ -225,6 +242,7 @@ impl Replica {
     }
 
     /// What a `Look` needs.
+    #[inline(always)]
     fn why_no_look(&self, config: &Config, p: u8, i: u16, found: Found) -> Found
         requires { IsConfig config.now }
         ensures { (r : ℕ) → (mine : List Event) → StandsForReplica config.now r mine self.now
@@ -232,21 +250,21 @@ impl Replica {
             → Finds config.now r mine (points config.now r mine (SomeVerb.Look p i))
             result.reason }
     {
-        let n = config.replicas;
         let last = last_position(config);
         found
-            .needs(p < n, Reason::NoRegion { region: p })
+            .needs(p < config.replicas, Reason::NoRegion { region: p })
             .needs(
                 is_position(config, i),
                 Reason::NoPosition { position: i, last },
             )
             .needs(
-                self.leadership.may_look(n, p),
+                self.leadership.is_readable(p),
                 Reason::NotReadable { region: p },
             )
     }
 
     /// That there is the region, which is all that some verbs need.
+    #[inline(always)]
     fn why_no_region(&self, config: &Config, p: u8, found: Found) -> Found
         requires { IsConfig config.now }
         ensures { (r : ℕ) → (mine : List Event)
@@ -257,6 +275,7 @@ impl Replica {
     }
 
     /// What a `ReadBeat` needs.
+    #[inline(always)]
     fn why_no_read_beat(&self, config: &Config, q: u8, found: Found) -> Found
         requires { IsConfig config.now }
         ensures { (r : ℕ) → (mine : List Event) → StandsForReplica config.now r mine self.now
@@ -270,6 +289,7 @@ impl Replica {
     }
 
     /// What a `RaiseFuo` needs.
+    #[inline(always)]
     fn why_no_raise_fuo(&self, config: &Config, p: u8, u: u16, found: Found) -> Found
         requires { IsConfig config.now }
         ensures { (r : ℕ) → (mine : List Event) → IsPossible config.now r mine
@@ -279,9 +299,14 @@ impl Replica {
             result.reason }
     {
         let known = self.known_log.known().len();
-        let mut found = found
+        let found = found
             .needs(p < config.replicas, Reason::NoRegion { region: p })
             .needs(usize::from(u) <= known, Reason::NotKnown { fuo: u, known });
+        let all = self.filled_logs.are_filled(p, u);
+        if all {
+            return found;
+        }
+        let mut found = found;
         for j in 0..u {
             let filled = self.filled_logs.are_filled(p, j + 1);
             found = found.needs(
@@ -296,6 +321,7 @@ impl Replica {
     }
 
     /// What a `Close` needs.
+    #[inline(always)]
     fn why_no_close(&self, config: &Config, found: Found) -> Found
         requires { IsConfig config.now }
         ensures { (r : ℕ) → (mine : List Event) → StandsForReplica config.now r mine self.now
@@ -304,10 +330,11 @@ impl Replica {
     {
         found
             .needs(!self.grants.is_closing(), Reason::Closing)
-            .needs(self.grants.may_close(), Reason::NobodyWaits)
+            .needs(self.grants.is_awaited(), Reason::NobodyWaits)
     }
 
     /// What a `LookTarget` needs.
+    #[inline(always)]
     fn why_no_look_target(&self, config: &Config, found: Found) -> Found
         requires { IsConfig config.now }
         ensures { (r : ℕ) → (mine : List Event) → StandsForReplica config.now r mine self.now
@@ -321,6 +348,7 @@ impl Replica {
     }
 
     /// What a `Drain` needs.
+    #[inline(always)]
     fn why_no_drain(&self, config: &Config, found: Found) -> Found
         requires { IsConfig config.now }
         ensures { (r : ℕ) → (mine : List Event) → StandsForReplica config.now r mine self.now
@@ -334,6 +362,7 @@ impl Replica {
     }
 
     /// What a `Grant` needs.
+    #[inline(always)]
     fn why_no_grant(&self, config: &Config, w: u8, found: Found) -> Found
         requires { IsConfig config.now }
         ensures { (r : ℕ) → (mine : List Event) → StandsForReplica config.now r mine self.now
@@ -354,6 +383,7 @@ impl Replica {
     }
 
     /// What the verb needs.
+    #[inline(always)]
     fn why_no_verb(&self, config: &Config, verb: &Verb, found: Found) -> Found
         requires { IsConfig config.now }
         ensures { (r : ℕ) → (mine : List Event) → IsPossible config.now r mine
@@ -387,6 +417,7 @@ impl Replica {
 
     /// The first point that keeps the replica from making the verb next, if any does. Takes no
     /// memory.
+    #[inline(always)]
     pub fn why_not(&self, config: &Config, verb: &Verb) -> Option<Reason>
         requires { IsConfig config.now }
         ensures { (r : ℕ) → (mine : List Event) → IsPossible config.now r mine

@@ -5,11 +5,14 @@
 #![tactic(auto)]
 
 mod explaining;
+mod found;
+mod laws;
 mod put_reasons;
 mod putting;
 mod replica;
 mod replicas;
 mod row_reasons;
 
+pub use laws::{at_most_one_reason, points_are_allowance, right_number_is_allowed};
 pub use replica::Replica;
 pub use replicas::Replicas;

@@ -10,18 +10,21 @@ ghost use Rattle.mu_model.specs.Leaderships.{is_member};
 ghost use Rattle.mu_model.specs.Parts.{IsPossible};
 ghost use Rattle.mu_model.specs.Picks.{first_value, highest_accepted, last_look};
 ghost use Rattle.mu_model.specs.Room.{reserve};
-ghost use Rattle.mu_reasons.specs.declared.reason.Reason.{Reason as SomeReason};
-ghost use Rattle.mu_reasons.specs.Reasons.{Finds, batch_written, bounds, clear_members, each_below, last_position, new_values, offers, picks, points, proposals, puts, reserved_rooms, rooms, row_written, values};
+ghost use Rattle.mu_model.specs.declared.reason.Reason.{Reason as SomeReason};
+ghost use Rattle.mu_model.specs.Points.{batch_written, bounds, clear_members, each_below, last_position, new_values, offers, picks, points, proposals, puts, reserved_rooms, rooms, row_written, values};
+ghost use Rattle.mu_model.specs.Reasons.{Finds};
 ghost use Rattle.mu_replicas.specs.Stands.{StandsForReplica};
 
 use crate::explaining::{is_entered_for, last_position};
+use crate::found::Found;
 use crate::replica::{Replica, is_position};
 use mu_model::{
-    Config, PAYLOADS, Target, reserve_of, row_client, row_number, row_rest, stands_for_batch,
+    Config, PAYLOADS, Reason, Target, reserve_of, row_client, row_number, row_rest,
+    stands_for_batch,
 };
-use mu_reasons::{Found, Reason};
 
 /// Whether the number is that of the leadership.
+#[inline(always)]
 fn is_number(own: Option<u32>, b: u32) -> bool
     ensures { IsTrue result ↔ (own ≡ Some b) }
 {
@@ -30,6 +33,7 @@ fn is_number(own: Option<u32>, b: u32) -> bool
 
 impl Replica {
     /// Whether the region is no member, or its position was looked at since a region joined last.
+    #[inline(always)]
     fn is_looked_at(&self, p: u8, i: u16) -> bool
         ensures { (c : Config) → (r : ℕ) → (mine : List Event) → p < 7
             → i ≤ row_count c + reserve c → StandsForReplica c r mine self.now
@@ -40,6 +44,7 @@ impl Replica {
     }
 
     /// Whether the value is known at the position.
+    #[inline(always)]
     fn knows_at(&self, i: u16, v: u16) -> bool
         ensures { (c : Config) → (r : ℕ) → (mine : List Event) → StandsForReplica c r mine self.now
             → result ≡ is_value (slice_get (known c r mine) i) v }
@@ -51,6 +56,7 @@ impl Replica {
     }
 
     /// That the heads leave room.
+    #[inline(always)]
     fn why_no_room(&self, config: &Config, i: u16, free: u8, found: Found) -> Found
         requires { IsConfig config.now }
         ensures { (r : ℕ) → (mine : List Event) → (reasons : List SomeReason)
@@ -76,6 +82,7 @@ impl Replica {
     }
 
     /// That the heads leave the reserve free, for a fresh batch.
+    #[inline(always)]
     fn why_no_reserve(&self, config: &Config, i: u16, v: u16, found: Found) -> Found
         requires { IsConfig config.now }
         ensures { (r : ℕ) → (mine : List Event) → (reasons : List SomeReason)
@@ -93,6 +100,7 @@ impl Replica {
     }
 
     /// That the words of a row of a value are written.
+    #[inline(always)]
     fn why_row_not_written(&self, config: &Config, v: u16, j: u16, found: Found) -> Found
         requires { IsConfig config.now }
         ensures { (r : ℕ) → (mine : List Event) → (reasons : List SomeReason)
@@ -117,6 +125,7 @@ impl Replica {
     }
 
     /// That the rows of a batch are written.
+    #[inline(always)]
     fn why_not_written(&self, config: &Config, v: u16, found: Found) -> Found
         requires { IsConfig config.now }
         ensures { (r : ℕ) → (mine : List Event) → (reasons : List SomeReason)
@@ -126,6 +135,10 @@ impl Replica {
             → Finds config.now r mine (reasons ++ batch_written config.now v) result.reason }
     {
         let row = v % PAYLOADS;
+        let all = self.held_rows.wrote_batch(config, row);
+        if all {
+            return found;
+        }
         let rows = u16::from(row_rest(config, row)) + 1;
         let mut found = found;
         for t in 0..rows {
@@ -135,6 +148,7 @@ impl Replica {
     }
 
     /// That the value is an offer.
+    #[inline(always)]
     fn why_no_offer(&self, config: &Config, v: u16, found: Found) -> Found
         requires { IsConfig config.now }
         ensures { (r : ℕ) → (mine : List Event) → (reasons : List SomeReason)
@@ -168,6 +182,7 @@ impl Replica {
     }
 
     /// That the looks at the position allow the value.
+    #[inline(always)]
     fn why_no_pick(&self, config: &Config, i: u16, v: u16, found: Found) -> Found
         requires { IsConfig config.now }
         ensures { (r : ℕ) → (mine : List Event) → (reasons : List SomeReason)
@@ -197,6 +212,7 @@ impl Replica {
     }
 
     /// That all members were looked at in the position.
+    #[inline(always)]
     fn why_not_looked(&self, config: &Config, i: u16, found: Found) -> Found
         requires { IsConfig config.now }
         ensures { (r : ℕ) → (mine : List Event) → (reasons : List SomeReason)
@@ -223,6 +239,7 @@ impl Replica {
     }
 
     /// That the value is that of the first put, or may be.
+    #[inline(always)]
     fn why_no_proposal(&self, config: &Config, i: u16, v: u16, found: Found) -> Found
         requires { IsConfig config.now }
         ensures { (r : ℕ) → (mine : List Event) → (reasons : List SomeReason)
@@ -254,6 +271,7 @@ impl Replica {
     }
 
     /// That no member was seen past the position.
+    #[inline(always)]
     fn why_past_seen(&self, config: &Config, i: u16, found: Found) -> Found
         requires { IsConfig config.now }
         ensures { (r : ℕ) → (mine : List Event) → (reasons : List SomeReason)
@@ -277,6 +295,7 @@ impl Replica {
     }
 
     /// That the value may be put at a new position.
+    #[inline(always)]
     fn why_not_new(&self, config: &Config, i: u16, v: u16, found: Found) -> Found
         requires { IsConfig config.now }
         ensures { (r : ℕ) → (mine : List Event) → (reasons : List SomeReason)
@@ -298,6 +317,7 @@ impl Replica {
     }
 
     /// That the value is known at the position, or may be put there as new.
+    #[inline(always)]
     fn why_no_value(&self, config: &Config, i: u16, v: u16, found: Found) -> Found
         requires { IsConfig config.now }
         ensures { (r : ℕ) → (mine : List Event) → (reasons : List SomeReason)
@@ -314,6 +334,7 @@ impl Replica {
     }
 
     /// That the region has what is known below the position.
+    #[inline(always)]
     fn why_behind(&self, config: &Config, p: u8, i: u16, found: Found) -> Found
         requires { IsConfig config.now }
         ensures { (r : ℕ) → (mine : List Event) → (reasons : List SomeReason)
@@ -323,6 +344,10 @@ impl Replica {
             → Finds config.now r mine
             (reasons ++ each_below i (λ j. SomeReason.Behind p j ∷ [])) result.reason }
     {
+        let all = self.filled_logs.is_caught_up_below(p, i);
+        if all {
+            return found;
+        }
         let mut found = found;
         for j in 0..i {
             let caught_up = self.filled_logs.is_caught_up_below(p, j + 1);
@@ -338,6 +363,7 @@ impl Replica {
     }
 
     /// That the replica leads under the number, and has entered the region for the position.
+    #[inline(always)]
     fn why_not_leading(&self, config: &Config, p: u8, i: u16, b: u32, found: Found) -> Found
         requires { IsConfig config.now }
         ensures { (r : ℕ) → (mine : List Event) → StandsForReplica config.now r mine self.now
@@ -389,6 +415,7 @@ impl Replica {
     }
 
     /// What a `PutSlot` needs.
+    #[inline(always)]
     pub(crate) fn why_no_put(
         &self,
         config: &Config,

@@ -1,8 +1,7 @@
 //! One replica: what its events so far let it do next.
-ghost use Rattle.std.specs.Prelude.{IfOk, IsTrue, List, [], length, take, ℕ, ◌+◌, ◌<◌, ◌∷◌, ◌≡◌, ◌≤◌, ◌↔◌};
+ghost use Rattle.std.specs.Prelude.{IfOk, IsTrue, List, [], length, take, ◌+◌, ◌<◌, ◌∷◌, ◌≡◌, ◌≤◌, ◌↔◌};
 ghost use Rattle.mu_model.specs.declared.config.Config.{Config};
 ghost use Rattle.mu_model.specs.declared.event.Event.{Event};
-ghost use Rattle.mu_model.specs.Allowed.{Allowed, Needs};
 ghost use Rattle.mu_model.specs.Contents.{IsConfig, row_count};
 ghost use Rattle.mu_model.specs.Parts.{IsPossible};
 ghost use Rattle.mu_model.specs.Room.{reserve};
@@ -15,7 +14,7 @@ ghost use Rattle.mu_replicas.specs.Stands.{StandsForReplica};
 use mu_grant::Grants;
 use mu_knowledge::{HeldRows, KnownLog, first_values};
 use mu_leadership::Leadership;
-use mu_model::{Config, Event, NoMemory, PAYLOADS, Verb, positions_in, row_word};
+use mu_model::{Config, Event, NoMemory, Verb, positions_in};
 use mu_placing::{FilledLogs, Heads, LandedPuts, Looks};
 use std::alloc::Global;
 
@@ -124,59 +123,5 @@ impl Replica {
             &self.landed_puts,
             event,
         );
-    }
-
-    /// Whether the verb's own needs are met.
-    #[inline(always)]
-    fn meets_needs(&self, config: &Config, verb: &Verb) -> bool
-        requires config { IsConfig config.now }
-        ensures { (r : ℕ) → (mine : List Event) → r < 7 → IsPossible config.now r mine
-            → StandsForReplica config.now r mine self.now
-            → (IsTrue result ↔ Needs config.now r mine verb.now) }
-    {
-        let n = config.replicas;
-        match *verb {
-            Verb::Ask(p) => self.leadership.may_ask(n, p),
-            Verb::Fence(p) => self.leadership.may_read_fence(n, p),
-            Verb::Min(p) => self.leadership.may_read_minimum(n, p),
-            Verb::Enter(p, target) => self.leadership.may_enter(n, config.ring, p, target),
-            Verb::PutMin(p, number) => self.leadership.may_put_minimum(n, p, number),
-            Verb::Look(p, i) => self.leadership.may_look(n, p) && is_position(config, i),
-            Verb::PutSlot(p, i, b, v) => p < n
-                && is_position(config, i)
-                && self.may_put_slot(config, p, i, b, v),
-            Verb::Fuo(p) => p < n,
-            Verb::RaiseFuo(p, u) => p < n
-                && usize::from(u) <= self.known_log.known().len()
-                && self.filled_logs.are_filled(p, u),
-            Verb::Head(q) => q < n,
-            Verb::ReadBeat(q) => q < n && q != self.replica,
-            Verb::WriteRow(j, k, x) => usize::from(j) < config.rows.len()
-                && k < 12
-                && x == row_word(config, j, k)
-                && !self.held_rows.has_written(j, k),
-            Verb::ReadRow(v, k) => v / PAYLOADS < u16::from(n)
-                && usize::from(v % PAYLOADS) < config.rows.len()
-                && k < 12,
-            Verb::RaiseHead(h) => usize::from(h) <= self.held_rows.applied_length()
-                && self.looks.reaches_head(h),
-            Verb::Beat => true,
-            Verb::ReadAsk(w) => w < n,
-            Verb::Close => self.grants.may_close(),
-            Verb::LookTarget => self.grants.may_look_target(),
-            Verb::Drain => self.grants.may_drain(),
-            Verb::Grant(w) => self.grants.may_grant(w),
-        }
-    }
-
-    /// Whether the replica may make the verb next. Takes no memory.
-    #[inline(always)]
-    pub fn allows(&self, config: &Config, verb: &Verb) -> bool
-        requires config { IsConfig config.now }
-        ensures { (r : ℕ) → (mine : List Event) → IsPossible config.now r mine
-            → StandsForReplica config.now r mine self.now
-            → (IsTrue result ↔ Allowed config.now r mine verb.now) }
-    {
-        self.steps < config.budget && self.meets_needs(config, verb)
     }
 }

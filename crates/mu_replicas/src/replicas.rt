@@ -1,16 +1,15 @@
 //! All replicas.
-ghost use Rattle.std.specs.Prelude.{IfOk, IsTrue, List, [], vec_capacity, ◌<◌, ◌∷◌, ◌≡◌, ◌↔◌};
+ghost use Rattle.std.specs.Prelude.{IfOk, List, [], vec_capacity, ◌∷◌, ◌≡◌};
 ghost use Rattle.mu_model.specs.declared.event.Event.{Event};
-ghost use Rattle.mu_model.specs.Allowed.{Allowed};
 ghost use Rattle.mu_model.specs.Contents.{IsConfig};
 ghost use Rattle.mu_model.specs.Histories.{part};
 ghost use Rattle.mu_model.specs.Legal.{IsLegalHistory};
-ghost use Rattle.mu_reasons.specs.Reasons.{Finds, points};
+ghost use Rattle.mu_model.specs.Points.{points};
+ghost use Rattle.mu_model.specs.Reasons.{Finds};
 ghost use Rattle.mu_replicas.specs.Stands.{StandsForReplicas};
 
 use crate::replica::Replica;
-use mu_model::{Config, Event, NoMemory, Verb};
-use mu_reasons::Reason;
+use mu_model::{Config, Event, NoMemory, Reason, Verb};
 use std::alloc::Global;
 
 /// What the events of each replica so far let it do next, kept up to date event by event. An update
@@ -35,23 +34,9 @@ impl Replicas {
         Ok(Replicas { replicas })
     }
 
-    /// Whether `by` may make the verb after the legal history that the states stand for. Takes no
-    /// memory.
-    #[inline(always)]
-    pub fn allows(&self, config: &Config, by: u8, verb: &Verb) -> bool
-        requires { IsConfig config.now }
-        ensures { (past : List Event) → IsLegalHistory config.now past
-            → StandsForReplicas config.now past self.now
-            → (IsTrue result ↔ Allowed config.now by (part by past) verb.now) }
-    {
-        match self.replicas.get(usize::from(by)) {
-            None => false,
-            Some(replica) => replica.allows(config, verb),
-        }
-    }
-
     /// The first point that keeps `by` from making the verb after the legal history that the states
-    /// stand for, if any does. Takes no memory.
+    /// stand for; none if it may make the verb. Takes no memory.
+    #[inline(always)]
     pub fn why_not(&self, config: &Config, by: u8, verb: &Verb) -> Option<Reason>
         requires { IsConfig config.now }
         ensures { (past : List Event) → IsLegalHistory config.now past

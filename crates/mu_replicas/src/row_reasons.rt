@@ -6,15 +6,19 @@ ghost use Rattle.mu_model.specs.declared.event.Verb.{Verb as SomeVerb};
 ghost use Rattle.mu_model.specs.Contents.{IsConfig, row_count};
 ghost use Rattle.std.specs.List.{slice_get};
 ghost use Rattle.mu_model.specs.Knowledge.{applied, known};
-ghost use Rattle.mu_reasons.specs.declared.reason.Reason.{Reason as SomeReason};
-ghost use Rattle.mu_reasons.specs.Reasons.{Finds, applied_to, bounds, entry_there, points, row_there};
+ghost use Rattle.mu_model.specs.declared.reason.Reason.{Reason as SomeReason};
+ghost use Rattle.mu_model.specs.Points.{applied_to, bounds, entry_there, points, row_there};
+ghost use Rattle.mu_model.specs.Reasons.{Finds};
 ghost use Rattle.mu_replicas.specs.Stands.{StandsForReplica};
 
+use crate::found::Found;
 use crate::replica::Replica;
-use mu_model::{Config, PAYLOADS, row_client, row_number, row_rest, row_word, stands_for_batch};
-use mu_reasons::{Found, Reason};
+use mu_model::{
+    Config, PAYLOADS, Reason, row_client, row_number, row_rest, row_word, stands_for_batch,
+};
 
 /// Whether the row is one of the job.
+#[inline(always)]
 fn is_row(config: &Config, j: u16) -> bool
     ensures { IsTrue result ↔ (j < row_count config.now) }
 {
@@ -23,6 +27,7 @@ fn is_row(config: &Config, j: u16) -> bool
 
 impl Replica {
     /// What a `WriteRow` needs.
+    #[inline(always)]
     pub(crate) fn why_no_write_row(
         &self,
         config: &Config,
@@ -63,6 +68,7 @@ impl Replica {
     }
 
     /// What a `ReadRow` needs.
+    #[inline(always)]
     pub(crate) fn why_no_read_row(&self, config: &Config, v: u16, k: u8, found: Found) -> Found
         requires { IsConfig config.now }
         ensures { (r : ℕ) → (mine : List Event)
@@ -80,6 +86,7 @@ impl Replica {
 
     /// That the words of the row of a value are there. A head above the number of applied entries
     /// needs them.
+    #[inline(always)]
     fn why_row_not_there(
         &self,
         config: &Config,
@@ -112,6 +119,7 @@ impl Replica {
     }
 
     /// That the rows of an entry are there.
+    #[inline(always)]
     fn why_entry_not_there(
         &self,
         config: &Config,
@@ -139,6 +147,7 @@ impl Replica {
     }
 
     /// That the rows of the entry at a position are there, if it is known.
+    #[inline(always)]
     fn why_next_not_there(&self, config: &Config, h: u16, applied: usize, found: Found) -> Found
         requires { IsConfig config.now }
         ensures { (r : ℕ) → (mine : List Event) → (reasons : List SomeReason)
@@ -156,6 +165,7 @@ impl Replica {
     }
 
     /// That the entries below a head are applied.
+    #[inline(always)]
     fn why_not_applied(&self, config: &Config, h: u16, found: Found) -> Found
         requires { IsConfig config.now }
         ensures { (r : ℕ) → (mine : List Event) → (reasons : List SomeReason)
@@ -175,6 +185,7 @@ impl Replica {
     }
 
     /// What a `RaiseHead` needs.
+    #[inline(always)]
     pub(crate) fn why_no_raise_head(&self, config: &Config, h: u16, found: Found) -> Found
         requires { IsConfig config.now }
         ensures { (r : ℕ) → (mine : List Event) → StandsForReplica config.now r mine self.now

@@ -2,7 +2,7 @@
 use Rattle.std.proofs.Common.{List, [], ◌∷◌, None, Some, ℕ, ◌++◌, ◌≡◌, ◌∙◌, ap, append_assoc, refl}
 use Rattle.std.specs.declared.option.Option.{Option}
 use Rattle.mu_events.specs.Lines.{event_line}
-use Rattle.mu_reasons.specs.declared.fault.Broken.{Broken}
+use Rattle.mu_outcome.specs.declared.fault.Broken.{Broken}
 use Rattle.mu_mistakes.specs.Misreads.{flaw_lines}
 use Rattle.mu_report.specs.Reasons.{explained_lines, fault_words, first_words}
 

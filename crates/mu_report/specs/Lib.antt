@@ -5,6 +5,7 @@ pub mod Facts
 pub mod Lives
 pub mod Printing
 pub mod Prints
+pub mod Promises
 pub mod Reasons
 pub mod Report
 pub mod Said

@@ -4,9 +4,9 @@ use Rattle.std.specs.declared.option.Option.{Option}
 use Rattle.std.specs.Fmt.{decimal}
 use Rattle.mu_events.specs.Lines.{answer_words, event_line, target_words}
 use Rattle.mu_model.specs.declared.event.Target.{Target}
-use Rattle.mu_reasons.specs.declared.fault.Broken.{Broken}
-use Rattle.mu_reasons.specs.declared.fault.Fault.{Fault}
-use Rattle.mu_reasons.specs.declared.reason.Reason.{Reason}
+use Rattle.mu_outcome.specs.declared.fault.Broken.{Broken}
+use Rattle.mu_outcome.specs.declared.fault.Fault.{Fault}
+use Rattle.mu_model.specs.declared.reason.Reason.{Reason}
 
 -- a number, if there is one
 abbrev pub number_or_none : Option ℕ → List ℕ
@@ -38,7 +38,9 @@ reason_words Reason.NotBegun = codes "no leadership has begun: region 0 was not 
 reason_words (Reason.NotGranted region) =
     codes "no grant is noted: the last fence seen of region " ++ decimal region
     ++ codes " in the leadership does not name this replica as the owner, or is closing"
-reason_words Reason.Over = codes "the leadership is over"
+reason_words Reason.Over =
+    codes "the leadership is over: a put missed, an entering was lost, "
+    ++ codes "or it read a changed fence or a greater minimum"
 reason_words Reason.NoTarget = codes "an enter names a word"
 reason_words (Reason.MinimumUnread region) =
     codes "min of region " ++ decimal region ++ codes " was not read since its grant was seen"
@@ -140,7 +142,7 @@ reason_words (Reason.NoRowWord head applied value word) =
     ++ codes " is neither written nor read"
 reason_words (Reason.NotApplied head applied) =
     codes "only " ++ decimal applied ++ codes " entries are applied, fewer than " ++ decimal head
-    ++ codes ": no more are known"
+    ++ codes ": put the next one at every member first, or look at it below a fuo"
 reason_words (Reason.NotReached head) =
     codes "no fuo of the own region of at least " ++ decimal head ++ codes " was read or raised"
 reason_words Reason.Closing = codes "the fence is closed already"

@@ -4,7 +4,7 @@ use Rattle.std.specs.declared.option.Option.{Option}
 use Rattle.mu_outcome.specs.declared.status.Status.{Status}
 use Rattle.mu_outcome.specs.declared.verdict.Verdict.{Verdict}
 use Rattle.mu_outcome.specs.Outcomes.{status_after}
-use Rattle.mu_reasons.specs.declared.fault.Broken.{Broken}
+use Rattle.mu_outcome.specs.declared.fault.Broken.{Broken}
 use Rattle.mu_report.specs.declared.said.Said.{Said}
 
 -- the status of a verdict
@@ -32,6 +32,7 @@ status_for (Said.Noted events strays) = Status.Done
 status_for (Said.Shown moment) = Status.Done
 status_for (Said.Told account) = status_after account.outcome
 status_for (Said.Misread misread) = Status.Refused
+status_for (Said.Promised promises) = Status.Done
 status_for Said.ReadFault = Status.ReadFault
 status_for Said.NoMemory = Status.NoMemory
 status_for Said.TooLong = Status.TooLong

@@ -11,6 +11,7 @@ mod lives;
 mod misreads;
 mod page;
 mod printer;
+mod promises;
 mod reasons;
 mod report;
 mod said;

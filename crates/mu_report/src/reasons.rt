@@ -8,7 +8,8 @@ use crate::line::Line;
 use crate::printer::Printer;
 use crate::sentence::{Sentence, Value, push_sentence};
 use mu_events::{event_line, push_answer};
-use mu_reasons::{Broken, Fault, Reason};
+use mu_model::Reason;
+use mu_outcome::{Broken, Fault};
 
 /// The point that isn't met, as a sentence.
 fn sentence_of(reason: Reason) -> Sentence
@@ -38,7 +39,10 @@ fn sentence_of(reason: Reason) -> Sentence
             Value::Byte(region),
             b" in the leadership does not name this replica as the owner, or is closing",
         ),
-        Reason::Over => Sentence::Plain(b"the leadership is over"),
+        Reason::Over => Sentence::Plain(
+            b"the leadership is over: a put missed, an entering was lost, \
+              or it read a changed fence or a greater minimum",
+        ),
         Reason::NoTarget => Sentence::Plain(b"an enter names a word"),
         Reason::MinimumUnread { region } => Sentence::OneThen(
             b"min of region ",
@@ -310,7 +314,7 @@ fn sentence_of(reason: Reason) -> Sentence
             Value::Count(applied),
             b" entries are applied, fewer than ",
             Value::Short(head),
-            b": no more are known",
+            b": put the next one at every member first, or look at it below a fuo",
         ),
         Reason::NotReached { head } => Sentence::OneThen(
             b"no fuo of the own region of at least ",

@@ -13,23 +13,24 @@ use crate::line::print_words;
 use crate::lives::print_lived;
 use crate::misreads::{print_misread, refusal};
 use crate::printer::{Printer, SinkPrinter};
+use crate::promises::print_promises;
 use crate::reasons::print_explained;
 use crate::report::print_report;
 use crate::summary::print_summary;
 use crate::trace::print_trace;
 use match_book::Book;
+use mu_enough::Promises;
 use mu_input::InputEnd;
 use mu_io::{ReadEnd, Sink, WriteFault};
 use mu_mistakes::Misread;
 use mu_model::Stops;
-use mu_outcome::{Account, Moment, Outcome, Verdict};
-use mu_reasons::Broken;
+use mu_outcome::{Account, Broken, Moment, Outcome, Verdict};
 use snap_reads::Lived;
 
 /// How the program is called.
 const USAGE: &[u8] =
     b"usage: mu replay, mu eager, mu run, mu check, mu why, mu tell, mu show N, mu trace, \
-    mu eager trace, mu bulk N, mu live K, mu desk, mu book";
+    mu eager trace, mu enough, mu bulk N, mu live K, mu desk, mu book";
 
 /// What the program says at its end.
 pub enum Said {
@@ -81,6 +82,8 @@ pub enum Said {
     Shown(Moment),
     /// Where the input leaves the grammar and why, in words.
     Misread(Misread),
+    /// What a job promises of its replay.
+    Promised(Promises),
     /// The input couldn't be read.
     ReadFault,
     /// Want of memory.
@@ -117,6 +120,7 @@ impl Drop for Said {
             Said::Told(account) => let_account_go(account),
             Said::Shown(_) => {}
             Said::Misread(_) => {}
+            Said::Promised(_) => {}
             Said::ReadFault => {}
             Said::NoMemory => {}
             Said::TooLong => {}
@@ -223,6 +227,7 @@ fn print_said<P: Printer>(out: &mut P, said: &Said)
         Said::Told(account) => print_account(out, account),
         Said::Shown(moment) => print_moment(out, moment),
         Said::Misread(misread) => print_misread(out, misread),
+        Said::Promised(promises) => print_promises(out, promises),
         Said::ReadFault => print_words(out, b"read fault"),
         Said::NoMemory => print_words(out, b"no memory"),
         Said::TooLong => print_words(out, b"too long"),

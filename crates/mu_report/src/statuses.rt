@@ -4,8 +4,7 @@ ghost use Rattle.mu_report.specs.Statuses.{status_for as status_for_said, broken
 
 use crate::report::status;
 use crate::said::Said;
-use mu_outcome::{Status, Verdict};
-use mu_reasons::Broken;
+use mu_outcome::{Broken, Status, Verdict};
 
 /// The status of an answer, once it is written.
 pub fn status_for(said: &Said) -> Status
@@ -21,7 +20,7 @@ pub fn status_for(said: &Said) -> Status
         Said::Lived(outcome, _) => status(outcome),
         Said::Judged { verdict, .. } => verdict_status(verdict),
         Said::Explained { broken, .. } => explained_status(broken),
-        Said::Noted { .. } | Said::Shown(_) => Status::Done,
+        Said::Noted { .. } | Said::Shown(_) | Said::Promised(_) => Status::Done,
         Said::Told(account) => status(&account.outcome),
         Said::ReadFault => Status::ReadFault,
         Said::NoMemory => Status::NoMemory,

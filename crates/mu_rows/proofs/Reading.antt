@@ -1,8 +1,7 @@
 -- What a row says of the command that it spells.
-use Rattle.std.proofs.Common.{◌≡◌, ◌↔◌, Bool, true, false, Option, None, Some, subst, add-zero, ℕ, zero, suc, ◌+◌, ◌*◌, ◌<◌, ◌≤◌, ◌/◌, ◌%◌, List, [], ◌∷◌, length, map, take, drop, get_or, refl, sym, ap, ◌∙◌, arith, length-take, get_or-take, get_or-drop, inl, inr}
+use Rattle.std.proofs.Common.{◌≡◌, ◌↔◌, true, false, Option, None, Some, subst, add-zero, ℕ, zero, suc, ◌+◌, ◌*◌, ◌<◌, ◌≤◌, ◌/◌, ◌%◌, List, [], ◌∷◌, length, map, take, drop, get_or, refl, sym, ap, ◌∙◌, arith, length-take, get_or-take, inl, inr}
 use Rattle.std.specs.Prelude.{nat_lt}
 use Rattle.std.specs.Option.{IsSome, IfSome}
-use Rattle.std.specs.Bool.{then_some}
 use Rattle.std.proofs.lemmas.Bool.{cases_Bool, false≢true, ltb-false, ltb-true}
 use Rattle.std.specs.Int.{w64, to_le_bytes}
 use Rattle.std.specs.List.{range_with_len, slice_range}
@@ -10,11 +9,13 @@ use Rattle.std.proofs.lemmas.Grind.{common_steps, same_number_lists}
 use Rattle.std.proofs.lemmas.List.{length-take-le}
 use Rattle.std.proofs.lemmas.List.FromFn.{length-map-range_with_len, get_or-map-range_with_len}
 use Rattle.std.proofs.lemmas.Nat.{le_bytes_8}
-use Rattle.kv_store.specs.Commands.{Request, HasShortTexts, IsAllowed, key_of}
+use Rattle.kv_store.specs.Commands.{Request, AreShort, HasShortTexts, IsAllowed, key_of}
 use Rattle.kv_store.specs.Words.{IsKey, IsWord, IsText}
+use Rattle.kv_store.specs.declared.command.Arguments.{Arguments}
 use Rattle.kv_store.specs.declared.command.Op.{Op}
-use Rattle.kv_store.specs.declared.command.Op.TheVariants.{Put, Get, Del, Swap, Cas}
-use Rattle.mu_rows.specs.Rows.{word_of, code_of, first_text, second_text, head_word, text_word, spelled, HasWords, IsCommand}
+use Rattle.kv_store.specs.Kinds.{parts_of, shape_of, shape_of_kind}
+use Rattle.kv_store.proofs.PartsBack.{code-small, same-kind, same-parts, shape-parts}
+use Rattle.mu_rows.specs.Rows.{word_of, code_of, first_of, second_of, first_text, second_text, head_word, argument_word, text_word, spelled, AreArguments, HasWords, IsCommand}
 use Rattle.mu_rows.specs.Saying.{SaysOp}
 use Rattle.std.proofs.Math.Nat.{div-div-eq-div-mul}
 use Rattle.mu_rows.proofs.Bytes.{word_of-bytes}
@@ -84,17 +85,20 @@ words-tell most a b count word_a word_b long fits same =
 
 -- what the fields of a head word hold
 record Small (op : Op) : Type 0 where
-  pub code : code_of op ≤ 5
+  pub code : code_of op < 256
   pub key : IsWord 24 (key_of op)
   pub first : length (first_text op) ≤ 64
   pub second : length (second_text op) ≤ 64
 
+small_texts : (a : Arguments) → AreArguments a → (length (first_of a) ≤ 64) × (length (second_of a) ≤ 64)
+small_texts Arguments.Nothing h = (omega arith, omega arith)
+small_texts (Arguments.Text text) h = (h.fits, omega arith)
+small_texts (Arguments.Texts first second) h = (h.0.fits, h.1.fits)
+
 small : (op : Op) → HasWords op → Small op
-small (Put key text) h = record { code = omega arith; key = h.0; first = h.1.fits; second = omega arith }
-small (Get key) h = record { code = omega arith; key = h; first = omega arith; second = omega arith }
-small (Del key) h = record { code = omega arith; key = h; first = omega arith; second = omega arith }
-small (Swap key text) h = record { code = omega arith; key = h.0; first = h.1.fits; second = omega arith }
-small (Cas key old new) h = record { code = omega arith; key = h.0; first = h.1.fits; second = h.2.fits }
+small op h =
+    let texts = small_texts (parts_of op).arguments h.1 in
+    record { code = code-small (parts_of op).kind; key = h.0; first = texts.0; second = texts.1 }
 
 -- the fields of the head word of a command
 pub record Fields (head : ℕ) (r : Request) (k : ℕ) : Type 0 where
@@ -109,7 +113,7 @@ pub record Fields (head : ℕ) (r : Request) (k : ℕ) : Type 0 where
 pub head_has_fields : (head : ℕ) (r : Request) (k : ℕ) → IsCommand r → k ≤ 3 → head ≡ head_word r k → Fields head r k
 head_has_fields head r k is few same =
     let s = small r.op is.words in
-    let code : code_of r.op ≤ 5 = s.code in
+    let code : code_of r.op < 256 = s.code in
     let client : r.client ≤ 15 = is.allowed.client_known in
     let number : r.number ≤ 1500 = is.allowed.number_fits in
     let key : length (key_of r.op) ≤ 24 = s.key.fits in
@@ -137,45 +141,6 @@ one-request {a} {b} {x} {y} {o} {p} e f g = ap (λ a. the-request a b o) e ∙ a
 abbrev texts : Op → List ℕ
 texts op = map (text_word op) (range_with_len 0 8)
 
--- what the words of the texts are, by the kind of the operation
-pub record OneText (op : Op) : Type 0 where
-  pub text : IsText (first_text op)
-  pub alone : length (second_text op) ≡ 0
-  pub same : texts op ≡ map (word_of (first_text op)) (range_with_len 0 8)
-
-pub one-put : (op : Op) → code_of op ≡ 1 → HasWords op → OneText op
-one-put (Put key text) code words = record { text = words.1; alone = refl; same = refl }
-one-put op code words = absurd (omega arith)
-
-pub record NoText (op : Op) : Type 0 where
-  pub first : length (first_text op) ≡ 0
-  pub second : length (second_text op) ≡ 0
-  pub same : (j : ℕ) → text_word op j ≡ 0
-
-pub none-get : (op : Op) → code_of op ≡ 2 → NoText op
-none-get (Get key) code = record { first = refl; second = refl; same = λ j. refl }
-none-get op code = absurd (omega arith)
-
-pub none-del : (op : Op) → code_of op ≡ 3 → NoText op
-none-del (Del key) code = record { first = refl; second = refl; same = λ j. refl }
-none-del op code = absurd (omega arith)
-
--- the words of a row of an operation without a text
-pub no-text-words : (words : List ℕ) (r : Request) (k : ℕ) → words ≡ spelled r k → NoText r.op → (j : ℕ) → j < 8 → get_or words (4 + j) 0 ≡ 0
-no-text-words words r k same none j lt =
-    sym (get_or-drop 4 words j 0) ∙ ap (λ l. get_or (drop 4 l) j 0) same ∙ get_or-map-range_with_len (text_word r.op) 0 8 j j 0 lt (omega arith) ∙ none.same j
-
--- what words say of an operation, by its parts
-abbrev pub SaysKey : List ℕ → List ℕ → Type 0
-SaysKey words key = IsKey key × (get_or words 0 0 / 4294967296 % 256 ≡ length key) × ((j : ℕ) → j < 3 → get_or words (1 + j) 0 ≡ word_of key j)
-
-abbrev pub SaysText : List ℕ → List ℕ → ℕ → Type 0
-SaysText words text count = IsText text × (get_or words 0 0 / 1099511627776 % 256 ≡ length text) × ((j : ℕ) → j < count → get_or words (4 + j) 0 ≡ word_of text j)
-
-pub says-put : (words key text : List ℕ) → get_or words 0 0 % 256 ≡ 1 → SaysKey words key → SaysText words text 8 → get_or words 0 0 / 281474976710656 % 256 ≡ 0 → SaysOp words (Put key text)
-says-put words key text code k t alone =
-    record { has = (k.0, t.0); code = code; key_length = k.1; first_length = t.1; second_length = alone; key = k.2; texts = t.2 }
-
 byte-and-rest : (n p : ℕ) → n / p ≡ n / p % 256 + n / (p * 256) * 256
 byte-and-rest n p = omega (arith, div-div-eq-div-mul n p 256)
 
@@ -193,8 +158,8 @@ row-said words r k long says client number rest = same_number_lists words (spell
     head =
         let code = says.code in
         let key = says.key_length in
-        let first = says.first_length in
-        let second = says.second_length in
+        let first = says.arguments.first_length in
+        let second = says.arguments.second_length in
         let n = get_or words 0 0 in
         let low : n ≡ n % 256 + n / 256 * 256 = omega arith in
         let wide : n / 65536 ≡ n / 65536 % 65536 + n / 4294967296 * 65536 = omega (arith, div-div-eq-div-mul n 65536 65536) in
@@ -206,18 +171,15 @@ row-said words r k long says client number rest = same_number_lists words (spell
     each (suc zero) lt = says.key 0 (omega arith)
     each (suc (suc zero)) lt = says.key 1 (omega arith)
     each (suc (suc (suc zero))) lt = says.key 2 (omega arith)
-    each (suc (suc (suc (suc zero)))) lt = says.texts 0 (omega arith)
-    each (suc (suc (suc (suc (suc zero))))) lt = says.texts 1 (omega arith)
-    each (suc (suc (suc (suc (suc (suc zero)))))) lt = says.texts 2 (omega arith)
-    each (suc (suc (suc (suc (suc (suc (suc zero))))))) lt = says.texts 3 (omega arith)
-    each (suc (suc (suc (suc (suc (suc (suc (suc zero)))))))) lt = says.texts 4 (omega arith)
-    each (suc (suc (suc (suc (suc (suc (suc (suc (suc zero))))))))) lt = says.texts 5 (omega arith)
-    each (suc (suc (suc (suc (suc (suc (suc (suc (suc (suc zero)))))))))) lt = says.texts 6 (omega arith)
-    each (suc (suc (suc (suc (suc (suc (suc (suc (suc (suc (suc zero))))))))))) lt = says.texts 7 (omega arith)
+    each (suc (suc (suc (suc zero)))) lt = says.arguments.texts 0 (omega arith)
+    each (suc (suc (suc (suc (suc zero))))) lt = says.arguments.texts 1 (omega arith)
+    each (suc (suc (suc (suc (suc (suc zero)))))) lt = says.arguments.texts 2 (omega arith)
+    each (suc (suc (suc (suc (suc (suc (suc zero))))))) lt = says.arguments.texts 3 (omega arith)
+    each (suc (suc (suc (suc (suc (suc (suc (suc zero)))))))) lt = says.arguments.texts 4 (omega arith)
+    each (suc (suc (suc (suc (suc (suc (suc (suc (suc zero))))))))) lt = says.arguments.texts 5 (omega arith)
+    each (suc (suc (suc (suc (suc (suc (suc (suc (suc (suc zero)))))))))) lt = says.arguments.texts 6 (omega arith)
+    each (suc (suc (suc (suc (suc (suc (suc (suc (suc (suc (suc zero))))))))))) lt = says.arguments.texts 7 (omega arith)
     each (suc (suc (suc (suc (suc (suc (suc (suc (suc (suc (suc (suc i)))))))))))) lt = absurd (omega (arith, lt))
-
-pub key-is-key : (op : Op) → HasWords op → IsWord 24 (key_of op)
-key-is-key op words = (small op words).key
 
 pub key-text : (key : List ℕ) → IsKey key → IsText key
 key-text key is = record { some = is.some; fits = omega (arith, is.fits); visible = is.visible }
@@ -239,29 +201,26 @@ pub maker_gives_command : (result : Option Request) (client number : ℕ) (op : 
 maker_gives_command (Some x) client number op r allowed same c n o is = ap Some (same ∙ one-request c n o)
 maker_gives_command None client number op r allowed same c n o is = absurd (false≢true (allowed.1 (rw (c, n, o) is)))
 
--- which operation has a code, a key and texts
-pub put-from : (op : Op) (key text : List ℕ) → code_of op ≡ 1 → HasWords op → key ≡ key_of op
-    → (IsText (first_text op) → text ≡ first_text op) → Put key text ≡ op
-put-from (Put k t) key text code words e f = ap (λ k. Put k text) e ∙ ap (Put k) (f words.1)
-put-from op key text code words e f = absurd (omega arith)
+-- arguments of one shape with the same words are the same
+same-arguments : (a b : Arguments) → AreArguments a → AreArguments b → AreShort a → AreShort b → shape_of a ≡ shape_of b
+    → length (first_of a) ≡ length (first_of b) → length (second_of a) ≡ length (second_of b)
+    → map (argument_word a) (range_with_len 0 8) ≡ map (argument_word b) (range_with_len 0 8) → a ≡ b
+same-arguments Arguments.Nothing Arguments.Nothing wa wb sa sb shape fl sl ts = refl
+same-arguments (Arguments.Text t) (Arguments.Text u) wa wb sa sb shape fl sl ts = ap Arguments.Text (words-tell 64 t u 8 wa wb fl (omega (arith, wa.fits)) ts)
+same-arguments (Arguments.Texts o n) (Arguments.Texts p q) wa wb sa sb shape fl sl ts =
+    ap (λ o. Arguments.Texts o n) (words-tell 64 o p 4 wa.0 wb.0 fl (omega (arith, sa.0)) (ap (take 4) ts))
+    ∙ ap (Arguments.Texts p) (words-tell 64 n q 4 wa.1 wb.1 sl (omega (arith, sa.1)) (ap (drop 4) ts))
+same-arguments a b wa wb sa sb shape fl sl ts = cc
 
 -- operations with the same words are the same
 same-op : (o p : Op) → HasWords o → HasWords p → HasShortTexts o → HasShortTexts p → code_of o ≡ code_of p
     → length (key_of o) ≡ length (key_of p) → length (first_text o) ≡ length (first_text p) → length (second_text o) ≡ length (second_text p)
     → map (word_of (key_of o)) (range_with_len 0 3) ≡ map (word_of (key_of p)) (range_with_len 0 3) → texts o ≡ texts p → o ≡ p
-same-op (Put k t) (Put l u) wo wp so sp c kl fl sl ks ts =
-    ap (λ k. Put k t) (words-tell 24 k l 3 wo.0 wp.0 kl (omega (arith, wo.0.fits)) ks)
-    ∙ ap (Put l) (words-tell 64 t u 8 wo.1 wp.1 fl (omega (arith, wo.1.fits)) ts)
-same-op (Get k) (Get l) wo wp so sp c kl fl sl ks ts = ap Get (words-tell 24 k l 3 wo wp kl (omega (arith, wo.fits)) ks)
-same-op (Del k) (Del l) wo wp so sp c kl fl sl ks ts = ap Del (words-tell 24 k l 3 wo wp kl (omega (arith, wo.fits)) ks)
-same-op (Swap k t) (Swap l u) wo wp so sp c kl fl sl ks ts =
-    ap (λ k. Swap k t) (words-tell 24 k l 3 wo.0 wp.0 kl (omega (arith, wo.0.fits)) ks)
-    ∙ ap (Swap l) (words-tell 64 t u 8 wo.1 wp.1 fl (omega (arith, wo.1.fits)) ts)
-same-op (Cas k o n) (Cas l p q) wo wp so sp c kl fl sl ks ts =
-    ap (λ k. Cas k o n) (words-tell 24 k l 3 wo.0 wp.0 kl (omega (arith, wo.0.fits)) ks)
-    ∙ ap (λ o. Cas l o n) (words-tell 64 o p 4 wo.1 wp.1 fl (omega (arith, so.0)) (ap (take 4) ts))
-    ∙ ap (Cas l p) (words-tell 64 n q 4 wo.2 wp.2 sl (omega (arith, so.1)) (ap (drop 4) ts))
-same-op o p wo wp so sp c kl fl sl ks ts = absurd (omega arith)
+same-op o p wo wp so sp c kl fl sl ks ts =
+    let kind = same-kind (parts_of o).kind (parts_of p).kind c in
+    let key = words-tell 24 (key_of o) (key_of p) 3 wo.0 wp.0 kl (omega (arith, wo.0.fits)) ks in
+    let arguments = same-arguments (parts_of o).arguments (parts_of p).arguments wo.1 wp.1 so sp (shape-parts o ∙ ap shape_of_kind kind ∙ sym (shape-parts p)) fl sl ts in
+    same-parts o p key kind arguments
 
 -- commands with one row are the same
 pub same-row : (c d : Request) (j k : ℕ) → IsCommand c → IsCommand d → j ≤ 3 → k ≤ 3 → spelled c j ≡ spelled d k → (c ≡ d) × (j ≡ k)
@@ -273,18 +232,6 @@ same-row c d j k is_c is_d few_j few_k same =
     (ap (λ l. take 3 (drop 1 l)) same) (ap (drop 4) same) in
     (one-request (sym f.client ∙ g.client) (sym f.number ∙ g.number) op, sym f.rest ∙ g.rest)
 
-pub found-if : (result : Option Op) (told : Bool) (op wanted : Op) → result ≡ then_some told op → told ≡ true → op ≡ wanted → result ≡ Some wanted
-found-if result true op wanted is told same = is ∙ ap Some same
-found-if result false op wanted is told same = absurd (false≢true told)
-
-pub get-from : (op : Op) (key : List ℕ) → code_of op ≡ 2 → key ≡ key_of op → Get key ≡ op
-get-from (Get k) key code e = ap Get e
-get-from op key code e = absurd (omega arith)
-
-pub del-from : (op : Op) (key : List ℕ) → code_of op ≡ 3 → key ≡ key_of op → Del key ≡ op
-del-from (Del k) key code e = ap Del e
-del-from op key code e = absurd (omega arith)
-
 -- what the maker of commands makes of an operation that words say
 pub maker_says : (result : Option Request) (words : List ℕ) (client number : ℕ) (op : Op) → (IsSome result ↔ IsAllowed client number op)
     → IfSome result (λ x. x ≡ record { client = client; number = number; op = op }) → length words ≡ 12 → SaysOp words op
@@ -292,5 +239,5 @@ pub maker_says : (result : Option Request) (words : List ℕ) (client number : �
     → IfSome result (λ x. IsCommand x × ((k : ℕ) → get_or words 0 0 / 72057594037927936 ≡ k → words ≡ spelled x k))
 maker_says (Some x) words client number op allowed same long says c n =
     subst (λ y. IsCommand y × ((k : ℕ) → get_or words 0 0 / 72057594037927936 ≡ k → words ≡ spelled y k)) (sym same)
-    (record { allowed = allowed.0 refl; words = says.has }, λ k rest. row-said words (the-request client number op) k long says c n rest)
+    (record { allowed = allowed.0 refl; words = (says.is_key, says.arguments.has) }, λ k rest. row-said words (the-request client number op) k long says c n rest)
 maker_says None words client number op allowed same long says c n = tt

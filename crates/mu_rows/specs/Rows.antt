@@ -1,9 +1,10 @@
 -- row of a command: the twelve words that spell a command, and what a request must be to have them.
-use Rattle.std.specs.Prelude.{ℕ, ◌+◌, ◌-◌, ◌*◌, List, [], ◌∷◌, length, take, drop, nat_lt, if◌then◌else◌}
+use Rattle.std.specs.Prelude.{ℕ, ◌+◌, ◌-◌, ◌*◌, ⊤, List, [], ◌∷◌, length, take, drop, nat_lt, if◌then◌else◌}
 use Rattle.kv_store.specs.Commands.{Request, IsAllowed, key_of}
 use Rattle.kv_store.specs.Words.{IsKey, IsText}
+use Rattle.kv_store.specs.Kinds.{code_of_kind, parts_of}
+use Rattle.kv_store.specs.declared.command.Arguments.{Arguments}
 use Rattle.kv_store.specs.declared.command.Op.{Op}
-use Rattle.kv_store.specs.declared.command.Op.TheVariants.{Put, Get, Del, Swap, Cas}
 
 -- the number that bytes spell, the first in the lowest place
 abbrev pub number_of : List ℕ → ℕ
@@ -16,27 +17,41 @@ word_of bytes index = number_of (take 8 (drop (8 * index) bytes))
 
 -- the number of an operation
 abbrev pub code_of : Op → ℕ
-code_of (Put key text) = 1
-code_of (Get key) = 2
-code_of (Del key) = 3
-code_of (Swap key text) = 4
-code_of (Cas key old new) = 5
+code_of op = code_of_kind (parts_of op).kind
 
--- the text that an operation has, the old one of a cas, or nothing
+-- the first text of arguments, or nothing
+abbrev pub first_of : Arguments → List ℕ
+first_of Arguments.Nothing = []
+first_of (Arguments.Text text) = text
+first_of (Arguments.Texts first second) = first
+
+-- the second one
+abbrev pub second_of : Arguments → List ℕ
+second_of (Arguments.Texts first second) = second
+second_of _ = []
+
+-- one of their eight words, by its index: two texts have four each
+abbrev pub argument_word : Arguments → ℕ → ℕ
+argument_word Arguments.Nothing index = 0
+argument_word (Arguments.Text text) index = word_of text index
+argument_word (Arguments.Texts first second) index =
+    if nat_lt index 4 then word_of first index else word_of second (index - 4)
+
+-- arguments are texts
+abbrev pub AreArguments : Arguments → Type 0
+AreArguments Arguments.Nothing = ⊤
+AreArguments (Arguments.Text text) = IsText text
+AreArguments (Arguments.Texts first second) = IsText first × IsText second
+
+-- the same of an operation
 abbrev pub first_text : Op → List ℕ
-first_text (Put key text) = text
-first_text (Get key) = []
-first_text (Del key) = []
-first_text (Swap key text) = text
-first_text (Cas key old new) = old
+first_text op = first_of (parts_of op).arguments
 
--- the new text of a cas, or nothing
 abbrev pub second_text : Op → List ℕ
-second_text (Put key text) = []
-second_text (Get key) = []
-second_text (Del key) = []
-second_text (Swap key text) = []
-second_text (Cas key old new) = new
+second_text op = second_of (parts_of op).arguments
+
+abbrev pub text_word : Op → ℕ → ℕ
+text_word op = argument_word (parts_of op).arguments
 
 -- the word that says what the others are: the operation, the client, the number, the lengths of the
 -- key and the texts, and how many rows of the same batch follow, at the places of 2 ^ 0, 2 ^ 8, 2 ^
@@ -48,15 +63,6 @@ head_word request rest =
     + 281474976710656 * length (second_text request.op)
     + 72057594037927936 * rest
 
--- one of the eight words of the texts, by its index: those of a cas have four each
-abbrev pub text_word : Op → ℕ → ℕ
-text_word (Put key text) index = word_of text index
-text_word (Get key) index = 0
-text_word (Del key) index = 0
-text_word (Swap key text) index = word_of text index
-text_word (Cas key old new) index =
-    if nat_lt index 4 then word_of old index else word_of new (index - 4)
-
 -- the words of a row: the head, three of the key and eight of the texts
 abbrev pub spelled : Request → ℕ → List ℕ
 spelled request rest =
@@ -67,13 +73,9 @@ spelled request rest =
     ∷ text_word request.op 4 ∷ text_word request.op 5 ∷ text_word request.op 6
     ∷ text_word request.op 7 ∷ []
 
--- what an operation has is a key and texts
+-- what an operation has is a key, and arguments
 abbrev pub HasWords : Op → Type 0
-HasWords (Put key text) = IsKey key × IsText text
-HasWords (Get key) = IsKey key
-HasWords (Del key) = IsKey key
-HasWords (Swap key text) = IsKey key × IsText text
-HasWords (Cas key old new) = IsKey key × IsText old × IsText new
+HasWords op = IsKey (key_of op) × AreArguments (parts_of op).arguments
 
 -- a request that is a command: one that the store may be asked for
 pub record IsCommand (request : Request) : Type 0 where

@@ -2,12 +2,11 @@
 #![tactic(auto)]
 
 ghost use Rattle.std.specs.Prelude.{◌≡◌, ◌<◌, ◌≤◌, ◌/◌, ◌%◌, ◌^◌, length, slice_index, slice_index_or};
-ghost use Rattle.mu_rows.specs.Rows.{word_of, code_of, first_text, second_text, head_word, text_word, spelled, HasWords, IsCommand};
-ghost use Rattle.kv_store.specs.Commands.{key_of};
+ghost use Rattle.mu_rows.specs.Rows.{word_of, first_of, second_of, head_word, argument_word, spelled, AreArguments, HasWords, IsCommand};
 
 mod read;
 
-use kv_store::{Command, Key, Op};
+use kv_store::{Arguments, Command, Op};
 use mu_model::Row;
 pub use read::{decode, rows_differ};
 
@@ -26,11 +25,10 @@ const REST: u64 = 72_057_594_037_927_936;
 
 /// The row of a command that `rest` rows of the same batch follow: 0 to 3.
 ///
-/// The head word has, from the low bits: the operation (1 put, 2 get, 3 del, 4 swap, 5 cas) 8 bits,
-/// the client 8, the number 16, the lengths of the key, the first and the second text 8 each, and
-/// the rows that follow 8. Words 1 to 3 are the key, and words 4 to 11 the text; for a cas words 4
-/// to 7 are the old text and 8 to 11 the new one. Bytes stand eight to a word, the first in the
-/// lowest place.
+/// The head word has, from the low bits: the number of the operation's kind 8 bits, the client 8,
+/// the number 16, the lengths of the key, the first and the second text 8 each, and the rows that
+/// follow 8. Words 1 to 3 are the key, and words 4 to 11 the text; of two texts the first has words
+/// 4 to 7 and the second 8 to 11. Bytes stand eight to a word, the first in the lowest place.
 pub fn encode(command: &Command, rest: u8) -> Row
     requires { rest ≤ 3 }
     ensures words { result.words ≡ spelled command.now rest }
@@ -38,22 +36,23 @@ pub fn encode(command: &Command, rest: u8) -> Row
     ensures number { slice_index result.words 0 / 2 ^ 16 % 2 ^ 16 ≡ command.now.number }
     ensures rest { slice_index result.words 0 / 2 ^ 56 ≡ rest }
 {
-    let op = &command.op;
-    let key = key_of(op).as_bytes();
+    let parts = command.op.parts();
+    let key = parts.key.as_bytes();
+    let arguments = &parts.arguments;
     Row {
         words: [
             head_of(command, rest),
             word_at(key, 0),
             word_at(key, 1),
             word_at(key, 2),
-            text_word(op, 0),
-            text_word(op, 1),
-            text_word(op, 2),
-            text_word(op, 3),
-            text_word(op, 4),
-            text_word(op, 5),
-            text_word(op, 6),
-            text_word(op, 7),
+            argument_word(arguments, 0),
+            argument_word(arguments, 1),
+            argument_word(arguments, 2),
+            argument_word(arguments, 3),
+            argument_word(arguments, 4),
+            argument_word(arguments, 5),
+            argument_word(arguments, 6),
+            argument_word(arguments, 7),
         ],
     }
 }
@@ -65,22 +64,27 @@ pub fn is_command(command: &Command)
     has_words(&command.op);
 }
 
-/// What an operation has is a key and texts. It does nothing.
+/// What an operation has is a key, and arguments. It does nothing.
 fn has_words(op: &Op)
     ensures { HasWords op.now }
 {
-    match op {
-        Op::Put(key, text) | Op::Swap(key, text) => {
-            key.as_bytes();
+    let parts = op.parts();
+    parts.key.as_bytes();
+    are_arguments(&parts.arguments);
+}
+
+/// What arguments are. It does nothing.
+fn are_arguments(arguments: &Arguments)
+    ensures { AreArguments arguments.now }
+{
+    match arguments {
+        Arguments::Nothing => {}
+        Arguments::Text(text) => {
             text.as_bytes();
         }
-        Op::Get(key) | Op::Del(key) => {
-            key.as_bytes();
-        }
-        Op::Cas(key, old, new) => {
-            key.as_bytes();
-            old.as_bytes();
-            new.as_bytes();
+        Arguments::Texts(first, second) => {
+            first.as_bytes();
+            second.as_bytes();
         }
     }
 }
@@ -92,10 +96,10 @@ fn head_of(command: &Command, rest: u8) -> u64
     ensures number { result / 2 ^ 16 % 2 ^ 16 ≡ command.now.number }
     ensures rest { result / 2 ^ 56 ≡ rest }
 {
-    let op = &command.op;
-    let key_length = key_of(op).as_bytes().len() as u64;
-    let (first_length, second_length) = text_lengths(op);
-    code_of(op)
+    let parts = command.op.parts();
+    let key_length = parts.key.as_bytes().len() as u64;
+    let (first_length, second_length) = text_lengths(&parts.arguments);
+    u64::from(parts.kind.code())
         + CLIENT * command.client as u64
         + NUMBER * command.number as u64
         + KEY_LENGTH * key_length
@@ -104,55 +108,38 @@ fn head_of(command: &Command, rest: u8) -> u64
         + REST * rest as u64
 }
 
-fn code_of(op: &Op) -> u64
-    ensures code { result ≡ code_of op.now }
-    ensures small { result ≤ 5 }
-{
-    match op {
-        Op::Put(_, _) => 1,
-        Op::Get(_) => 2,
-        Op::Del(_) => 3,
-        Op::Swap(_, _) => 4,
-        Op::Cas(_, _, _) => 5,
-    }
-}
-
-fn key_of(op: &Op) -> &Key
-    ensures { result.now ≡ key_of op.now }
-{
-    match op {
-        Op::Put(key, _) | Op::Get(key) | Op::Del(key) | Op::Swap(key, _) | Op::Cas(key, _, _) =>
-            key,
-    }
-}
-
-/// The lengths of the first and the second text, 0 for one that the operation doesn't have.
-fn text_lengths(op: &Op) -> (u64, u64)
-    ensures first { result.0 ≡ length (first_text op.now) }
+/// The lengths of the first and the second text, 0 for one that isn't there.
+fn text_lengths(arguments: &Arguments) -> (u64, u64)
+    ensures first { result.0 ≡ length (first_of arguments.now) }
     ensures first_small { result.0 ≤ 64 }
-    ensures second { result.1 ≡ length (second_text op.now) }
+    ensures second { result.1 ≡ length (second_of arguments.now) }
     ensures second_small { result.1 ≤ 64 }
 {
-    match op {
-        Op::Put(_, text) | Op::Swap(_, text) => (text.as_bytes().len() as u64, 0),
-        Op::Get(_) | Op::Del(_) => (0, 0),
-        Op::Cas(_, old, new) => (old.as_bytes().len() as u64, new.as_bytes().len() as u64),
+    match arguments {
+        Arguments::Nothing => (0, 0),
+        Arguments::Text(text) => (text.as_bytes().len() as u64, 0),
+        Arguments::Texts(first, second) => {
+            (
+                first.as_bytes().len() as u64,
+                second.as_bytes().len() as u64,
+            )
+        }
     }
 }
 
-/// One of the eight words of the texts.
-fn text_word(op: &Op, index: usize) -> u64
+/// One of the eight words of arguments.
+fn argument_word(arguments: &Arguments, index: usize) -> u64
     requires { index < 8 }
-    ensures { result ≡ text_word op.now index }
+    ensures { result ≡ argument_word arguments.now index }
 {
-    match op {
-        Op::Put(_, text) | Op::Swap(_, text) => word_at(text.as_bytes(), index),
-        Op::Get(_) | Op::Del(_) => 0,
-        Op::Cas(_, old, new) => {
+    match arguments {
+        Arguments::Nothing => 0,
+        Arguments::Text(text) => word_at(text.as_bytes(), index),
+        Arguments::Texts(first, second) => {
             if index < 4 {
-                word_at(old.as_bytes(), index)
+                word_at(first.as_bytes(), index)
             } else {
-                word_at(new.as_bytes(), index - 4)
+                word_at(second.as_bytes(), index - 4)
             }
         }
     }

@@ -3,12 +3,14 @@ ghost use Rattle.std.specs.Prelude.{◌≡◌, ◌≢◌, ◌↔◌, ℕ, ◌+�
 ghost use Rattle.std.specs.Int.{w64, to_le_bytes};
 ghost use Rattle.std.specs.List.{range_with_len};
 ghost use Rattle.kv_store.specs.Commands.{Request};
+ghost use Rattle.kv_store.specs.Kinds.{shape_of};
 ghost use Rattle.kv_store.specs.Words.{IsKey, IsText};
+ghost use Rattle.kv_store.specs.declared.command.Arguments.{Arguments as SomeArguments};
 ghost use Rattle.mu_rows.specs.Rows.{word_of, spelled, IsCommand};
-ghost use Rattle.mu_rows.specs.Saying.{AreClear, SaysOp};
+ghost use Rattle.mu_rows.specs.Saying.{AreClear, SaysArguments, SaysOp, SpellArguments};
 
 use crate::{CLIENT, FIRST_LENGTH, KEY_LENGTH, NUMBER, REST, SECOND_LENGTH};
-use kv_store::{Command, Key, Op, TEXT_BYTES, Text};
+use kv_store::{Arguments, Command, Key, Op, OpKind, OpShape, TEXT_BYTES, Text};
 use mu_model::Row;
 
 // How many values the number of a command has in the head word, and how many each other field has.
@@ -61,14 +63,21 @@ fn op_in(words: &[u64; 12]) -> Option<Op>
     ensures found { (c : Request) (k : ℕ) → IsCommand c → k ≤ 3 → words.now ≡ spelled c k
         → result ≡ Some c.op }
 {
+    let kind = OpKind::of_code(words[0] % BYTES)?;
     let key = key_in(words)?;
-    match words[0] % BYTES {
-        1 => Some(Op::Put(key, only_text_in(words)?)),
-        2 => has_no_text(words).then_some(Op::Get(key)),
-        3 => has_no_text(words).then_some(Op::Del(key)),
-        4 => Some(Op::Swap(key, only_text_in(words)?)),
-        5 => Some(Op::Cas(key, first_text_in(words)?, second_text_in(words)?)),
-        _ => None,
+    Op::of_parts(key, kind, arguments_in(words, kind.shape())?)
+}
+
+/// The arguments of this shape that these words spell, if they do.
+fn arguments_in(words: &[u64; 12], shape: OpShape) -> Option<Arguments>
+    ensures some { IfSome result (λ arguments. SaysArguments words.now arguments) }
+    ensures found { (arguments : SomeArguments) → SpellArguments words.now arguments
+        → shape_of arguments ≡ shape → result ≡ Some arguments }
+{
+    match shape {
+        OpShape::Nothing => has_no_text(words).then_some(Arguments::Nothing),
+        OpShape::Text => Some(Arguments::Text(only_text_in(words)?)),
+        OpShape::Texts => Some(Arguments::Texts(first_text_in(words)?, second_text_in(words)?)),
     }
 }
 

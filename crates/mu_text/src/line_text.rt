@@ -1,5 +1,5 @@
 //! One line under construction.
-ghost use Rattle.std.specs.Prelude.{◌≡◌, ◌+◌, ◌<◌, ◌≤◌, ◌^◌, [], ◌++◌, length};
+ghost use Rattle.std.specs.Prelude.{◌≡◌, ◌+◌, ◌<◌, ◌≤◌, ◌^◌, [], ◌∷◌, ◌++◌, length};
 ghost use Rattle.std.specs.Fmt.{decimal};
 
 use crate::ZERO;
@@ -48,6 +48,17 @@ impl Line {
         self.len = end;
     }
 
+    /// Adds a byte at the end.
+    #[inline(always)]
+    pub fn push_byte(&mut self, byte: u8)
+        requires { length self.old < LINE_BYTES }
+        ensures bytes { self.new ≡ self.old ++ byte ∷ [] }
+        ensures len { length self.new ≡ length self.old + 1 }
+    {
+        self.bytes[self.len] = byte;
+        self.len += 1;
+    }
+
     /// Adds a number at the end, in decimal digits: at most 20, and fewer for a type with fewer
     /// bits.
     pub fn push_number(&mut self, number: u64)
@@ -58,10 +69,23 @@ impl Line {
         ensures of_32_bits { number < 2 ^ 32 → length self.new ≤ length self.old + 10 }
         ensures of_64_bits { length self.new ≤ length self.old + 20 }
     {
-        self.push_digits(number);
+        self.push_decimal(number);
     }
 
-    /// Adds the digits of a number.
+    /// Adds the digits of a number, of which many have one.
+    #[inline(always)]
+    fn push_decimal(&mut self, number: u64)
+        requires { length self.old + length (decimal number) ≤ LINE_BYTES }
+        ensures { self.new ≡ self.old ++ decimal number }
+    {
+        if number < 10 {
+            self.push_byte(ZERO + number as u8);
+        } else {
+            self.push_digits(number);
+        }
+    }
+
+    /// Adds the digits of a number, the last one last.
     fn push_digits(&mut self, number: u64)
         requires { length self.old + length (decimal number) ≤ LINE_BYTES }
         ensures { self.new ≡ self.old ++ decimal number }
@@ -69,7 +93,7 @@ impl Line {
         if number >= 10 {
             self.push_digits(number / 10);
         }
-        self.push(&[ZERO + (number % 10) as u8]);
+        self.push_byte(ZERO + (number % 10) as u8);
     }
 
     /// The bytes so far.

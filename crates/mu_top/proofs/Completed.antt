@@ -11,9 +11,8 @@ use Rattle.mu_outcome.specs.Entries.{commands_in, longest}
 use Rattle.mu_outcome.specs.Outcomes.{Agrees, IsRun}
 use Rattle.mu_outcome.specs.Runs.{IsThreadRun}
 use Rattle.mu_outcome.proofs.Completing.{completes_over, few_told, session_told}
-use Rattle.mu_cluster.specs.Committing.{StaysAlive}
 use Rattle.mu_cluster.specs.Leading.{LeadOnUnpaused}
-use Rattle.mu_cluster.specs.Living.{HasAllInTime}
+use Rattle.mu_cluster.specs.Living.{StaysAlive}
 use Rattle.mu_cluster.specs.Naming.{NamesFirstUnpaused, SpendsBudgets}
 use Rattle.mu_cluster.specs.Paces.{AreDiligent, AreDiligentBy, AreEager}
 use Rattle.mu_cluster.proofs.Agreeing.{over_order}
@@ -22,12 +21,11 @@ use Rattle.mu_report.proofs.Traces.{run_fits}
 use Rattle.mu_cluster.specs.Fair.{HasAllIfFair}
 use Rattle.mu_top.specs.Commands.{IsEagerReplay, IsReplay, IsThreaded}
 
-pub replay_of : (o : Outcome) (job : Job) → o.job ≡ job → IsConfig job.config → HaveHeads job.config.width job.commands job.config.rows → IsRun o → AreDiligent o → NamesFirstUnpaused o → SpendsBudgets o → HasAllInTime o → StaysAlive o → LeadOnUnpaused o → Agrees o → o.gathered ≡ None → IsReplay o
-replay_of o job same good have run diligent names spends lives alive leads agrees gathered = record {
+pub replay_of : (o : Outcome) (job : Job) → o.job ≡ job → IsConfig job.config → HaveHeads job.config.width job.commands job.config.rows → IsRun o → AreDiligent o → NamesFirstUnpaused o → SpendsBudgets o → StaysAlive o → LeadOnUnpaused o → Agrees o → o.gathered ≡ None → IsReplay o
+replay_of o job same good have run diligent names spends lives leads agrees gathered = record {
   names = names;
   spends = spends;
   lives = lives;
-  alive = alive;
   leads = leads;
   gathered = gathered;
   run = run;

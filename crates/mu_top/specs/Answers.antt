@@ -11,6 +11,7 @@ use Rattle.mu_report.specs.Statuses.{status_for}
 use Rattle.mu_shell.specs.Written.{Wrote}
 use Rattle.mu_top.specs.Commands.{Books, Lives, Replays, ReplaysEagerly, Runs, Sums, Traces, TracesEagerly}
 use Rattle.mu_top.specs.Desks.{Desks}
+use Rattle.mu_top.specs.Promising.{TellsEnough}
 use Rattle.mu_top.specs.Words.{limit_of}
 use Rattle.mu_top.specs.declared.asking.Task.{Task}
 use Rattle.mu_top.specs.declared.asking.Asked.{Asked}
@@ -22,6 +23,7 @@ Does Task.Eager bytes said = ReplaysEagerly bytes said
 Does Task.Run bytes said = Runs bytes said
 Does Task.Trace bytes said = Traces bytes said
 Does Task.EagerTrace bytes said = TracesEagerly bytes said
+Does Task.Enough bytes said = TellsEnough bytes said
 Does Task.Check bytes said = SaysOf bytes said
 Does Task.Why bytes said = NotesOf bytes said
 Does Task.Tell bytes said = TellsOfTrace bytes said

@@ -7,9 +7,8 @@ use Rattle.mu_input.specs.Readings.{Fits, Leaves}
 use Rattle.mu_input.specs.Bulk.{bulk_job}
 use Rattle.mu_input.specs.declared.job.InputEnd.{InputEnd}
 use Rattle.mu_cluster.specs.Fair.{HasAllIfFair}
-use Rattle.mu_cluster.specs.Committing.{StaysAlive}
 use Rattle.mu_cluster.specs.Leading.{LeadOnUnpaused}
-use Rattle.mu_cluster.specs.Living.{HasAllInTime}
+use Rattle.mu_cluster.specs.Living.{StaysAlive}
 use Rattle.mu_cluster.specs.Naming.{NamesFirstUnpaused, SpendsBudgets}
 use Rattle.mu_cluster.specs.Paces.{AreDiligent, AreDiligentBy, AreEager}
 use Rattle.mu_outcome.specs.declared.outcome.Outcome.{Outcome}
@@ -23,9 +22,8 @@ use Rattle.snap_reads.specs.Lives.{AreAllSights}
 -- the outcome is a run of its job in turns: its journals are diligent and its replicas agree. If a
 -- command is missing, each replica was cut short, and if the script has no line, by its budget. If
 -- the script has no pause, each replica names replica 0 until that has ended, and no leadership is
--- ever over; and no command is missing if fewer than half of the replicas stop, the ring is large
--- and the budget enough; a replica has them all by a step that the job alone tells. Nothing was
--- gathered of threads
+-- ever over. By a step that the job alone tells a replica has every command, and by another each that
+-- isn't stopped has finished. Nothing was gathered of threads
 pub record IsReplay (o : Outcome) : Type 0 where
   pub run : IsRun o
   pub diligent : AreDiligent o
@@ -33,8 +31,7 @@ pub record IsReplay (o : Outcome) : Type 0 where
   pub agrees : Agrees o
   pub completes : Completes o
   pub spends : SpendsBudgets o
-  pub lives : HasAllInTime o
-  pub alive : StaysAlive o
+  pub lives : StaysAlive o
   pub leads : LeadOnUnpaused o
   pub gathered : o.gathered ≡ None
 

@@ -18,6 +18,7 @@ task_named word =
     else if bytes_eq word (codes "eager") then Some Task.Eager
     else if bytes_eq word (codes "run") then Some Task.Run
     else if bytes_eq word (codes "trace") then Some Task.Trace
+    else if bytes_eq word (codes "enough") then Some Task.Enough
     else if bytes_eq word (codes "check") then Some Task.Check
     else if bytes_eq word (codes "why") then Some Task.Why
     else if bytes_eq word (codes "tell") then Some Task.Tell
@@ -80,6 +81,7 @@ limit_of Task.Eager = INPUT_LIMIT
 limit_of Task.Run = INPUT_LIMIT
 limit_of Task.Trace = INPUT_LIMIT
 limit_of Task.EagerTrace = INPUT_LIMIT
+limit_of Task.Enough = INPUT_LIMIT
 limit_of Task.Check = TRACE_LIMIT
 limit_of Task.Why = TRACE_LIMIT
 limit_of Task.Tell = TRACE_LIMIT

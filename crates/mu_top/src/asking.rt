@@ -35,6 +35,8 @@ pub enum Task {
     Trace,
     /// `eager trace`: run a job in turns, with the nodes of `run`, and tell its events.
     EagerTrace,
+    /// `enough`: tell what a job promises of its replay, and whether its budget is enough.
+    Enough,
     /// `check`: judge a trace.
     Check,
     /// `why`: judge a trace, and tell where it breaks and why.
@@ -72,6 +74,7 @@ impl Task {
             Task::Run => INPUT_LIMIT,
             Task::Trace => INPUT_LIMIT,
             Task::EagerTrace => INPUT_LIMIT,
+            Task::Enough => INPUT_LIMIT,
             Task::Check => TRACE_LIMIT,
             Task::Why => TRACE_LIMIT,
             Task::Tell => TRACE_LIMIT,
@@ -138,6 +141,8 @@ fn named_task(word: &[u8]) -> Option<Task>
         Some(Task::Run)
     } else if word == b"trace".as_slice() {
         Some(Task::Trace)
+    } else if word == b"enough".as_slice() {
+        Some(Task::Enough)
     } else if word == b"check".as_slice() {
         Some(Task::Check)
     } else if word == b"why".as_slice() {

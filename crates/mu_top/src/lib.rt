@@ -7,6 +7,7 @@ mod asking;
 mod booking;
 mod eager;
 mod living;
+mod promising;
 mod replaying;
 mod running;
 mod serving;

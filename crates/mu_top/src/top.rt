@@ -11,6 +11,7 @@ use crate::asking::{Asked, Task, asked_of};
 use crate::booking::told_of_book;
 use crate::eager::{told_of_eager, told_of_eager_trace};
 use crate::living::told_of_live;
+use crate::promising::told_of_enough;
 use crate::replaying::told_of_replay;
 use crate::running::told_of_run;
 use crate::serving::told_of_desk;
@@ -28,13 +29,14 @@ use std::thread::Threads;
 use std::time::Clock;
 
 /// Does what the words ask for: reads all of the source if they need input, runs the job or judges
-/// the trace, and writes what is said. Memory is wanted only before the first step of a replica or
-/// before the first event is judged, and for `live` once more, after the run and before the first
-/// command is published. Before each turn of `run`, before each command that comes to a `desk`, and
-/// before each publishing and get of `live` the gate is called.
+/// the trace, and writes what is said. A run wants memory only before the first step of a replica,
+/// and `live` once more, after the run and before the first command is published; of a trace
+/// `check` wants it only before the first event is judged, `why`, `tell` and `show` also after the
+/// last one. Before each turn of `run`, before each command that comes to a `desk`, and before each
+/// publishing and get of `live` the gate is called.
 ///
-/// The words are `replay`, `eager`, `run`, `trace`, `check`, `why`, `tell`, `desk` or `book`, with
-/// nothing after it, `show`, `bulk` or `live` with a number, or `eager trace`.
+/// The words are `replay`, `eager`, `run`, `trace`, `enough`, `check`, `why`, `tell`, `desk` or
+/// `book`, with nothing after it, `show`, `bulk` or `live` with a number, or `eager trace`.
 pub fn mu<R: Threads + Wait + Clock + Sync, S: Source, K: Sink, G: Gate + Sync>(
     rt: &R,
     alloc: Global,
@@ -133,6 +135,7 @@ fn told_of_bytes<R: Threads + Wait + Clock + Sync, G: Gate + Sync>(
         Task::Run => told_of_run(rt, alloc, bytes, gate),
         Task::Trace => told_of_trace(alloc, bytes),
         Task::EagerTrace => told_of_eager_trace(alloc, bytes),
+        Task::Enough => told_of_enough(alloc, bytes),
         Task::Check => judge(alloc, bytes),
         Task::Why => explain_trace(alloc, bytes),
         Task::Tell => tell_trace(alloc, bytes),

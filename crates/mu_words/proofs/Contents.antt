@@ -31,6 +31,7 @@ use Rattle.mu_words.proofs.Limits.{Limits}
 use Rattle.mu_words.proofs.Logs.{length_added, shown_elsewhere}
 use Rattle.mu_words.proofs.Tracking.{kept_in_history}
 use Rattle.mu_words.proofs.PlaceTies.{sees, puts_at, Tied, fixed_tie, place_word}
+use Rattle.mu_model.proofs.Putting.{put_facts}
 
 pub mod_near : (ring i k : ℕ) → i < k → k < i + ring → k % ring ≡ i % ring → ⊥
 mod_near ring i k h g e =
@@ -127,11 +128,11 @@ looked_before-part c r p i past m =
 pub put_tie : (c : Config) (r p i b v : ℕ) (past : List Event) → IsLegalHistory c past → Needs c r (part r past) (Verb.PutSlot p i b v) → drained r p past ≡ false
     → Tied c.ring i (length (region_log p past)) (kept_in_history c r p (Target.Place (i % c.ring)) past).1 (place_word c p i past)
 put_tie c r p i b v past h may d =
-    fixed_tie c r p i past h (i % c.ring) (sym (open_target-part r p past) ∙ slot_entered c r p i b v (part r past) may.2) d
-    (sym (looked_before-part c r p i past (sym (member-part r p past) ∙ may.2.member)) ∙ may.2.looked)
+    fixed_tie c r p i past h (i % c.ring) (sym (open_target-part r p past) ∙ slot_entered c r p i b v (part r past) (put_facts c r (part r past) p i b v may)) d
+    (sym (looked_before-part c r p i past (sym (member-part r p past) ∙ (put_facts c r (part r past) p i b v may).member)) ∙ (put_facts c r (part r past) p i b v may).looked)
 
 pub looked_of : (c : Config) (r p i b v : ℕ) (past : List Event) → Needs c r (part r past) (Verb.PutSlot p i b v) → looked_before_entering c r p i past ≡ true
-looked_of c r p i b v past may = sym (looked_before-part c r p i past (sym (member-part r p past) ∙ may.2.member)) ∙ may.2.looked
+looked_of c r p i b v past may = sym (looked_before-part c r p i past (sym (member-part r p past) ∙ (put_facts c r (part r past) p i b v may).member)) ∙ (put_facts c r (part r past) p i b v may).looked
 
 -- what stands below the stamp after a step
 abbrev pub or_old : Option ℕ → ℕ → ℕ

@@ -25,6 +25,7 @@ use Rattle.mu_words.proofs.Limits.{Limits}
 use Rattle.mu_words.proofs.Logs.{length_added}
 use Rattle.mu_words.proofs.Ranges.{min_fits}
 use Rattle.mu_words.proofs.Values.{log_small}
+use Rattle.mu_model.proofs.Putting.{put_facts, min_facts}
 
 -- numbers are at least 8
 abbrev Least : ℕ → List Event → Type 0
@@ -40,7 +41,7 @@ least_of r mine b (Some x) h e = cc
 
 least_put : (c : Config) (r by q b : ℕ) (past : List Event) → Needs c by (part by past) (Verb.PutMin q b) → Least r past → (t : Bool) → (by == r) ≡ t → Least r (event_after c past by (Verb.PutMin q b) ∷ past)
 least_put c r by q b past may s true k =
-    rw k (λ m e. least_case b m (proposal_number r past) (λ n. least_of by (part by past) b (proposal_number by (part by past)) may.1.numbered (number-part by past ∙ ap (λ z. proposal_number z past) (eqb-true by r k) ∙ n)) s e)
+    rw k (λ m e. least_case b m (proposal_number r past) (λ n. least_of by (part by past) b (proposal_number by (part by past)) (min_facts c by (part by past) q b may).numbered (number-part by past ∙ ap (λ z. proposal_number z past) (eqb-true by r k) ∙ n)) s e)
 least_put c r by q b past may s false k = rw k s
 
 least_ask : (c : Config) (r by q : ℕ) (past : List Event) → Least r past → (t : Bool) → is_first_ask r by (Verb.Ask q) ≡ t → Least r (event_after c past by (Verb.Ask q) ∷ past)
@@ -73,9 +74,9 @@ log_put c p by q i b v past l h may s Answer.Done true hy =
     rw hy (record {
       numbers = λ j y k. elim (get_put (region_log p past) i j (b, v) y k) [
         | inl m ↦ s.numbers j y m
-        | inr m ↦ (let n = least c by past h b (sym (number-part by past) ∙ may.2.numbered) in let o : y.0 ≡ b = ap (λ z. z.0) m.1 in omega arith)
+        | inr m ↦ (let n = least c by past h b (sym (number-part by past) ∙ (put_facts c by (part by past) q i b v may).numbered) in let o : y.0 ≡ b = ap (λ z. z.0) m.1 in omega arith)
       ];
-      most = length_put_most (region_log p past) i (b, v) s.most (position_most c i l may.1);
+      most = length_put_most (region_log p past) i (b, v) s.most (position_most c i l may.1.0);
     })
   where
     position_most : (c : Config) (i : ℕ) → Limits c → i ≤ row_count c + reserve c → i ≤ 1507

@@ -8,7 +8,6 @@ use Rattle.mu_model.specs.declared.event.Target.{Target}
 use Rattle.mu_model.specs.declared.event.Verb.{Verb}
 use Rattle.mu_model.specs.Allowed.{Needs}
 use Rattle.mu_model.specs.Answers.{entered_or_lost}
-use Rattle.mu_model.specs.Entering.{MayEnter}
 use Rattle.mu_model.specs.Histories.{part}
 use Rattle.mu_model.specs.Leaderships.{noted_grant}
 use Rattle.mu_model.specs.Legal.{IsLegalHistory}
@@ -22,6 +21,7 @@ use Rattle.mu_words.proofs.Limits.{Limits}
 use Rattle.mu_words.proofs.Others.{others_keep}
 use Rattle.mu_words.proofs.Ranges.{grant_fits}
 use Rattle.mu_words.proofs.Packing.{owner_small, target_small, bits_grant, bits_closing, fence_back}
+use Rattle.mu_model.proofs.Putting.{MayEnter}
 
 -- the fields of fences are in their ranges, and an owner was granted
 pub record FenceFits (p : ℕ) (owner : Option ℕ) (grant : ℕ) (target : Target) : Type 0 where
@@ -35,7 +35,7 @@ Fitting p past = FenceFits p (fence_owner p past) (fence_grant p past) (fence_ta
 pub enter_fits : (c : Config) (r : ℕ) (past : List Event) (p : ℕ) (t : Target) → Limits c → MayEnter c r past p t → TargetFits t
 enter_fits c r past p Target.None l h = tt
 enter_fits c r past p Target.Min l h = tt
-enter_fits c r past p (Target.Place s) l h = let i = l.ring_most in let j = h.2 in omega arith
+enter_fits c r past p (Target.Place s) l h = let i = l.ring_most in let j = h.1.1.0 in omega arith
 
 fits_enter : (p by q : ℕ) (t : Target) (past : List Event) → TargetFits t → Fitting p past → (a : Answer) → (y : Bool) → (q == p) ≡ y
     → Fitting p (record { by = by; verb = Verb.Enter q t; answer = a } ∷ past)

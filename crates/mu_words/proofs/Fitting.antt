@@ -33,6 +33,7 @@ use Rattle.mu_words.proofs.Ranges.{stamps_within, beats_within, asks_within, nex
 use Rattle.mu_words.proofs.Entries.{content_fits, lap_fits}
 use Rattle.mu_words.proofs.Values.{put_small}
 use Rattle.mu_words.proofs.Loading.{drain_target, named_word}
+use Rattle.mu_model.proofs.Putting.{put_facts, min_facts}
 
 position_below : (c : Config) (i : ℕ) → Limits c → i ≤ row_count c + reserve c → i < 4096
 position_below c i l h = go (c.version == 2) h
@@ -46,17 +47,17 @@ pub verb_fits : (c : Config) (past : List Event) (r : ℕ) (v : Verb) → Limits
 verb_fits c past r (Verb.Enter p t) l h may = enter_fits c r (part r past) p t l may.may.1
 verb_fits c past r (Verb.PutMin p b) l h may =
     let m = may.replica in let n = l.replicas in
-    let k = next_below c r b past h (omega arith) (highest_below c past l h) (proposal_number r (part r past)) refl may.may.1.numbered in
+    let k = next_below c r b past h (omega arith) (highest_below c past l h) (proposal_number r (part r past)) refl (min_facts c r (part r past) p b may.may).numbered in
     let d = short_history c past h l.replicas (let m = l.budget in omega arith) in
     omega arith
 verb_fits c past r (Verb.PutSlot p i b v) l h may =
     let m = may.replica in let n = l.replicas in
-    let t : greatest_own_put r past ≡ b = top_is c r past h b (sym (number-part r past) ∙ may.may.2.numbered) in
+    let t : greatest_own_put r past ≡ b = top_is c r past h b (sym (number-part r past) ∙ (put_facts c r (part r past) p i b v may.may).numbered) in
     let k = top_below_highest c r past h in
     let e = highest_below c past l h in
     let d = short_history c past h l.replicas (let m = l.budget in omega arith) in
     let s = put_small c r p i b v past l h may.may in
-    (lap_fits c i l (position_below c i l may.may.1), omega arith, omega arith)
+    (lap_fits c i l (position_below c i l may.may.1.0), omega arith, omega arith)
 verb_fits c past r (Verb.Grant w) l h may = let i = l.replicas in let j = may.may.0 in omega arith
 verb_fits c past r v l h may = tt
 
@@ -124,15 +125,15 @@ place_named c l past r (Verb.Enter p t) li f h may = region_named c l p f may.ma
 place_named c l past r (Verb.PutMin p b) li f h may = region_named c l p f may.may.0
 place_named c l past r (Verb.Look p i) li f h may = slot_named c l p i li f may.may.0
 place_named c l past r (Verb.PutSlot p i b v) li f h may = slot_named c l p i li f may.may.0
-place_named c l past r (Verb.Fuo p) li f h may = region_named c l p f may.may
+place_named c l past r (Verb.Fuo p) li f h may = region_named c l p f may.may.0
 place_named c l past r (Verb.RaiseFuo p u) li f h may = region_named c l p f may.may.0
-place_named c l past r (Verb.Head q) li f h may = region_named c l q f may.may
+place_named c l past r (Verb.Head q) li f h may = region_named c l q f may.may.0
 place_named c l past r (Verb.ReadBeat q) li f h may = region_named c l q f may.may.0
-place_named c l past r (Verb.WriteRow j k x) li f h may = row_named c l r j k f may.replica may.may.0 may.may.1
-place_named c l past r (Verb.ReadRow v k) li f h may = row_named c l (v / 4096) (v % 4096) k f may.may.0 may.may.1 may.may.2
+place_named c l past r (Verb.WriteRow j k x) li f h may = row_named c l r j k f may.replica may.may.0 may.may.1.0
+place_named c l past r (Verb.ReadRow v k) li f h may = row_named c l (v / 4096) (v % 4096) k f may.may.0 may.may.1.0 may.may.1.1.0
 place_named c l past r (Verb.RaiseHead x) li f h may = region_named c l r f may.replica
 place_named c l past r Verb.Beat li f h may = region_named c l r f may.replica
-place_named c l past r (Verb.ReadAsk w) li f h may = (region_named c l r f may.replica, region_named c l w f may.may)
+place_named c l past r (Verb.ReadAsk w) li f h may = (region_named c l r f may.replica, region_named c l w f may.may.0)
 place_named c l past r Verb.Close li f h may = region_named c l r f may.replica
 place_named c l past r Verb.LookTarget li f h may = subst (λ z. IsName l (target_name r z)) (sym (close_target-part r past)) (target_named c l r (close_target r past) f may.replica (ring_targets c r past h).1)
 place_named c l past r Verb.Drain li f h may = subst (λ z. IsName l (target_name r z)) (sym (close_target-part r past)) (target_named c l r (close_target r past) f may.replica (ring_targets c r past h).1)

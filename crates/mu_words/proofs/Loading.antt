@@ -25,6 +25,7 @@ use Rattle.mu_words.proofs.Others.{close_target-part}
 use Rattle.mu_words.proofs.Tracking.{load_of}
 use Rattle.mu_words.proofs.Opening.{single}
 use Rattle.mu_words.proofs.Contents.{or_old, content_after}
+use Rattle.mu_model.proofs.Putting.{put_facts, min_facts}
 
 -- the word looked at, against the word that stands
 abbrev pub LoadedWord : Bool → ℕ → ℕ → Type 0
@@ -72,7 +73,7 @@ loading_min c p by q b past l h may s k m n =
     (content_after c p by (close_target p past) (Verb.PutMin q b) past l h may)
     (λ y e x.
     let d = leaves_done c p (close_target p past) q b y (put_answer (drained by q past)) e in
-    let o : open_target by q past ≡ Some Target.Min = sym (open_target-part by q past) ∙ may.1.entered in
+    let o : open_target by q past ≡ Some Target.Min = sym (open_target-part by q past) ∙ (min_facts c by (part by past) q b may).entered in
     single c by p past h k m x Target.Min (subst (λ z. open_target by z past ≡ Some Target.Min) d.1 o) refl (subst (λ z. drained by z past ≡ false) d.1 (put_done_undrained (drained by q past) d.0)))
     (s k m n)
 
@@ -83,7 +84,7 @@ loading_slot c p by q i b v past l h may s k m n =
     (content_after c p by (close_target p past) (Verb.PutSlot q i b v) past l h may)
     (λ y e x.
     let d = leaves_slot c p (close_target p past) q i b v y (put_answer (drained by q past)) e in
-    let o : open_target by q past ≡ Some (Target.Place (i % c.ring)) = sym (open_target-part by q past) ∙ slot_entered c by q i b v (part by past) may.2 in
+    let o : open_target by q past ≡ Some (Target.Place (i % c.ring)) = sym (open_target-part by q past) ∙ slot_entered c by q i b v (part by past) (put_facts c by (part by past) q i b v may) in
     single c by p past h k m x (Target.Place (i % c.ring)) (subst (λ z. open_target by z past ≡ Some (Target.Place (i % c.ring))) d.1 o) refl (subst (λ z. drained by z past ≡ false) d.1 (put_done_undrained (drained by q past) d.0)))
     (s k m n)
 

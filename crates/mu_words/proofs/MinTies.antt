@@ -8,7 +8,7 @@ use Rattle.mu_model.specs.declared.event.Target.{Target}
 use Rattle.mu_model.specs.declared.event.Verb.{Verb}
 use Rattle.mu_model.specs.Allowed.{Needs}
 use Rattle.mu_model.specs.Answers.{drained, entered_or_lost, put_answer}
-use Rattle.mu_model.specs.Entering.{MayEnter, min_read_under, open_target}
+use Rattle.mu_model.specs.Entering.{min_read_under, open_target}
 use Rattle.mu_model.specs.Histories.{has, part, since}
 use Rattle.mu_model.specs.Leaderships.{is_first_ask, noted_grant}
 use Rattle.mu_model.specs.Legal.{IsLegalHistory}
@@ -22,6 +22,7 @@ use Rattle.mu_words.specs.Finding.{with_content}
 use Rattle.mu_words.proofs.Limits.{Limits}
 use Rattle.mu_words.proofs.Tracking.{kept_in_history}
 use Rattle.mu_words.proofs.Ranges.{min_fits}
+use Rattle.mu_model.proofs.Putting.{MayEnter}
 
 abbrev pub min_word : Config → ℕ → List Event → ℕ
 min_word c p past = target_word c p Target.Min past
@@ -55,7 +56,7 @@ own_open c r p by q b past may e hx hy =
     let at_r = subst (λ z. Needs c z (part z past) (Verb.PutMin q b)) (eqb-true by r hx) may in
     let at_p = subst (λ z. Needs c r (part r past) (Verb.PutMin z b)) (eqb-true q p hy) at_r in
     let d = subst (λ z. drained r z past ≡ false) (eqb-true q p hy) (subst (λ z. drained z q past ≡ false) (eqb-true by r hx) (put_done_undrained (drained by q past) e)) in
-    (sym (open_target-part r p past) ∙ at_p.1.entered, d)
+    (sym (open_target-part r p past) ∙ at_p.1.1.0, d)
 
 tie_put : (c : Config) (r p by q b : ℕ) (past : List Event) → Limits c → IsLegalHistory c past → Needs c by (part by past) (Verb.PutMin q b) → MinTie c r p past
     → (a : Answer) → put_answer (drained by q past) ≡ a → (x : Bool) → (by == r) ≡ x → (y : Bool) → (q == p) ≡ y

@@ -12,7 +12,7 @@ use Rattle.mu_model.specs.declared.event.Target.{Target}
 use Rattle.mu_model.specs.declared.event.Verb.{Verb}
 use Rattle.mu_model.specs.Allowed.{Needs}
 use Rattle.mu_model.specs.Answers.{drained, entered_or_lost, is_enter_of, put_answer, shown}
-use Rattle.mu_model.specs.Entering.{MayEnter, open_target}
+use Rattle.mu_model.specs.Entering.{open_target}
 use Rattle.mu_model.specs.Histories.{before, has, newer_or, part, since}
 use Rattle.mu_model.specs.Leaderships.{begins_leadership, grant_at_joining, is_first_ask, is_member, is_over, noted_grant}
 use Rattle.mu_model.specs.Legal.{IsLegalHistory}
@@ -28,6 +28,7 @@ use Rattle.mu_words.specs.Standing.{stamp, target_word}
 use Rattle.mu_words.proofs.Logs.{length_added, shown_elsewhere}
 use Rattle.mu_words.proofs.Tracking.{kept_in_history}
 use Rattle.mu_words.proofs.Opening.{not_other_slot}
+use Rattle.mu_model.proofs.Putting.{MayEnter}
 
 abbrev pub sees : ℕ → ℕ → ℕ → Event → Bool
 sees r p i e = is_good_look (look_answer r p i e.by e.verb e.answer)

@@ -5,13 +5,14 @@ use Rattle.mu_model.specs.declared.event.Answer.{Answer}
 use Rattle.mu_model.specs.declared.event.Event.{Event}
 use Rattle.mu_model.specs.declared.event.Target.{Target}
 use Rattle.mu_model.specs.declared.event.Verb.{Verb}
-use Rattle.mu_model.specs.Entering.{MayEnter, open_target}
+use Rattle.mu_model.specs.Entering.{open_target}
 use Rattle.mu_model.specs.Histories.{part}
 use Rattle.mu_model.specs.Leaderships.{is_first_ask}
 use Rattle.mu_model.specs.Serving.{has_target}
 use Rattle.mu_agree.proofs.Access.{no_target}
 use Rattle.mu_agree.proofs.Entering.{slot_entered}
 use Rattle.mu_words.specs.Founds.{AllowedArePrepared, IsInRing, last_entered}
+use Rattle.mu_model.proofs.Putting.{MayEnter, put_facts, min_facts}
 
 -- an open `Enter` is the last one
 open_ask : (r p q : ℕ) (t : Target) (mine : List Event) (by : ℕ) (a : Answer) → (x : Bool) → is_first_ask r by (Verb.Ask q) ≡ x → (open_target r p mine ≡ Some t → last_entered p mine ≡ Some t)
@@ -56,11 +57,11 @@ open_entered r p t g (e ∷ past) o = go (e.by == r) refl o (open_entered r p t 
 pub enter_ring : (c : Config) (r : ℕ) (past : List Event) (p : ℕ) (t : Target) → MayEnter c r past p t → IsInRing c.ring t
 enter_ring c r past p Target.None may = tt
 enter_ring c r past p Target.Min may = tt
-enter_ring c r past p (Target.Place s) may = may.2
+enter_ring c r past p (Target.Place s) may = may.1.1.0
 
 pub allowed_are_prepared_law : AllowedArePrepared
 allowed_are_prepared_law c r past (Verb.Enter p t) may = (may.may.0, enter_ring c r (part r past) p t may.may.1)
-allowed_are_prepared_law c r past (Verb.PutMin p b) may = (may.may.0, open_entered r p Target.Min refl past may.may.1.entered)
+allowed_are_prepared_law c r past (Verb.PutMin p b) may = (may.may.0, open_entered r p Target.Min refl past (min_facts c r (part r past) p b may.may).entered)
 allowed_are_prepared_law c r past (Verb.PutSlot p i b v) may =
-    (may.may.0, open_entered r p (Target.Place (i % c.ring)) refl past (slot_entered c r p i b v (part r past) may.may.2))
+    (may.may.0, open_entered r p (Target.Place (i % c.ring)) refl past (slot_entered c r p i b v (part r past) (put_facts c r (part r past) p i b v may.may)))
 allowed_are_prepared_law c r past v may = tt

@@ -27,6 +27,7 @@ use Rattle.mu_words.proofs.Contents.{or_old, content_after, put_tie, looked_of}
 use Rattle.mu_words.proofs.MinTies.{min_tie}
 use Rattle.mu_words.proofs.Loading.{loading, named_word, drain_target, LoadedWord}
 use Rattle.mu_words.proofs.Stamps.{min_outdated, place_outdated, looked_since_close-part, same_self}
+use Rattle.mu_model.proofs.Putting.{put_facts, min_facts}
 
 pub min_step : (c : Config) (past : List Event) (r p : ℕ) → Limits c → IsLegalHistory c past → StepsByWord c r past (Verb.Min p)
 min_step c past r p l h =
@@ -58,7 +59,7 @@ put_numbers st old now y x true h f g =
 pub put_min_step : (c : Config) (past : List Event) (r p b : ℕ) → Limits c → IsLegalHistory c past → Needs c r (part r past) (Verb.PutMin p b) → StepsByWord c r past (Verb.PutMin p b)
 put_min_step c past r p b l h may =
     let ev = event_of c r past (Verb.PutMin p b) in
-    let o = sym (open_target-part r p past) ∙ may.1.entered in
+    let o = sym (open_target-part r p past) ∙ (min_facts c r (part r past) p b may).entered in
     let x : (kept c p Target.Min (sights c r past)).1 ≡ (kept_in_history c r p Target.Min past).1 = ap (λ k. k.1) (kept_is_in_history c r p Target.Min past) in
     let after : region_min p (ev ∷ past) ≡ or_old (leaves c p Target.Min (Verb.PutMin p b) (put_answer (drained r p past))) (region_min p past) = content_after c p r Target.Min (Verb.PutMin p b) past l h may in
     let n = put_numbers (stamp c p Target.Min past) (region_min p past) (region_min p (ev ∷ past)) b ((kept c p Target.Min (sights c r past)).1) (drained r p past) (let k = min_fits c p past l h in omega arith)
@@ -70,7 +71,7 @@ pub put_slot_step : (c : Config) (past : List Event) (r p i b v : ℕ) → Limit
 put_slot_step c past r p i b v l h may =
     let ev = event_of c r past (Verb.PutSlot p i b v) in
     let t = Target.Place (i % c.ring) in
-    let o = sym (open_target-part r p past) ∙ slot_entered c r p i b v (part r past) may.2 in
+    let o = sym (open_target-part r p past) ∙ slot_entered c r p i b v (part r past) (put_facts c r (part r past) p i b v may) in
     let x : (kept c p t (sights c r past)).1 ≡ (kept_in_history c r p t past).1 = ap (λ k. k.1) (kept_is_in_history c r p t past) in
     let after : content c p t (ev ∷ past) ≡ or_old (leaves c p t (Verb.PutSlot p i b v) (put_answer (drained r p past))) (content c p t past) = content_after c p r t (Verb.PutSlot p i b v) past l h may in
     let n = put_numbers (stamp c p t past) (content c p t past) (content c p t (ev ∷ past)) (fields c.ring i b v) ((kept c p t (sights c r past)).1) (drained r p past) (content_fits c p t past l h)
@@ -93,7 +94,7 @@ drain_step c past r l h may =
     let t = close_target r past in
     let k = drain_target r past may.0 in
     let x = loaded_load c r past in
-    let s = loading c r past l h k.0 (sym (looked_since_close-part r past) ∙ may.1) (sym (drained_since-part r past) ∙ may.2) in
+    let s = loading c r past l h k.0 (sym (looked_since_close-part r past) ∙ may.1.0) (sym (drained_since-part r past) ∙ may.1.1.0) in
     let n = drain_numbers (stamp c r t past) (content c r t past) (content c r t (ev ∷ past)) (loaded (sights c r past)) (standing_word c past (target_name r t)) (changed_since_look c r past) (drain_took c r t past r Verb.Drain)
     (named_word c r t past k.1) (content_after c r r t Verb.Drain past l h may) (took_is c r past k.1)
     (subst (λ z. LoadedWord (changed_since_look c r past) z (target_word c r t past)) (sym x) s) in

@@ -23,6 +23,7 @@ use Rattle.mu_agree.proofs.Minimum.{top_is}
 use Rattle.mu_agree.proofs.Numbers.{number-part, greatest_own_put, greatest_own_put-part}
 use Rattle.mu_words.specs.Standing.{stamp, drain_took, is_same_target, close_target, changed_since_look}
 use Rattle.mu_words.proofs.Limits.{Limits}
+use Rattle.mu_model.proofs.Putting.{min_facts}
 
 -- the greatest number that anybody put
 abbrev pub put_of : Verb → Option ℕ
@@ -96,7 +97,7 @@ next_below c r b past h m s None e k =
     omega arith
 
 highest_step : (c : Config) (by : ℕ) (v : Verb) (past : List Event) → IsLegalHistory c past → by < 8 → Needs c by (part by past) v → highest past ≤ 8 * length past + 7 → highest (event_after c past by v ∷ past) ≤ 8 * suc (length past) + 7
-highest_step c by (Verb.PutMin q b) past h m may s = let k = next_below c by b past h m s (proposal_number by (part by past)) refl may.1.numbered in omega arith
+highest_step c by (Verb.PutMin q b) past h m may s = let k = next_below c by b past h m s (proposal_number by (part by past)) refl (min_facts c by (part by past) q b may).numbered in omega arith
 highest_step c by v past h m may s = omega arith
 
 pub highest_below : (c : Config) (past : List Event) → Limits c → IsLegalHistory c past → highest past ≤ 8 * length past + 7

@@ -50,7 +50,7 @@ pub drain_takes : (c : Config) (r p : ℕ) (t : Target) (past : List Event) → 
 drain_takes c r p t past h may o f d =
     let k = drain_target p past may.0 in
     let named = (target_is c r p past h t o f d).1 k.0 in
-    let looked = sym (looked_since_close-part p past) ∙ may.1 in
+    let looked = sym (looked_since_close-part p past) ∙ may.1.0 in
     let unchanged = false_from_ne_true (changed_since_look c p past) (λ e. single c r p past h k.0 looked e t o f d) in
     and_from (p == p) (is_same_target t (close_target p past) && not (changed_since_look c p past)) (same_number p)
     (and_from (is_same_target t (close_target p past)) (not (changed_since_look c p past)) (subst (λ x. is_same_target t x ≡ true) (sym named) (same_self t f)) (ap not unchanged))

@@ -14,6 +14,7 @@ use Rattle.mu_agree.proofs.Landed.{landed_facts}
 use Rattle.mu_agree.proofs.Sessions.{fits_stands}
 use Rattle.mu_agree.proofs.Sound.{all_sound, landed_tried, put_sound}
 use Rattle.mu_words.proofs.Limits.{Limits}
+use Rattle.mu_model.proofs.Putting.{put_facts}
 
 -- seven times 4,096 payload numbers
 below_seven : (c : Config) (v : ℕ) → Limits c → StandsForEntry c v → v < 28672
@@ -29,7 +30,7 @@ below_seven c v l (inr mark) =
 -- a value that may be put
 pub put_small : (c : Config) (r p i b v : ℕ) (past : List Event) → Limits c → IsLegalHistory c past → Needs c r (part r past) (Verb.PutSlot p i b v) → v < 28672
 put_small c r p i b v past l h may =
-    let sound = put_sound c r p i b v past h (all_sound c past h) may.2 in
+    let sound = put_sound c r p i b v past h (all_sound c past h) (put_facts c r (part r past) p i b v may) in
     below_seven c v l (fits_stands c v sound.values past sound.fits)
 
 -- the value of an entry

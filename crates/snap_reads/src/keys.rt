@@ -2,9 +2,8 @@
 ghost use Rattle.std.specs.Prelude.{IfOk, ◌≡◌};
 ghost use Rattle.mu_outcome.specs.Entries.{commands_in};
 ghost use Rattle.snap_reads.specs.Keys.{keys_of as keys_of_commands};
-ghost use Rattle.kv_store.specs.Commands.{key_of as key_of_op};
 
-use kv_store::{Command, Key, Op};
+use kv_store::{Command, Key};
 use mu_input::Job;
 use mu_model::NoMemory;
 use mu_outcome::commands_of;
@@ -25,25 +24,15 @@ pub(crate) fn commands_of_log(
     Ok(commands)
 }
 
-/// The key that an operation is of.
-fn key_of(op: &Op) -> Key
-    ensures { result ≡ key_of_op op.now }
-{
-    match op {
-        Op::Put(key, _) | Op::Get(key) | Op::Del(key) | Op::Swap(key, _) | Op::Cas(key, _, _) =>
-            *key,
-    }
-}
-
 /// The keys of commands, each once, in order of first use.
 pub(crate) fn keys_of(alloc: Global, commands: &[Command]) -> Result<Vec<Key>, NoMemory>
     ensures { IfOk result (λ keys. keys.items ≡ keys_of_commands commands.now) }
 {
     let mut keys = Vec::new(alloc);
     for command in commands {
-        let key = key_of(&command.op);
-        if !keys.as_slice().contains(&key) {
-            keys.push(key)?;
+        let parts = command.op.parts();
+        if !keys.as_slice().contains(&parts.key) {
+            keys.push(parts.key)?;
         }
     }
     Ok(keys)

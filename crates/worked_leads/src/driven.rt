@@ -11,6 +11,7 @@ ghost use Rattle.mu_detect.specs.Stands.{StandsFor as ScoresStandFor};
 ghost use Rattle.mu_lead.specs.Beside.{is_beside};
 ghost use Rattle.mu_lead.specs.Sets.{bit, is_bit};
 ghost use Rattle.mu_lead.specs.Standing.{HasHeeded, verb_of};
+ghost use Rattle.mu_replicas.specs.Stands.{StandsForReplicas};
 ghost use Rattle.worked_leads.specs.Driven.{Beside, Drives};
 ghost use Rattle.mu_model.specs.Steps.{is_slot_put_verb};
 
@@ -70,6 +71,19 @@ fn is_slot_put(verb: &Verb) -> bool
     match *verb {
         Verb::PutSlot(_, _, _, _) => true,
         _ => false,
+    }
+}
+
+/// Whether `by` may make the verb.
+fn allows(all: &Replicas, config: &Config, by: u8, verb: &Verb) -> bool
+    requires { IsConfig config.now }
+    ensures { (past : List SomeEvent) → IsLegalHistory config.now past
+        → StandsForReplicas config.now past all.now → IsTrue result
+        → Allowed config.now by (part by past) verb.now }
+{
+    match all.why_not(config, by, verb) {
+        None => true,
+        Some(_) => false,
     }
 }
 
@@ -313,7 +327,7 @@ impl Driven {
         ensures beside { IsTrue result → by ≡ self.now.lead.id
             → (leading : Bool) → is_beside leading verb.now ≡ true }
     {
-        self.all.allows(&self.lead.config, by, verb) && (by != self.lead.id || is_aside(verb))
+        allows(&self.all, &self.lead.config, by, verb) && (by != self.lead.id || is_aside(verb))
     }
 
     /// Takes an event that isn't the leader's.

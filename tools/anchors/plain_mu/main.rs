@@ -6,6 +6,7 @@
 //!     plain_mu trace < JOB      the trace of a replay
 //!     plain_mu eager < JOB      the report of a replay with the replicas of a run
 //!     plain_mu eager trace < JOB    its trace
+//!     plain_mu enough < JOB     by which step it is committed and finished, or why not
 //!     plain_mu run < JOB        the report of a run on threads
 //!     plain_mu run-trace < JOB  the trace of a run on threads
 //!     plain_mu schedule SEED RATIO WILD GOING < JOB   the trace of eager replicas by a random
@@ -13,6 +14,7 @@
 //!     plain_mu read < TRACE     how many events a trace has; nothing is judged
 //!     plain_mu copy < TRACE     the trace as it was read
 //!     plain_mu check < TRACE    whether each event was allowed and found what it had to find
+mod enough;
 mod host;
 mod job;
 mod judge;
@@ -65,6 +67,7 @@ fn run(command: &str, text: &str, job: &Job, out: &mut Vec<u8>) -> u8 {
         "replay" => report::report(out, job, &replay::replay(job, false, &mut port::Nothing)),
         "eager" => report::report(out, job, &replay::replay(job, true, &mut port::Nothing)),
         "run" => report::report(out, job, &run::run(job)),
+        "enough" => enough::enough(out, job),
         "keep" => report::report(out, job, &replay::replay(job, false, &mut Vec::with_capacity(room))),
         "trace" | "eager trace" => {
             let mut events = Vec::with_capacity(room);
@@ -89,7 +92,7 @@ fn main() -> ExitCode {
         Err(_) => READ_FAULT,
     };
     match status {
-        USAGE => eprintln!("usage: plain_mu replay | eager | keep | trace | eager trace | run | read | copy | check"),
+        USAGE => eprintln!("usage: plain_mu replay | eager | keep | trace | eager trace | enough | run | read | copy | check"),
         REFUSED => eprintln!("the input isn't what the command reads"),
         READ_FAULT => eprintln!("the input can't be read as text"),
         _ => {}

@@ -10,11 +10,10 @@ pub returns-in-Some : goal.returns-in-Some
 returns-in-Some c =
     let held = c.loop-index.invariant in
     let past = history (take c.loop-index.index c.args.events.now) in
-    let found = c.in-Some.ensures past held in
     record {
       there = read_there c.args.events.now c.loop-index.index _ (omega (arith, c.loop-index-test.true));
       before = held.legal;
-      fault = c.fault.ensures past (subst (λ j. StandsForJudge c.args.config.now past j) (sym found.0) held) found.1;
+      fault = (c.in-Some.ensures past held).1;
     }
 
 pub loop-index-preserved : goal.loop-index-preserved

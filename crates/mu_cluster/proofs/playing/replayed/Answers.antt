@@ -7,14 +7,9 @@ use Rattle.mu_model.specs.Contents.{IsConfig}
 use Rattle.mu_model.specs.Legal.{IsLegal}
 use Rattle.mu_outcome.proofs.Completing.{completes_over}
 use Rattle.mu_cluster.proofs.Agreeing.{agrees_of, over_order, within_of}
-use Rattle.mu_cluster.proofs.AllTold.{finished_with}
-use Rattle.mu_cluster.proofs.AnyRing.{any_lives}
-use Rattle.mu_cluster.proofs.Committing.{stays_alive}
-use Rattle.mu_cluster.proofs.Unblocking.{unblocked_lives}
-use Rattle.mu_cluster.proofs.Lives.{lives_of}
-use Rattle.mu_cluster.proofs.Outliving.{outlives_of}
+use Rattle.mu_cluster.proofs.AllTold.{finishes_by_then}
+use Rattle.mu_cluster.proofs.Committing.{commits_by_then}
 use Rattle.mu_cluster.proofs.Outrunning.{spends_of}
-use Rattle.mu_cluster.proofs.Pausing.{after_pauses_of}
 use Rattle.mu_cluster.specs.declared.rounds.Seat.{Seat}
 use Rattle.mu_cluster.specs.Rounds.{PlayedBy}
 use Rattle.mu_cluster.proofs.playing.replayed.Goals as goal
@@ -64,12 +59,4 @@ returns-clause-lives g c plain =
     let good = subst (λ (j : Job). IsConfig j.config) (sym c.outcome.ensures.job) c.requires.config in
     let have = subst (λ (j : Job). HaveHeads j.config.width j.commands j.config.rows) (sym c.outcome.ensures.job) c.requires.heads in
     let run = c.outcome.ensures.run in
-    let applies = c.outcome.ensures.applies plain in
-    record { first = lives_of o good have run c.outcome.ensures.none_outrun applies.first; last = outlives_of o good have run c.outcome.ensures.none_outrun applies.last; any = any_lives o good have run c.outcome.ensures.none_outrun applies.any; each = λ unpaused k on time r low there. finished_with o r good have run low (applies.each unpaused k on time r low there); each_after_stops = λ unpaused s k on time r low there. finished_with o r good have run low (applies.each_after_stops unpaused s k on time r low there); each_in_any_ring = λ unpaused unstopped enough r low. finished_with o r good have run low (applies.each_in_any_ring unpaused unstopped enough r low); last_in_any_ring = unblocked_lives o good have run c.outcome.ensures.none_outrun applies.last_in_any_ring; each_after_stops_in_any_ring = λ unpaused s k on time r low there. finished_with o r good have run low (applies.each_after_stops_in_any_ring unpaused s k on time r low there); after_pauses = after_pauses_of o good have run (c.outcome.ensures.after_pauses plain).none_outrun (c.outcome.ensures.after_pauses plain).applies }
-
-pub returns-clause-alive : goal.returns-clause-alive
-returns-clause-alive g c plain =
-    let o = c.outcome.result in
-    let good = subst (λ (j : Job). IsConfig j.config) (sym c.outcome.ensures.job) c.requires.config in
-    let have = subst (λ (j : Job). HaveHeads j.config.width j.commands j.config.rows) (sym c.outcome.ensures.job) c.requires.heads in
-    stays_alive o good have c.outcome.ensures.run (c.outcome.ensures.by_then plain)
+    record { committed = commits_by_then o good have run (c.outcome.ensures.applies plain); finished = finishes_by_then o good have run (c.outcome.ensures.finishes plain) }

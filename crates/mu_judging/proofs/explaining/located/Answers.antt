@@ -1,6 +1,6 @@
 use Rattle.std.proofs.Common.{◌<◌, ◌^◌, ap, arith, length, subst, sym}
 use Rattle.mu_input.proofs.Advancing.{few_lines}
-use Rattle.mu_reasons.specs.Breaks.{Explains}
+use Rattle.mu_outcome.specs.Breaks.{Explains}
 use Rattle.mu_text.specs.Lines.{lines}
 use Rattle.mu_judging.proofs.EventLines.{explained_is}
 use Rattle.mu_judging.proofs.explaining.located.Goals as goal

@@ -1,9 +1,12 @@
-use Rattle.std.proofs.Common.{Ok, arith, subst}
+use Rattle.std.proofs.Common.{Ok, arith, subst, sym}
 use Rattle.std.proofs.lemmas.List.{length_push}
 use Rattle.std.proofs.lemmas.Result.{err_from_is_err_and}
 use Rattle.mu_input.proofs.Taking.{refused_ends}
 use Rattle.mu_input.specs.Traces.{ReadsOn}
 use Rattle.mu_judging.proofs.JudgedEvents.{judges_all, judges_break, judges_more}
+use Rattle.mu_model.specs.Histories.{history}
+use Rattle.mu_outcome.proofs.Faults.{fault_is_wrong}
+use Rattle.mu_outcome.specs.Verdicts.{IsWrong}
 use Rattle.mu_judging.proofs.judging.judged.Goals as goal
 
 pub overflow_sub-index : goal.overflow_sub-index
@@ -25,8 +28,8 @@ returns-in-Some-take-clause-verdict c =
     let held = c.loop-judge.invariant in
     let read = subst (λ found. ReadsOn c.args.bytes.now c.in_ok-job.job held.past (Ok found) c.next.new.self) c.in-Some.is (c.in_ok-event.ensures.reading _ _ _ held.read) in
     let count = read.count in
-    let wrong = (c.in-Some-take.ensures _ held.stands).1 in
-    judges_break c.args.bytes.now c.in_ok-job.job held.past c.in-Some.event _ c.in_ok-count_all.field-0 c.in-Some-take.cause (omega (arith, count, length_push held.past c.in-Some.event, c.count-index.ensures))
+    let wrong = subst (λ w. IsWrong c.in_ok-job.job.config (history held.past) c.in-Some.event w) (sym c.cause-cause.ensures) (fault_is_wrong c.in_ok-job.job.config (history held.past) c.in-Some.event c.in-Some-take.fault (c.in-Some-take.ensures _ held.stands).1) in
+    judges_break c.args.bytes.now c.in_ok-job.job held.past c.in-Some.event _ c.in_ok-count_all.field-0 c.cause-cause.result (omega (arith, count, length_push held.past c.in-Some.event, c.count-index.ensures))
     (c.in_ok-count_all.ensures _ _ _ read) held.stands.legal wrong
 
 pub loop-judge-preserved : goal.loop-judge-preserved

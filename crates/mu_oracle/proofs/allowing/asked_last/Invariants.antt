@@ -1,5 +1,5 @@
 use Rattle.std.proofs.Common.{◌≡◌, take}
-use Rattle.mu_model.specs.Allowed.{last_ask}
+use Rattle.mu_model.specs.Points.{last_ask}
 use Rattle.mu_model.specs.Histories.{history, newest}
 use Rattle.mu_oracle.proofs.allowing.asked_last.Given as goal
 

@@ -18,7 +18,7 @@ apply_log-requires-clause-different c =
 
 pub returns-clause-replay : goal.returns-clause-replay
 returns-clause-replay c =
-    replay_of c.in_ok-outcome.outcome c.in_ok-job.job c.in_ok-outcome.ensures.job c.in_ok-job.ensures.config c.in_ok-job.ensures.heads c.in_ok-outcome.ensures.run c.in_ok-outcome.ensures.diligent c.in_ok-outcome.ensures.names c.in_ok-outcome.ensures.spends c.in_ok-outcome.ensures.lives c.in_ok-outcome.ensures.alive c.in_ok-outcome.ensures.leads c.in_ok-outcome.ensures.agrees c.in_ok-outcome.ensures.gathered
+    replay_of c.in_ok-outcome.outcome c.in_ok-job.job c.in_ok-outcome.ensures.job c.in_ok-job.ensures.config c.in_ok-job.ensures.heads c.in_ok-outcome.ensures.run c.in_ok-outcome.ensures.diligent c.in_ok-outcome.ensures.names c.in_ok-outcome.ensures.spends c.in_ok-outcome.ensures.lives c.in_ok-outcome.ensures.leads c.in_ok-outcome.ensures.agrees c.in_ok-outcome.ensures.gathered
 
 pub returns-clause-book : goal.returns-clause-book
 returns-clause-book c =

@@ -10,7 +10,7 @@ live-requires-clause-few g c κs within =
 
 pub returns-clause-replay : goal.returns-clause-replay
 returns-clause-replay g c =
-    replay_of c.in_ok-outcome.outcome c.in_ok-job.job c.in_ok-outcome.ensures.job c.in_ok-job.ensures.config c.in_ok-job.ensures.heads c.in_ok-outcome.ensures.run c.in_ok-outcome.ensures.diligent c.in_ok-outcome.ensures.names c.in_ok-outcome.ensures.spends c.in_ok-outcome.ensures.lives c.in_ok-outcome.ensures.alive c.in_ok-outcome.ensures.leads c.in_ok-outcome.ensures.agrees c.in_ok-outcome.ensures.gathered
+    replay_of c.in_ok-outcome.outcome c.in_ok-job.job c.in_ok-outcome.ensures.job c.in_ok-job.ensures.config c.in_ok-job.ensures.heads c.in_ok-outcome.ensures.run c.in_ok-outcome.ensures.diligent c.in_ok-outcome.ensures.names c.in_ok-outcome.ensures.spends c.in_ok-outcome.ensures.lives c.in_ok-outcome.ensures.leads c.in_ok-outcome.ensures.agrees c.in_ok-outcome.ensures.gathered
 
 pub returns-clause-few : goal.returns-clause-few
 returns-clause-few g c =

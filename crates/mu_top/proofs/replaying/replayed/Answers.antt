@@ -4,7 +4,7 @@ use Rattle.mu_cluster.proofs.RowsMade.{rows_made}
 
 pub returns-clause-replay : goal.returns-clause-replay
 returns-clause-replay c =
-    replay_of c.in_ok-replay.field-0 c.in_ok-job.job c.in_ok-replay.ensures.job c.in_ok-job.ensures.config c.in_ok-job.ensures.heads c.in_ok-replay.ensures.run c.in_ok-replay.ensures.diligent c.in_ok-replay.ensures.names c.in_ok-replay.ensures.spends c.in_ok-replay.ensures.lives c.in_ok-replay.ensures.alive c.in_ok-replay.ensures.leads c.in_ok-replay.ensures.agrees c.in_ok-replay.ensures.gathered
+    replay_of c.in_ok-replay.field-0 c.in_ok-job.job c.in_ok-replay.ensures.job c.in_ok-job.ensures.config c.in_ok-job.ensures.heads c.in_ok-replay.ensures.run c.in_ok-replay.ensures.diligent c.in_ok-replay.ensures.names c.in_ok-replay.ensures.spends c.in_ok-replay.ensures.lives c.in_ok-replay.ensures.leads c.in_ok-replay.ensures.agrees c.in_ok-replay.ensures.gathered
 
 pub returns-clause-countable : goal.returns-clause-countable
 returns-clause-countable c =

@@ -17,7 +17,7 @@ pub returns-clause-replay : goal.returns-clause-replay
 returns-clause-replay g c =
     replay_of c.in_ok-replay.field-0 c.in_ok-collected.collected c.in_ok-replay.ensures.job c.in_ok-collected.ensures.config
     (heads_collected c.in_ok-given.given c.in_ok-collected.collected c.in_ok-given.ensures.config c.in_ok-given.ensures.desk c.in_ok-given.ensures.heads c.in_ok-given.ensures.rows c.in_ok-collected.ensures.arrival c.in_ok-collected.ensures.same)
-    c.in_ok-replay.ensures.run c.in_ok-replay.ensures.diligent c.in_ok-replay.ensures.names c.in_ok-replay.ensures.spends c.in_ok-replay.ensures.lives c.in_ok-replay.ensures.alive c.in_ok-replay.ensures.leads c.in_ok-replay.ensures.agrees c.in_ok-replay.ensures.gathered
+    c.in_ok-replay.ensures.run c.in_ok-replay.ensures.diligent c.in_ok-replay.ensures.names c.in_ok-replay.ensures.spends c.in_ok-replay.ensures.lives c.in_ok-replay.ensures.leads c.in_ok-replay.ensures.agrees c.in_ok-replay.ensures.gathered
 
 pub returns-clause-job : goal.returns-clause-job
 returns-clause-job g c =

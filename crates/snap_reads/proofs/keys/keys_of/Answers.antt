@@ -1,6 +1,7 @@
 use Rattle.std.proofs.Common.{◌≡◌, ◌∙◌, ◌++◌, ◌∷◌, List, ℕ, ap, drop, filter, not, ◌+◌, sym}
 use Rattle.std.specs.Str.{bytes_eq}
 use Rattle.kv_store.specs.Commands.{Request, key_of}
+use Rattle.kv_store.specs.declared.command.OpParts.{OpParts}
 use Rattle.snap_reads.specs.Keys.{keys_of}
 use Rattle.snap_reads.proofs.Keying.{has, keys_of-drop, known_key, lacking, lacking_none, new_key}
 use Rattle.snap_reads.proofs.keys.keys_of.Goals.{then-not-contains+in_ok-push, else-not-contains}
@@ -14,9 +15,9 @@ loop-command-preserved c =
     let l = c.loop-command in
     let known = l.keys.items in
     let x = c.command-item.result in
-    let key = c.key_of-key.result in
+    let key = c.parts-parts.result.key in
     let rest = keys_of (drop (l.command-index + 1) c.args.commands.now) in
-    let is : key ≡ key_of x.op = c.key_of-key.ensures ∙ ap (λ (command : Request). key_of command.op) c.command.view_is in
+    let is : key ≡ key_of x.op = ap (λ (parts : OpParts). parts.key) c.parts-parts.ensures ∙ ap (λ (command : Request). key_of command.op) c.command.view_is in
     let here : keys_of (drop l.command-index c.args.commands.now) ≡ key ∷ filter (λ other. not (bytes_eq key other)) rest =
     keys_of-drop c.args.commands.now l.command-index x c.loop-command-test.true c.command-item.is ∙ ap (λ k. k ∷ filter (λ other. not (bytes_eq k other)) rest) (sym is) in
     let before : known ++ lacking known (key ∷ filter (λ other. not (bytes_eq key other)) rest) ≡ keys_of c.args.commands.now = sym (ap (λ ks. known ++ lacking known ks) here) ∙ l.invariant in

@@ -25,3 +25,6 @@ invariant_of-self c =
     let next = kept_next fabric.config fabric.kept.events fabric.kept.room c.push.new.self.room fabric.regions c.take.new.self event c.self.invariant may answer
     (λ short near stands. c.take.ensures fabric.config past short near stands) c.push.ensures.room in
     subst (λ (events : List Event). IsListKept fabric.config events c.push.new.self.room c.take.new.self) (sym c.push.ensures.events) next
+
+pub returns-clause-legal : goal.returns-clause-legal
+returns-clause-legal c = (invariant_of-self c).legal

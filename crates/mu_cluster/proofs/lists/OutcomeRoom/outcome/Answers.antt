@@ -7,16 +7,11 @@ use Rattle.mu_cluster.specs.Lists.{HoldsLists}
 use Rattle.mu_cluster.specs.Paces.{AreDiligentBy}
 use Rattle.mu_cluster.specs.Rounds.{PlayedBy}
 use Rattle.mu_cluster.proofs.Filling.{diligent_of, kinds_of, printed_fit, printed_is, run_of}
-use Rattle.mu_cluster.proofs.AnyRing.{any_ring_of}
 use Rattle.mu_cluster.proofs.Committing.{all_by_then}
-use Rattle.mu_cluster.proofs.Finishing.{finishes_after, finishes_in_any_ring, finishes_of}
-use Rattle.mu_cluster.proofs.Unblocking.{applies_in_any_ring, finishes_in_small_rings}
-use Rattle.mu_cluster.proofs.Living.{applies_of}
+use Rattle.mu_cluster.proofs.Finished.{each_by_then}
 use Rattle.mu_cluster.proofs.Naming.{named_of}
 use Rattle.mu_cluster.proofs.Onward.{leads_of}
-use Rattle.mu_cluster.proofs.Outliving.{applies_after}
 use Rattle.mu_cluster.proofs.Outrunning.{none_outrun_of}
-use Rattle.mu_cluster.proofs.Pausing.{applies_after_pauses, none_outrun_in_large}
 use Rattle.mu_cluster.proofs.lists.OutcomeRoom.outcome.Goals as goal
 
 pub printed-printed-requires-clause-room : goal.printed-printed-requires-clause-room
@@ -99,39 +94,23 @@ returns-clause-applies c plain =
     (printed_is (is_eager c.args._kind) job job.script order.events lists c.printed-printed.result c.requires.spelled held c.printed-printed.ensures) in
     let even = subst (λ z. PlayedBy z k job.script order.events c.args.seats.items c.requires.played.0 0) plain played in
     let diligent = subst (λ z. AreDiligentBy (is_eager z) o) plain (diligent_of (is_eager c.args._kind) o order.events lists (order_parts o order refl played.own) held) in
-    record { first = applies_of o order c.args.seats.items c.requires.played.0 c.requires.good run refl even diligent; last = applies_after o order c.args.seats.items c.requires.played.0 c.requires.good run refl even diligent; any = any_ring_of o order c.args.seats.items c.requires.played.0 c.requires.good run refl even diligent; each = finishes_of o order c.args.seats.items c.requires.played.0 c.requires.good run refl even diligent; each_after_stops = finishes_after o order c.args.seats.items c.requires.played.0 c.requires.good run refl even diligent; each_in_any_ring = finishes_in_any_ring o order c.args.seats.items c.requires.played.0 c.requires.good run refl even diligent; last_in_any_ring = applies_in_any_ring o order c.args.seats.items c.requires.played.0 c.requires.good run refl even diligent; each_after_stops_in_any_ring = finishes_in_small_rings o order c.args.seats.items c.requires.played.0 c.requires.good run refl even diligent }
-
-pub returns-clause-after_pauses : goal.returns-clause-after_pauses
-returns-clause-after_pauses c plain =
-    let job = c.args.job in
-    let k = job.config in
-    let order = c.args.order in
-    let lists = c.filled-lists.result in
-    let legal : IsLegal k order.events = c.requires.legal in
-    let held = subst (λ l. HoldsLists (is_eager c.args._kind) k job.script l k.replicas lists) c.as_slice.ensures c.filled-lists.ensures in
-    let played = c.requires.played.1 in
-    let o : Outcome = record { job = job; logs = c.from_vec.result; commits = c.from_vec-2.result; replies = c.printed-printed.result; own_replies = c.from_vec-3.result; ends = c.from_vec-4.result; order = Some order; gathered = None } in
-    let run = run_of (is_eager c.args._kind) o order lists c.args.seats.items c.requires.played.0 refl legal c.from_vec.ensures c.from_vec-2.ensures c.from_vec-3.ensures c.from_vec-4.ensures held played c.requires.ended c.requires.spelled
-    (printed_is (is_eager c.args._kind) job job.script order.events lists c.printed-printed.result c.requires.spelled held c.printed-printed.ensures) in
-    let even = subst (λ z. PlayedBy z k job.script order.events c.args.seats.items c.requires.played.0 0) plain played in
-    let diligent = subst (λ z. AreDiligentBy (is_eager z) o) plain (diligent_of (is_eager c.args._kind) o order.events lists (order_parts o order refl played.own) held) in
-    record { none_outrun = none_outrun_in_large o order c.args.seats.items c.requires.played.0 c.requires.good run refl even; applies = applies_after_pauses o order c.args.seats.items c.requires.played.0 c.requires.good run refl even diligent }
-
-pub returns-clause-by_then : goal.returns-clause-by_then
-returns-clause-by_then c plain =
-    let job = c.args.job in
-    let k = job.config in
-    let order = c.args.order in
-    let lists = c.filled-lists.result in
-    let legal : IsLegal k order.events = c.requires.legal in
-    let held = subst (λ l. HoldsLists (is_eager c.args._kind) k job.script l k.replicas lists) c.as_slice.ensures c.filled-lists.ensures in
-    let played = c.requires.played.1 in
-    let o : Outcome = record { job = job; logs = c.from_vec.result; commits = c.from_vec-2.result; replies = c.printed-printed.result; own_replies = c.from_vec-3.result; ends = c.from_vec-4.result; order = Some order; gathered = None } in
-    let run = run_of (is_eager c.args._kind) o order lists c.args.seats.items c.requires.played.0 refl legal c.from_vec.ensures c.from_vec-2.ensures c.from_vec-3.ensures c.from_vec-4.ensures held played c.requires.ended c.requires.spelled
-    (printed_is (is_eager c.args._kind) job job.script order.events lists c.printed-printed.result c.requires.spelled held c.printed-printed.ensures) in
-    let even = subst (λ z. PlayedBy z k job.script order.events c.args.seats.items c.requires.played.0 0) plain played in
-    let diligent = subst (λ z. AreDiligentBy (is_eager z) o) plain (diligent_of (is_eager c.args._kind) o order.events lists (order_parts o order refl played.own) held) in
     all_by_then o order c.args.seats.items c.requires.played.0 c.requires.good run refl even diligent
+
+pub returns-clause-finishes : goal.returns-clause-finishes
+returns-clause-finishes c plain =
+    let job = c.args.job in
+    let k = job.config in
+    let order = c.args.order in
+    let lists = c.filled-lists.result in
+    let legal : IsLegal k order.events = c.requires.legal in
+    let held = subst (λ l. HoldsLists (is_eager c.args._kind) k job.script l k.replicas lists) c.as_slice.ensures c.filled-lists.ensures in
+    let played = c.requires.played.1 in
+    let o : Outcome = record { job = job; logs = c.from_vec.result; commits = c.from_vec-2.result; replies = c.printed-printed.result; own_replies = c.from_vec-3.result; ends = c.from_vec-4.result; order = Some order; gathered = None } in
+    let run = run_of (is_eager c.args._kind) o order lists c.args.seats.items c.requires.played.0 refl legal c.from_vec.ensures c.from_vec-2.ensures c.from_vec-3.ensures c.from_vec-4.ensures held played c.requires.ended c.requires.spelled
+    (printed_is (is_eager c.args._kind) job job.script order.events lists c.printed-printed.result c.requires.spelled held c.printed-printed.ensures) in
+    let even = subst (λ z. PlayedBy z k job.script order.events c.args.seats.items c.requires.played.0 0) plain played in
+    let diligent = subst (λ z. AreDiligentBy (is_eager z) o) plain (diligent_of (is_eager c.args._kind) o order.events lists (order_parts o order refl played.own) held) in
+    each_by_then o order c.args.seats.items c.requires.played.0 c.requires.good run refl even diligent
 
 pub returns-clause-leads : goal.returns-clause-leads
 returns-clause-leads c plain =

@@ -2,7 +2,7 @@ use Rattle.std.proofs.Common.{◌≡◌, ◌∷◌, ◌+◌, arith, refl, subst,
 use Rattle.mu_check.specs.Judges.{StandsForJudge}
 use Rattle.mu_judging.proofs.TakenEvents.{breaks, few_counted, goes_on, whole_of}
 use Rattle.mu_model.specs.Histories.{history}
-use Rattle.mu_reasons.specs.Breaks.{IsFault}
+use Rattle.mu_outcome.specs.Breaks.{IsFault}
 use Rattle.mu_judging.proofs.line_judge.LineJudge.take_event.Goals as goal
 
 pub returns-in-None-clause-taken : goal.returns-in-None-clause-taken
@@ -22,6 +22,5 @@ returns-in-Some-clause-taken c = λ k start past held.
     let h = history past in
     let whole = whole_of k start past old c.requires.whole held in
     let mine = subst (λ k. StandsForJudge k h old.judge) (sym held.config) whole.stands in
-    let found = c.in-Some.ensures h mine in
-    let wrong = c.fault.ensures h (subst (λ j. StandsForJudge old.config h j) (sym found.0) mine) found.1 in
-    breaks k start past c.args.event.now c.fault.result old _ c.requires.whole refl refl refl refl held (subst (λ k. IsFault k h c.args.event.now c.fault.result) held.config wrong)
+    let fault = c.in-Some.fault in
+    breaks k start past c.args.event.now fault old _ c.requires.whole refl refl refl refl held (subst (λ k. IsFault k h c.args.event.now fault) held.config (c.in-Some.ensures h mine).1)

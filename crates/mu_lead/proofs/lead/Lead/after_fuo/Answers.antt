@@ -8,7 +8,7 @@ use Rattle.std.proofs.Common.{arith}
 use Rattle.mu_lead.proofs.lead.Lead.after_fuo.Goals as goal
 
 pub returns-in-Some : goal.returns-in-Some
-returns-in-Some c = λ mine s same region.
+returns-in-Some c = λ counts mine s same region.
     let l = c.args.self.now in
     let few = s.config.replicas.1 in
     let next = c.saturating_add.ensures in
@@ -17,11 +17,11 @@ returns-in-Some c = λ mine s same region.
     ∙ found_place (λ k. is_member l.id k mine) (c.args.p + 1) c.saturating_add.result l.config.replicas (Some c.in-Some.q) (λ q. Place.ReadFuo q (Some source)) (learn_from l.config l.id mine (tables_of l) source) (omega (arith, next, region, few)) (c.in-Some.ensures l.id mine few s.leading)
 
 pub returns-in-None : goal.returns-in-None
-returns-in-None c = λ mine s same region.
+returns-in-None c = λ counts mine s same region.
     let l = c.args.self.now in
     let few = s.config.replicas.1 in
     let next = c.saturating_add.ensures in
     let source = farther l.up c.args.source c.args.p in
-    c.learn_from.ensures mine s same
+    c.learn_from.ensures counts mine s same
     ∙ ap (learn_from l.config l.id mine (tables_of l)) (c.farther-from.ensures s.tables.ups)
     ∙ found_place (λ k. is_member l.id k mine) (c.args.p + 1) c.saturating_add.result l.config.replicas None (λ q. Place.ReadFuo q (Some source)) (learn_from l.config l.id mine (tables_of l) source) (omega (arith, next, region, few)) (c.in-None.ensures l.id mine few s.leading)

@@ -9,7 +9,7 @@ returns-then-from-known c = λ counts now s told region candidates.
     let from = c.from.ensures in
     let long = ap length told in
     let more = c.if-from-known.true in
-    rw (lt-ltb c.args.position (end_of l.config l.id now) (omega (arith, from, long, more))) (c.bring_up_from.ensures now s told)
+    rw (lt-ltb c.args.position (end_of l.config l.id now) (omega (arith, from, long, more))) (c.bring_up_from.ensures counts now s told)
 
 pub returns-else-from-known : goal.returns-else-from-known
 returns-else-from-known c = λ counts now s told region candidates.

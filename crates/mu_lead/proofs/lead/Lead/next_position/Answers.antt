@@ -12,31 +12,31 @@ use Rattle.mu_lead.proofs.Rests.{knows_is}
 use Rattle.mu_lead.proofs.lead.Lead.next_position.Goals as goal
 
 pub returns-in-Some : goal.returns-in-Some
-returns-in-Some c = λ mine s same.
+returns-in-Some c = λ counts mine s same.
     let l = c.args.self.now in
-    let all = knows_is l.config l.id mine c.args.known.now c.knows_all.result s.config s.possible same c.knows_all.ensures in
+    let all = knows_is l.config l.id mine c.args.known.now c.knows_all.result s.config s.possible same (c.knows_all.ensures c.args.known.now counts) in
     rw (sym all ∙ c.if-knows_all.true) (found_place (λ k. not (is_member l.id k mine)) 0 0 l.config.replicas (Some c.in-Some.q) Place.LateFence Place.Rest refl (c.in-Some.ensures l.id mine s.config.replicas.1 s.leading))
 
 pub returns-in-None : goal.returns-in-None
-returns-in-None c = λ mine s same.
+returns-in-None c = λ counts mine s same.
     let l = c.args.self.now in
-    let all = knows_is l.config l.id mine c.args.known.now c.knows_all.result s.config s.possible same c.knows_all.ensures in
+    let all = knows_is l.config l.id mine c.args.known.now c.knows_all.result s.config s.possible same (c.knows_all.ensures c.args.known.now counts) in
     rw (sym all ∙ c.if-knows_all.true) (found_place (λ k. not (is_member l.id k mine)) 0 0 l.config.replicas None Place.LateFence Place.Rest refl (c.in-None.ensures l.id mine s.config.replicas.1 s.leading))
 
 pub returns-then-known-count_of_places : goal.returns-then-known-count_of_places
-returns-then-known-count_of_places c = λ mine s same.
+returns-then-known-count_of_places c = λ counts mine s same.
     let l = c.args.self.now in
-    let all = knows_is l.config l.id mine c.args.known.now c.knows_all.result s.config s.possible same c.knows_all.ensures in
+    let all = knows_is l.config l.id mine c.args.known.now c.knows_all.result s.config s.possible same (c.knows_all.ensures c.args.known.now counts) in
     let rows = s.config.few in
     let places = c.count_of_places.ensures (omega (arith, rows)) in
     let low = c.if-known-count_of_places.true in
     let long = ap length same in
-    rw (sym all ∙ c.if-knows_all.false, lt-ltb (end_of l.config l.id mine) (row_count l.config + reserve l.config) (omega (arith, low, places, long))) (c.heads_from.ensures mine s same)
+    rw (sym all ∙ c.if-knows_all.false, lt-ltb (end_of l.config l.id mine) (row_count l.config + reserve l.config) (omega (arith, low, places, long))) (c.heads_from.ensures counts mine s same)
 
 pub returns-else-known-count_of_places : goal.returns-else-known-count_of_places
-returns-else-known-count_of_places c = λ mine s same.
+returns-else-known-count_of_places c = λ counts mine s same.
     let l = c.args.self.now in
-    let all = knows_is l.config l.id mine c.args.known.now c.knows_all.result s.config s.possible same c.knows_all.ensures in
+    let all = knows_is l.config l.id mine c.args.known.now c.knows_all.result s.config s.possible same (c.knows_all.ensures c.args.known.now counts) in
     let rows = s.config.few in
     let places = c.count_of_places.ensures (omega (arith, rows)) in
     let high = c.if-known-count_of_places.false in

@@ -15,6 +15,7 @@ use Rattle.mu_lead.specs.Evidence.{ExplainsAt}
 use Rattle.mu_lead.specs.Going.{begins_at}
 use Rattle.mu_lead.specs.Raising.{RaisesAt}
 use Rattle.mu_lead.specs.Welcomes.{JoinsAt}
+use Rattle.mu_knowledge.specs.KnownLog.{HoldsValues}
 use Rattle.mu_model.specs.Contents.{IsConfig}
 use Rattle.mu_model.specs.Knowledge.{grown}
 use Rattle.std.proofs.Common.{ap, subst, sym, ◌||◌, ◌∙◌}
@@ -39,20 +40,20 @@ returns-clause-stands g c = λ counts.
     stands_next g.mine l took.new.self c.args.known.now c.args.log.now c.args.answer took.result c.requires.0 took.ensures.config took.ensures.id (steps_next g.mine l took.new.self c.args.known.now c.args.log.now c.args.verb c.args.answer took.result c.requires.0 c.requires.1.0 c.requires.1.1 took.ensures.steps) counts
 
 pub returns-clause-says : goal.returns-clause-says
-returns-clause-says g c =
+returns-clause-says g c = λ counts.
     let l = c.args.self.now in
     let took = c.step-note in
     let notes = notes_next g.mine l took.new.self c.args.known.now c.args.log.now c.args.answer took.result (steps_next g.mine l took.new.self c.args.known.now c.args.log.now c.args.verb c.args.answer took.result c.requires.0 c.requires.1.0 c.requires.1.1 took.ensures.steps) in
     says_told g.mine l c.args.known.now c.args.answer took.result c.with_idle.result c.requires.0 notes c.with_idle.ensures.kind
-    (subst (λ k. TellsAll k c.args.known.now took.result c.with_idle.result) took.ensures.config (λ few session. c.with_idle.ensures.all few (subst IsConfig (sym took.ensures.config) c.requires.0.config) session))
+    (subst (λ k. TellsAll k c.args.known.now took.result c.with_idle.result) took.ensures.config (λ few session. c.with_idle.ensures.all c.args.known.now (subst (λ k. HoldsValues k c.args.known.now c.args.log.now) (sym took.ensures.config) counts) (subst IsConfig (sym took.ensures.config) c.requires.0.config) session))
 
 pub returns-clause-noted : goal.returns-clause-noted
-returns-clause-noted g c =
+returns-clause-noted g c = λ counts.
     let l = c.args.self.now in
     let took = c.step-note in
     let notes = notes_next g.mine l took.new.self c.args.known.now c.args.log.now c.args.answer took.result (steps_next g.mine l took.new.self c.args.known.now c.args.log.now c.args.verb c.args.answer took.result c.requires.0 c.requires.1.0 c.requires.1.1 took.ensures.steps) in
     noted_told g.mine l c.args.known.now c.args.answer took.result c.with_idle.result c.requires.0 notes c.with_idle.ensures.kind
-    (subst (λ k. TellsAll k c.args.known.now took.result c.with_idle.result) took.ensures.config (λ few session. c.with_idle.ensures.all few (subst IsConfig (sym took.ensures.config) c.requires.0.config) session))
+    (subst (λ k. TellsAll k c.args.known.now took.result c.with_idle.result) took.ensures.config (λ few session. c.with_idle.ensures.all c.args.known.now (subst (λ k. HoldsValues k c.args.known.now c.args.log.now) (sym took.ensures.config) counts) (subst IsConfig (sym took.ensures.config) c.requires.0.config) session))
 
 pub returns-clause-tells : goal.returns-clause-tells
 returns-clause-tells g c = λ verb due possible told.

@@ -59,7 +59,7 @@ pub step-answer-requires : goal.step-answer-requires
 step-answer-requires g c =
     let held = c.requires.1.1.1.1.1.1.0 in
     let inside = held.beside.follow.inside in
-    record { budget = c.requires.1.1.1.1.1.0; replica = inside; may = (omega (arith, inside), inl refl) }
+    record { budget = c.requires.1.1.1.1.1.0; replica = inside; may = (omega (arith, inside), (inl refl, tt)) }
 
 pub took_again-requires : goal.took_again-requires
 took_again-requires g c =

@@ -76,7 +76,9 @@ returns-clause-going g c possible =
     let gone : HasGone k r mine old = subst (λ l. HasGone k r mine l) (sym c.note.ensures.lead) held.paces in
     let due = asked_due k r mine old (subst (λ i. is_named k i mine ≡ true) (sym c.requires.0) c.requires.1.1.1.1.1.0) gone.left.place in
     let told = led_told k r mine (Verb.Ask 0) c.args.answer c.note.new.self values (λ none. c.note.ensures.stands mine possible held.beside none) (λ entry some. c.note.ensures.awaits mine entry possible held.beside some) (λ l n h. c.known-known.ensures k r l n h) in
-    let noted : c.take.result ≡ note_at k r mine (tables_of old) (Place.Ask 0) (Verb.Ask 0) c.args.answer = lead_noted k r mine old (Verb.Ask 0) c.args.answer values c.take.result stands c.take.ensures.noted due possible told
+    let of_config = led_log k r mine (Verb.Ask 0) c.args.answer c.note.new.self values c.log.result.now (λ none. c.note.ensures.stands mine possible held.beside none) (λ entry some. c.note.ensures.awaits mine entry possible held.beside some) (λ l n h. c.known-known.ensures k r l n h) (λ l n h. c.log.ensures k r l n h) in
+    let log = subst (λ x. HoldsValues x values c.log.result.now) (sym stands.config) of_config in
+    let noted : c.take.result ≡ note_at k r mine (tables_of old) (Place.Ask 0) (Verb.Ask 0) c.args.answer = lead_noted k r mine old (Verb.Ask 0) c.args.answer values c.take.result stands (c.take.ensures.noted log) due possible told
     ∙ ap (λ p. note_at k r mine (tables_of old) p (Verb.Ask 0) c.args.answer) gone.left.place in
     c.take.ensures.going
     ∙ (ap (λ (l : Lead). going_after (begins_at l.place || l.under_way) c.take.result) c.note.ensures.lead

@@ -5,7 +5,7 @@ use Rattle.mu_placing.proofs.heads.Heads.take.Goals as goal
 pub returns : goal.returns
 returns c k mine held = record {
   scores = c.note.ensures k.replicas c.args.r mine held.scores;
-  peers = c.take_at_peers.ensures k mine held.scores held.peers;
+  peers = c.take_heads.ensures k mine held.scores held.peers;
 }
 
 pub returns-then-not-tells_of_peers : goal.returns-then-not-tells_of_peers

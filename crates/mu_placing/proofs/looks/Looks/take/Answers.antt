@@ -20,13 +20,13 @@ returns c k r mine config possible leading held =
     let ring : 0 < k.ring = let low = config.ring.0 in omega (arith, low) in
     let joining = c.joins-joining.ensures k mine config.replicas.1 can leads in
     let firsts = take_at c.note_first.new.firsts (drop (length c.note_first.new.firsts) c.args.self.now.firsts.items) c.args.self.now.firsts.len (c.note_first.auto.firsts ∙ c.deref_mut.ensures.len) in
-    let regions = take_at c.take_at_each.new.regions (drop (length c.take_at_each.new.regions) c.args.self.now.regions.items) c.args.self.now.regions.len (c.take_at_each.auto.regions ∙ c.deref_mut-2.ensures.len) in
+    let regions = take_at c.take_at_regions.new.regions (drop (length c.take_at_regions.new.regions) c.args.self.now.regions.items) c.args.self.now.regions.len (c.take_at_regions.auto.regions ∙ c.deref_mut-2.ensures.len) in
     let same_firsts = c.deref_mut.ensures.value in
     let same_regions = c.deref_mut-2.ensures.value in
     let firsts_before : HoldsFirsts c.args.self.now.replica mine c.deref_mut.result.now = subst (λ (xs : List First). HoldsFirsts c.args.self.now.replica mine xs) (sym same_firsts) own.firsts in
     let firsts_after : HoldsFirsts r (c.args.event.now ∷ mine) c.note_first.new.firsts = subst (λ q. HoldsFirsts q (c.args.event.now ∷ mine) c.note_first.new.firsts) here (c.note_first.ensures mine at own.begun_at firsts_before) in
     let regions_before : HoldsEachRegion k c.args.self.now.replica mine c.deref_mut-2.result.now = subst (λ (xs : List RegionLooks). HoldsEachRegion k c.args.self.now.replica mine xs) (sym same_regions) own.regions in
-    let regions_after : HoldsEachRegion k r (c.args.event.now ∷ mine) c.take_at_each.new.regions = subst (λ q. HoldsEachRegion k q (c.args.event.now ∷ mine) c.take_at_each.new.regions) here (c.take_at_each.ensures k mine ring at regions_before) in
+    let regions_after : HoldsEachRegion k r (c.args.event.now ∷ mine) c.take_at_regions.new.regions = subst (λ q. HoldsEachRegion k q (c.args.event.now ∷ mine) c.take_at_regions.new.regions) here (c.take_at_regions.ensures k mine ring at regions_before) in
     record {
       replica = here;
       time = omega (arith, c.saturating_add-self.ensures, at, short);
@@ -35,7 +35,7 @@ returns c k r mine config possible leading held =
       own_reach = subst (λ q. HoldsOwnReach q (c.args.event.now ∷ mine) c.own_reach_after-self.result) here (c.own_reach_after-self.ensures mine own.own_reach);
       positions = ap length firsts ∙ (c.note_first.auto.firsts ∙ (ap length same_firsts ∙ held.positions));
       firsts = subst (λ (xs : List First). HoldsFirsts r (c.args.event.now ∷ mine) xs) (sym firsts) firsts_after;
-      seven = ap length regions ∙ (c.take_at_each.auto.regions ∙ (ap length same_regions ∙ held.seven));
+      seven = ap length regions ∙ (c.take_at_regions.auto.regions ∙ (ap length same_regions ∙ held.seven));
       regions = subst (λ (xs : List RegionLooks). HoldsEachRegion k r (c.args.event.now ∷ mine) xs) (sym regions) regions_after;
     }
 

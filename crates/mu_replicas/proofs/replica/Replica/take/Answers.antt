@@ -22,7 +22,7 @@ returns c mine possible held =
       replica = held.replica;
       steps = let s = held.steps in let more = c.steps_after-self.ensures (omega arith) in omega arith;
       leadership = leadership;
-      grants = c.note.ensures k.replicas r mine (λ drains. (subst (λ v. Needs k r mine v) drains (parts_shorten_law k r mine e possible).allowed.may).1) held.grants;
+      grants = c.note.ensures k.replicas r mine (λ drains. (subst (λ v. Needs k r mine v) drains (parts_shorten_law k r mine e possible).allowed.may).1.0) held.grants;
       heads = c.take-3.ensures k mine held.heads;
       known_log = known_log;
       held_rows = c.take-6.ensures mine c.requires.config possible now held.held_rows;

@@ -2,10 +2,11 @@ use Rattle.std.proofs.Common.{true, [], ◌++◌, ◌∷◌, ◌≡◌, ℕ, Lis
 use Rattle.std.proofs.lemmas.List.{append-nil}
 use Rattle.mu_model.specs.Placing.{is_caught_up_at}
 use Rattle.std.proofs.lemmas.Bool.{cases_lt}
-use Rattle.mu_reasons.specs.declared.reason.Reason.{Reason}
-use Rattle.mu_reasons.specs.Reasons.{Finds, each_below}
-use Rattle.mu_reasons.proofs.Lists.{met_each, met_rest}
-use Rattle.mu_replicas.proofs.Points.{one_more}
+use Rattle.mu_model.specs.declared.reason.Reason.{Reason}
+use Rattle.mu_model.specs.Points.{each_below}
+use Rattle.mu_model.specs.Reasons.{Finds}
+use Rattle.mu_model.proofs.AllMet.{each_met, met_each, met_rest}
+use Rattle.mu_replicas.proofs.Points.{more_met, one_more}
 use Rattle.mu_replicas.proofs.replica.Replica.why_behind.Goals as goal
 
 pub loop-j-init : goal.loop-j-init
@@ -31,3 +32,12 @@ returns c r mine reasons possible held start =
     let of_each : ℕ → List Reason = λ j. Reason.Behind c.args.p j ∷ [] in
     let all : c.loop-j.j ≡ c.args.i = omega (arith, c.loop-j-test.false, c.loop-j.auto.j-end) in
     subst (λ n. Finds k r mine (reasons ++ each_below n of_each) c.loop-j.found.reason) all (c.loop-j.invariant r mine reasons possible held start)
+
+pub returns-then-all : goal.returns-then-all
+returns-then-all c r mine reasons possible held start =
+    let k = c.args.config.now in
+    let p = c.args.p in
+    let i = c.args.i in
+    let of_each : ℕ → List Reason = λ j. Reason.Behind p j ∷ [] in
+    let caught = (c.is_caught_up_below-all.ensures k r mine c.requires possible held.filled_logs).0 c.if-all.true in
+    more_met k r mine reasons (each_below i of_each) _ (each_met k r mine i of_each (λ j low. (caught j low, tt))) start

@@ -1,8 +1,9 @@
 use Rattle.std.proofs.Common.{[], ◌++◌, ◌∷◌, ℕ, List}
 use Rattle.mu_model.specs.declared.event.Event.{Event}
 use Rattle.mu_model.specs.Parts.{IsPossible}
-use Rattle.mu_reasons.specs.declared.reason.Reason.{Reason}
-use Rattle.mu_reasons.specs.Reasons.{Finds, each_below}
+use Rattle.mu_model.specs.declared.reason.Reason.{Reason}
+use Rattle.mu_model.specs.Points.{each_below}
+use Rattle.mu_model.specs.Reasons.{Finds}
 use Rattle.mu_replicas.specs.Stands.{StandsForReplica}
 use Rattle.mu_replicas.proofs.replica.Replica.why_behind.Given as goal
 

@@ -3,8 +3,9 @@ use Rattle.std.proofs.Common.{[], ◌%◌, ◌+◌, ◌++◌, ◌≡◌, ◌∙�
 use Rattle.std.specs.Prelude.{if◌then◌else◌}
 use Rattle.mu_model.specs.Contents.{rest_of}
 use Rattle.mu_knowledge.proofs.Fetched.{batch_there}
-use Rattle.mu_reasons.specs.declared.reason.Reason.{Reason}
-use Rattle.mu_reasons.specs.Reasons.{Finds, each_below, row_there}
+use Rattle.mu_model.specs.declared.reason.Reason.{Reason}
+use Rattle.mu_model.specs.Points.{each_below, row_there}
+use Rattle.mu_model.specs.Reasons.{Finds}
 use Rattle.mu_replicas.proofs.Points.{no_more, one_more}
 use Rattle.mu_replicas.proofs.replica.Replica.why_entry_not_there.Goals as goal
 

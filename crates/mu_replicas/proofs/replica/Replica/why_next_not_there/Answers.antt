@@ -1,5 +1,6 @@
 use Rattle.std.proofs.Common.{◌++◌, sym, ◌∙◌, subst}
-use Rattle.mu_reasons.specs.Reasons.{Finds, entry_there}
+use Rattle.mu_model.specs.Points.{entry_there}
+use Rattle.mu_model.specs.Reasons.{Finds}
 use Rattle.mu_replicas.proofs.Points.{no_more}
 use Rattle.mu_replicas.proofs.replica.Replica.why_next_not_there.Goals as goal
 

@@ -1,7 +1,7 @@
 use Rattle.std.proofs.Common.{[], ◌++◌, ◌∷◌}
-use Rattle.mu_reasons.specs.declared.reason.Reason.{Reason}
-use Rattle.mu_reasons.specs.Reasons.{bounds}
-use Rattle.mu_replicas.proofs.Points.{denies, iff_both}
+use Rattle.mu_model.specs.declared.reason.Reason.{Reason}
+use Rattle.mu_model.specs.Points.{bounds}
+use Rattle.mu_replicas.proofs.Points.{denies}
 use Rattle.mu_replicas.proofs.replica.Replica.why_no_close.Goals as goal
 
 pub returns : goal.returns
@@ -9,4 +9,4 @@ returns c r mine held start =
     let k = c.args.config.now in
     let few = c.requires.replicas.1 in
     let one = c.needs.ensures k r mine (bounds r mine) start (λ m. denies _ _ (c.is_closing.ensures k.replicas r mine held.grants)) in
-    c.needs-2.ensures k r mine ((bounds r mine) ++ Reason.Closing ∷ []) one (λ m. iff_both _ _ _ (c.may_close.ensures k r mine held.grants) m.1.1.0)
+    c.needs-2.ensures k r mine ((bounds r mine) ++ Reason.Closing ∷ []) one (λ m. c.is_awaited.ensures k r mine held.grants)

@@ -1,7 +1,7 @@
 use Rattle.std.proofs.lemmas.Bool.{false≢true}
 use Rattle.std.proofs.Common.{[], ◌++◌, ◌∷◌}
-use Rattle.mu_reasons.specs.declared.reason.Reason.{Reason}
-use Rattle.mu_reasons.specs.Reasons.{bounds}
+use Rattle.mu_model.specs.declared.reason.Reason.{Reason}
+use Rattle.mu_model.specs.Points.{bounds}
 use Rattle.mu_replicas.proofs.Points.{less}
 use Rattle.mu_replicas.proofs.replica.Replica.why_no_enter.Goals as goal
 

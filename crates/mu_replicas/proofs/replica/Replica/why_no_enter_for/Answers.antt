@@ -1,6 +1,7 @@
 use Rattle.std.proofs.Common.{sym, subst}
 use Rattle.mu_model.specs.declared.event.Verb.{Verb}
-use Rattle.mu_reasons.specs.Reasons.{Finds, points}
+use Rattle.mu_model.specs.Points.{points}
+use Rattle.mu_model.specs.Reasons.{Finds}
 use Rattle.mu_replicas.proofs.replica.Replica.why_no_enter_for.Goals as goal
 
 pub returns-in-None : goal.returns-in-None

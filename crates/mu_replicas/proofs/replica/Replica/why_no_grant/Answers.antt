@@ -1,6 +1,6 @@
 use Rattle.std.proofs.Common.{[], ◌++◌, ◌∷◌, sym}
-use Rattle.mu_reasons.specs.declared.reason.Reason.{Reason}
-use Rattle.mu_reasons.specs.Reasons.{bounds}
+use Rattle.mu_model.specs.declared.reason.Reason.{Reason}
+use Rattle.mu_model.specs.Points.{bounds}
 use Rattle.mu_replicas.proofs.Points.{less, tells, waiting_is}
 use Rattle.mu_replicas.proofs.replica.Replica.why_no_grant.Goals as goal
 
@@ -13,4 +13,4 @@ returns c r mine held start =
     let two = c.needs-2.ensures k r mine ((bounds r mine) ++ Reason.NoRegion c.args.w ∷ []) one (λ m. tells _ _ (c.is_closing.ensures k.replicas r mine held.grants)) in
     let three = c.needs-3.ensures k r mine (((bounds r mine) ++ Reason.NoRegion c.args.w ∷ []) ++ Reason.NotClosing ∷ []) two (λ m. c.is_drained.ensures k r mine held) in
     rw (sym (waiting_is k.replicas r mine _ (λ w is. c.first_waiting-least.ensures.found k.replicas r w mine held.grants is) (c.first_waiting-least.ensures.nobody k.replicas r mine held.grants)))
-    (c.needs-4.ensures k r mine ((((bounds r mine) ++ Reason.NoRegion c.args.w ∷ []) ++ Reason.NotClosing ∷ []) ++ Reason.NotDrained ∷ []) three (λ m. (λ t. (may.0 t).3, λ h. may.1 (m.1.1.0, m.1.1.1.0, m.1.1.1.1.0, h))))
+    (c.needs-4.ensures k r mine ((((bounds r mine) ++ Reason.NoRegion c.args.w ∷ []) ++ Reason.NotClosing ∷ []) ++ Reason.NotDrained ∷ []) three (λ m. (λ t. (may.0 t).1.1.1.0, λ h. may.1 (m.1.1.0, (m.1.1.1.0, (m.1.1.1.1.0, (h, tt)))))))

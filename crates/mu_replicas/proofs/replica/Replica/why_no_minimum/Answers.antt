@@ -1,7 +1,7 @@
 use Rattle.std.proofs.Common.{[], ◌++◌, ◌∷◌, ◌∙◌, ap}
 use Rattle.std.specs.Prelude.{is_some}
-use Rattle.mu_reasons.specs.declared.reason.Reason.{Reason}
-use Rattle.mu_reasons.specs.Reasons.{bounds}
+use Rattle.mu_model.specs.declared.reason.Reason.{Reason}
+use Rattle.mu_model.specs.Points.{bounds}
 use Rattle.mu_replicas.proofs.Points.{denies, less, low, tells}
 use Rattle.mu_replicas.proofs.replica.Replica.why_no_minimum.Goals as goal
 

@@ -1,11 +1,12 @@
 use Rattle.std.specs.Prelude.{◌&&◌, if◌then◌else◌, nat_lt}
-use Rattle.mu_reasons.specs.Reasons.{batch_points, batch_written, later_points, Finds}
+use Rattle.mu_model.specs.Points.{batch_points, batch_written, later_points}
+use Rattle.mu_model.specs.Reasons.{Finds}
 use Rattle.std.proofs.Common.{[], ◌++◌, ◌∷◌, ◌+◌, ◌≡◌, ◌/◌, ◌%◌, List, refl, sym, ◌∙◌, ap, subst}
 use Rattle.std.proofs.lemmas.Bool.{and_parts, false≢true, ltb-true}
 use Rattle.mu_model.specs.Contents.{begins_batch, client_of, command_count, number_of, row_count}
 use Rattle.mu_model.specs.Knowledge.{known}
-use Rattle.mu_reasons.specs.declared.reason.Reason.{Reason}
-use Rattle.mu_reasons.proofs.Lists.{met_rest}
+use Rattle.mu_model.specs.declared.reason.Reason.{Reason}
+use Rattle.mu_model.proofs.AllMet.{met_rest}
 use Rattle.mu_replicas.proofs.Points.{apart, equal_as, no_more, stops, tells}
 use Rattle.mu_replicas.proofs.replica.Replica.why_no_offer.Goals as goal
 

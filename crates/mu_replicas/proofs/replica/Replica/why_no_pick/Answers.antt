@@ -1,5 +1,6 @@
 use Rattle.std.proofs.Common.{◌++◌, sym, ◌∙◌, subst}
-use Rattle.mu_reasons.specs.Reasons.{Finds, picks}
+use Rattle.mu_model.specs.Points.{picks}
+use Rattle.mu_model.specs.Reasons.{Finds}
 use Rattle.mu_replicas.proofs.Points.{equal}
 use Rattle.mu_replicas.proofs.replica.Replica.why_no_pick.Goals as goal
 

@@ -1,7 +1,8 @@
 use Rattle.std.proofs.Common.{[], ◌++◌, ◌∷◌, ℕ, List, sym, ◌∙◌, subst}
 use Rattle.mu_model.specs.Picks.{highest_accepted}
-use Rattle.mu_reasons.specs.declared.reason.Reason.{Reason}
-use Rattle.mu_reasons.specs.Reasons.{Finds, each_below, picks, proposals}
+use Rattle.mu_model.specs.declared.reason.Reason.{Reason}
+use Rattle.mu_model.specs.Points.{each_below, picks, proposals}
+use Rattle.mu_model.specs.Reasons.{Finds}
 use Rattle.mu_replicas.proofs.Points.{apart, denies, equal}
 use Rattle.mu_replicas.proofs.replica.Replica.why_no_proposal.Goals as goal
 

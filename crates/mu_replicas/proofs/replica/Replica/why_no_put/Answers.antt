@@ -1,7 +1,8 @@
 use Rattle.std.proofs.Common.{[], ◌++◌, ◌∷◌, ℕ, List, subst, sym, ◌∙◌}
 use Rattle.std.proofs.lemmas.Bool.{false≢true}
-use Rattle.mu_reasons.specs.declared.reason.Reason.{Reason}
-use Rattle.mu_reasons.specs.Reasons.{Finds, bounds, each_below, last_position, values, puts}
+use Rattle.mu_model.specs.declared.reason.Reason.{Reason}
+use Rattle.mu_model.specs.Points.{bounds, each_below, last_position, values, puts}
+use Rattle.mu_model.specs.Reasons.{Finds}
 use Rattle.mu_replicas.proofs.Points.{apart, less, stops}
 use Rattle.mu_replicas.proofs.replica.Replica.why_no_put.Goals as goal
 

@@ -4,8 +4,8 @@ use Rattle.mu_model.specs.Leaderships.{leadership, number_put, proposal_number}
 use Rattle.std.proofs.Common.{inl, inr, arith, [], ◌++◌, ◌∷◌, ap, refl, sym, ◌∙◌}
 use Rattle.std.proofs.lemmas.Bool.{cases_lt}
 use Rattle.std.specs.Prelude.{max}
-use Rattle.mu_reasons.specs.declared.reason.Reason.{Reason}
-use Rattle.mu_reasons.specs.Reasons.{bounds, greatest_used, right_number}
+use Rattle.mu_model.specs.declared.reason.Reason.{Reason}
+use Rattle.mu_model.specs.Points.{bounds, greatest_used, right_number}
 use Rattle.mu_replicas.proofs.Points.{at_most_as, denies, less, low, elsewhere, number_told}
 use Rattle.mu_replicas.proofs.replica.Replica.why_no_put_minimum.Goals as goal
 

@@ -2,8 +2,9 @@ use Rattle.std.proofs.Common.{[], ◌++◌, ◌∷◌, ℕ, List, length}
 use Rattle.mu_model.specs.declared.event.Event.{Event}
 use Rattle.mu_model.specs.Knowledge.{known}
 use Rattle.mu_model.specs.Parts.{IsPossible}
-use Rattle.mu_reasons.specs.declared.reason.Reason.{Reason}
-use Rattle.mu_reasons.specs.Reasons.{Finds, bounds, each_below}
+use Rattle.mu_model.specs.declared.reason.Reason.{Reason}
+use Rattle.mu_model.specs.Points.{bounds, each_below}
+use Rattle.mu_model.specs.Reasons.{Finds}
 use Rattle.mu_replicas.specs.Stands.{StandsForReplica}
 use Rattle.mu_replicas.proofs.replica.Replica.why_no_raise_fuo.Given as goal
 

@@ -1,7 +1,7 @@
 use Rattle.std.proofs.Common.{[], ◌++◌, ◌∷◌, length}
 use Rattle.mu_model.specs.Knowledge.{applied}
-use Rattle.mu_reasons.specs.declared.reason.Reason.{Reason}
-use Rattle.mu_reasons.specs.Reasons.{applied_to, bounds}
+use Rattle.mu_model.specs.declared.reason.Reason.{Reason}
+use Rattle.mu_model.specs.Points.{applied_to, bounds}
 use Rattle.mu_replicas.proofs.Points.{apart, tells}
 use Rattle.mu_replicas.proofs.replica.Replica.why_no_raise_head.Goals as goal
 

@@ -1,7 +1,7 @@
 use Rattle.std.specs.Prelude.{◌%◌}
 use Rattle.std.proofs.Common.{[], ◌++◌, ◌∷◌}
-use Rattle.mu_reasons.specs.declared.reason.Reason.{Reason}
-use Rattle.mu_reasons.specs.Reasons.{bounds}
+use Rattle.mu_model.specs.declared.reason.Reason.{Reason}
+use Rattle.mu_model.specs.Points.{bounds}
 use Rattle.mu_replicas.proofs.Points.{less, less_as}
 use Rattle.mu_replicas.proofs.replica.Replica.why_no_read_row.Goals as goal
 

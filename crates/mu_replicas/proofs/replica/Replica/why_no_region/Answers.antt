@@ -1,4 +1,4 @@
-use Rattle.mu_reasons.specs.Reasons.{bounds}
+use Rattle.mu_model.specs.Points.{bounds}
 use Rattle.mu_replicas.proofs.Points.{less}
 use Rattle.mu_replicas.proofs.replica.Replica.why_no_region.Goals as goal
 

@@ -1,7 +1,8 @@
 use Rattle.std.proofs.Common.{[], ◌++◌, sym, ◌∙◌, subst}
 use Rattle.std.specs.Prelude.{if◌then◌else◌}
 use Rattle.mu_model.specs.Room.{reserve}
-use Rattle.mu_reasons.specs.Reasons.{Finds, rooms}
+use Rattle.mu_model.specs.Points.{rooms}
+use Rattle.mu_model.specs.Reasons.{Finds}
 use Rattle.mu_replicas.proofs.Points.{no_more}
 use Rattle.mu_replicas.proofs.replica.Replica.why_no_reserve.Goals as goal
 

@@ -4,8 +4,9 @@ use Rattle.mu_model.specs.Contents.{marked}
 use Rattle.mu_model.specs.Knowledge.{known}
 use Rattle.mu_model.specs.Room.{last_head}
 use Rattle.std.proofs.Common.{[], ◌++◌, ◌∷◌, ◌+◌, ◌≡◌, ℕ, List, sym, ◌∙◌, ap, subst, arith}
-use Rattle.mu_reasons.specs.declared.reason.Reason.{Reason}
-use Rattle.mu_reasons.specs.Reasons.{Finds, each_below}
+use Rattle.mu_model.specs.declared.reason.Reason.{Reason}
+use Rattle.mu_model.specs.Points.{each_below}
+use Rattle.mu_model.specs.Reasons.{Finds}
 use Rattle.mu_replicas.proofs.Points.{one_more, tells}
 use Rattle.mu_replicas.proofs.replica.Replica.why_no_room.Goals as goal
 

@@ -1,6 +1,7 @@
 use Rattle.std.proofs.Common.{[], ◌++◌, sym, ◌∙◌, subst}
 use Rattle.std.specs.Prelude.{if◌then◌else◌}
-use Rattle.mu_reasons.specs.Reasons.{Finds, new_values}
+use Rattle.mu_model.specs.Points.{new_values}
+use Rattle.mu_model.specs.Reasons.{Finds}
 use Rattle.mu_replicas.proofs.Points.{no_more}
 use Rattle.mu_replicas.proofs.replica.Replica.why_no_value.Goals as goal
 

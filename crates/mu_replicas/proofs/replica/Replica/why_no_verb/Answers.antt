@@ -1,5 +1,6 @@
 use Rattle.std.proofs.Common.{sym, subst}
-use Rattle.mu_reasons.specs.Reasons.{Finds, points}
+use Rattle.mu_model.specs.Points.{points}
+use Rattle.mu_model.specs.Reasons.{Finds}
 use Rattle.mu_replicas.proofs.replica.Replica.why_no_verb.Goals as goal
 
 pub returns-in-Ask : goal.returns-in-Ask

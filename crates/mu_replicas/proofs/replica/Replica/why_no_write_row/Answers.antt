@@ -1,6 +1,6 @@
 use Rattle.std.proofs.Common.{arith, [], ◌++◌, ◌∷◌, sym}
-use Rattle.mu_reasons.specs.declared.reason.Reason.{Reason}
-use Rattle.mu_reasons.specs.Reasons.{bounds, spelled_word}
+use Rattle.mu_model.specs.declared.reason.Reason.{Reason}
+use Rattle.mu_model.specs.Points.{bounds, spelled_word}
 use Rattle.mu_replicas.proofs.Points.{denies, equal, less, stops}
 use Rattle.mu_replicas.proofs.replica.Replica.why_no_write_row.Goals as goal
 

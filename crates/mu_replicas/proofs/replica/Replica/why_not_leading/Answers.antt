@@ -1,7 +1,7 @@
 use Rattle.std.proofs.Common.{[], ◌++◌, ◌∷◌, ◌%◌, refl, sym, ◌∙◌, arith, inl, inr}
 use Rattle.std.proofs.lemmas.Bool.{cases_lt}
-use Rattle.mu_reasons.specs.declared.reason.Reason.{Reason}
-use Rattle.mu_reasons.specs.Reasons.{bounds, last_position, puts}
+use Rattle.mu_model.specs.declared.reason.Reason.{Reason}
+use Rattle.mu_model.specs.Points.{bounds, last_position, puts}
 use Rattle.mu_replicas.proofs.Points.{denies, elsewhere, low, tells}
 use Rattle.mu_replicas.proofs.replica.Replica.why_not_leading.Goals as goal
 

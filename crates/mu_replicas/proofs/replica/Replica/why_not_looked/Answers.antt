@@ -1,7 +1,8 @@
 use Rattle.std.proofs.lemmas.List.{append-nil}
 use Rattle.std.proofs.Common.{[], ◌++◌, ◌∷◌, ◌≡◌, ℕ, List, sym, subst, arith}
-use Rattle.mu_reasons.specs.declared.reason.Reason.{Reason}
-use Rattle.mu_reasons.specs.Reasons.{Finds, each_below}
+use Rattle.mu_model.specs.declared.reason.Reason.{Reason}
+use Rattle.mu_model.specs.Points.{each_below}
+use Rattle.mu_model.specs.Reasons.{Finds}
 use Rattle.mu_replicas.proofs.Points.{one_more, low, tells}
 use Rattle.mu_replicas.proofs.replica.Replica.why_not_looked.Goals as goal
 

@@ -2,8 +2,9 @@ use Rattle.std.proofs.Common.{[], ◌+◌, ◌≤◌, ◌++◌, ◌∷◌, ℕ, 
 use Rattle.mu_model.specs.declared.event.Event.{Event}
 use Rattle.mu_model.specs.Contents.{row_count}
 use Rattle.mu_model.specs.Room.{reserve}
-use Rattle.mu_reasons.specs.declared.reason.Reason.{Reason}
-use Rattle.mu_reasons.specs.Reasons.{Finds, each_below}
+use Rattle.mu_model.specs.declared.reason.Reason.{Reason}
+use Rattle.mu_model.specs.Points.{each_below}
+use Rattle.mu_model.specs.Reasons.{Finds}
 use Rattle.mu_replicas.specs.Stands.{StandsForReplica}
 use Rattle.mu_replicas.proofs.replica.Replica.why_not_looked.Given as goal
 

@@ -1,8 +1,9 @@
 use Rattle.std.proofs.Common.{[], ◌++◌, ◌∷◌, List, refl, ap, subst, length}
 use Rattle.mu_model.specs.Knowledge.{known}
 use Rattle.mu_model.specs.Picks.{first_value}
-use Rattle.mu_reasons.specs.declared.reason.Reason.{Reason}
-use Rattle.mu_reasons.specs.Reasons.{Finds, clear_members, proposals, reserved_rooms, rooms}
+use Rattle.mu_model.specs.declared.reason.Reason.{Reason}
+use Rattle.mu_model.specs.Points.{clear_members, proposals, reserved_rooms, rooms}
+use Rattle.mu_model.specs.Reasons.{Finds}
 use Rattle.mu_replicas.proofs.Points.{apart, equal_as}
 use Rattle.mu_replicas.proofs.replica.Replica.why_not_new.Goals as goal
 

@@ -3,8 +3,9 @@ use Rattle.std.proofs.Common.{[], ◌%◌, ◌+◌, ◌/◌, ◌<◌, ◌++◌, 
 use Rattle.mu_model.specs.Contents.{row_count}
 use Rattle.mu_model.specs.Knowledge.{has_word}
 use Rattle.mu_knowledge.specs.HeldRows.{HasWords}
-use Rattle.mu_reasons.specs.declared.reason.Reason.{Reason}
-use Rattle.mu_reasons.specs.Reasons.{Finds, each_below}
+use Rattle.mu_model.specs.declared.reason.Reason.{Reason}
+use Rattle.mu_model.specs.Points.{each_below}
+use Rattle.mu_model.specs.Reasons.{Finds}
 use Rattle.mu_replicas.proofs.Points.{one_more, tells}
 use Rattle.mu_replicas.proofs.replica.Replica.why_row_not_there.Goals as goal
 

@@ -4,8 +4,8 @@ use Rattle.std.proofs.lemmas.Bool.{ltb-false}
 use Rattle.std.proofs.lemmas.Option.{slice_get-get_or}
 use Rattle.mu_model.specs.Histories.{part}
 use Rattle.mu_model.proofs.Parts.{part_is_possible}
-use Rattle.mu_reasons.specs.declared.reason.Reason.{Reason}
-use Rattle.mu_reasons.specs.Reasons.{needs}
+use Rattle.mu_model.specs.declared.reason.Reason.{Reason}
+use Rattle.mu_model.specs.Points.{needs}
 use Rattle.mu_replicas.proofs.replicas.Replicas.why_not.Goals as goal
 
 pub returns-in-None : goal.returns-in-None

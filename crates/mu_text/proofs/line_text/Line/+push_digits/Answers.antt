@@ -10,8 +10,8 @@ push_digits-requires t c =
     let long = length-decimal_step c.args.number small c.if-number-ge10.true in
     (omega arith, omega arith)
 
-pub push-requires : goal.push-requires
-push-requires t c =
+pub push_byte-requires : goal.push_byte-requires
+push_byte-requires t c =
     let small : c.args.number < 2 ^ 64 = omega arith in
     let cases : ((10 ≤ c.args.number) × (c.if-number-ge10.self ≡ c.args.self.now ++ decimal (c.args.number / 10))) ⊎ ((c.args.number < 10) × (c.if-number-ge10.self ≡ c.args.self.now)) =
     elim c.if-number-ge10.branch [
@@ -28,4 +28,4 @@ returns t c =
       | then-number-ge10 w ↦ inl (w.if-number-ge10.true, w.self-is ∙ w.push_digits.ensures)
       | else-number-ge10 w ↦ inr (w.if-number-ge10.false, w.self-is)
     ] in
-    c.push.ensures.bytes ∙ decimal_behind c.args.self.now c.if-number-ge10.self c.args.number small cases
+    c.push_byte.ensures.bytes ∙ decimal_behind c.args.self.now c.if-number-ge10.self c.args.number small cases

@@ -1,0 +1,10 @@
+use Rattle.std.proofs.Common.{◌≡◌, ◌≤◌}
+use Rattle.mu_enough.specs.Lines.{is_left}
+use Rattle.mu_model.specs.Histories.{count_below}
+use Rattle.mu_enough.proofs.lines.count_left.Given as goal
+
+abbrev pub invariant-loop-replica : goal.invariant-loop-replica
+invariant-loop-replica l = record {
+  so_far : l.count ≡ count_below l.replica (is_left l.stops);
+  few : l.count ≤ l.replica;
+}

@@ -1,0 +1,4 @@
+pub mod Committed
+pub mod Finished
+pub mod Lines
+pub mod Promises

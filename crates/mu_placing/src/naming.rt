@@ -1,0 +1,23 @@
+//! The region that a leader's verb names.
+ghost use Rattle.std.specs.Prelude.{◌≡◌};
+ghost use Rattle.mu_placing.specs.Naming.{named_region};
+
+use mu_model::Verb;
+
+/// The region at which a leader's verb is a step, if it isn't an ask, which may begin a leadership.
+#[inline(always)]
+pub(crate) fn named_region(verb: &Verb) -> Option<u8>
+    ensures { result ≡ named_region verb.now }
+{
+    match *verb {
+        Verb::Fence(p)
+        | Verb::Min(p)
+        | Verb::Enter(p, _)
+        | Verb::PutMin(p, _)
+        | Verb::Look(p, _)
+        | Verb::PutSlot(p, _, _, _)
+        | Verb::Fuo(p)
+        | Verb::RaiseFuo(p, _) => Some(p),
+        _ => None,
+    }
+}
