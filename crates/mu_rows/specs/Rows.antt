@@ -38,10 +38,10 @@ argument_word (Arguments.Texts first second) index =
     if nat_lt index 4 then word_of first index else word_of second (index - 4)
 
 -- arguments are texts
-abbrev pub AreArguments : Arguments → Type 0
-AreArguments Arguments.Nothing = ⊤
-AreArguments (Arguments.Text text) = IsText text
-AreArguments (Arguments.Texts first second) = IsText first × IsText second
+abbrev pub AreTexts : Arguments → Type 0
+AreTexts Arguments.Nothing = ⊤
+AreTexts (Arguments.Text text) = IsText text
+AreTexts (Arguments.Texts first second) = IsText first × IsText second
 
 -- the same of an operation
 abbrev pub first_text : Op → List ℕ
@@ -75,7 +75,7 @@ spelled request rest =
 
 -- what an operation has is a key, and arguments
 abbrev pub HasWords : Op → Type 0
-HasWords op = IsKey (key_of op) × AreArguments (parts_of op).arguments
+HasWords op = IsKey (key_of op) × AreTexts (parts_of op).arguments
 
 -- a request that is a command: one that the store may be asked for
 pub record IsCommand (request : Request) : Type 0 where

@@ -8,7 +8,7 @@ use Rattle.kv_store.specs.Words.{IsKey}
 use Rattle.kv_store.specs.declared.command.Arguments.{Arguments}
 use Rattle.kv_store.specs.declared.command.Op.{Op}
 use Rattle.kv_store.specs.declared.command.OpParts.{OpParts}
-use Rattle.mu_rows.specs.Rows.{word_of, first_of, second_of, argument_word, AreArguments}
+use Rattle.mu_rows.specs.Rows.{word_of, first_of, second_of, argument_word, AreTexts}
 
 -- past the first `len` bytes, eight in each word, words have only zeros
 abbrev pub AreClear : List ℕ → ℕ → Type 0
@@ -17,14 +17,14 @@ AreClear words len = (j : ℕ) → j < length words → len - 8 * j < 8
 
 -- what the words of a row say of the arguments that they spell
 pub record SaysArguments (words : List ℕ) (arguments : Arguments) : Type 0 where
-  pub has : AreArguments arguments
+  pub has : AreTexts arguments
   pub first_length : slice_index words 0 / 1099511627776 % 256 ≡ length (first_of arguments)
   pub second_length : slice_index words 0 / 281474976710656 % 256 ≡ length (second_of arguments)
   pub texts : (j : ℕ) → j < 8 → slice_index words (4 + j) ≡ argument_word arguments j
 
 -- the words of a row spell arguments
-pub record SpellArguments (words : List ℕ) (arguments : Arguments) : Type 0 where
-  pub has : AreArguments arguments
+pub record SaysShortArguments (words : List ℕ) (arguments : Arguments) : Type 0 where
+  pub has : AreTexts arguments
   pub short : AreShort arguments
   pub first_length : slice_index words 0 / 1099511627776 % 256 ≡ length (first_of arguments)
   pub second_length : slice_index words 0 / 281474976710656 % 256 ≡ length (second_of arguments)
