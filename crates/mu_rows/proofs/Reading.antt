@@ -1,5 +1,5 @@
 -- What a row says of the command that it spells.
-use Rattle.std.proofs.Common.{◌≡◌, ◌↔◌, true, false, Option, None, Some, subst, add-zero, ℕ, zero, suc, ◌+◌, ◌*◌, ◌<◌, ◌≤◌, ◌/◌, ◌%◌, List, [], ◌∷◌, length, map, take, drop, get_or, refl, sym, ap, ◌∙◌, arith, length-take, get_or-take, inl, inr}
+use Rattle.std.proofs.Common.{◌≡◌, ◌↔◌, Option, None, Some, subst, add-zero, ℕ, zero, suc, ◌+◌, ◌*◌, ◌<◌, ◌≤◌, ◌/◌, ◌%◌, List, [], ◌∷◌, length, map, take, drop, get_or, refl, sym, ap, ◌∙◌, arith, length-take, get_or-take, inl, inr}
 use Rattle.std.specs.Prelude.{nat_lt}
 use Rattle.std.specs.Option.{IsSome, IfSome}
 use Rattle.std.proofs.lemmas.Bool.{cases_Bool, false≢true, ltb-false, ltb-true}
@@ -83,7 +83,7 @@ words-tell most a b count word_a word_b long fits same =
     ∙ ap (λ w. get_or (to_le_bytes w64 w) (i % 8) 0) (at (i / 8) (omega arith))
     ∙ byte-back b (below most b word_b) i)
 
--- what the fields of a head word hold
+-- the fields of the head word have room for the number and the lengths of an operation
 record Small (op : Op) : Type 0 where
   pub code : code_of op < 256
   pub key : IsWord 24 (key_of op)

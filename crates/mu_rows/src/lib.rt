@@ -64,7 +64,7 @@ pub fn is_command(command: &Command)
     has_words(&command.op);
 }
 
-/// What an operation has is a key, and arguments. It does nothing.
+/// The key of an operation is one, and its arguments are texts. It does nothing.
 fn has_words(op: &Op)
     ensures { HasWords op.now }
 {
@@ -73,7 +73,7 @@ fn has_words(op: &Op)
     are_texts(&parts.arguments);
 }
 
-/// What arguments are. It does nothing.
+/// All arguments are texts. It does nothing.
 fn are_texts(arguments: &Arguments)
     ensures { AreTexts arguments.now }
 {
