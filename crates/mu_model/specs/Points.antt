@@ -27,7 +27,7 @@ abbrev pub last_ask : ℕ → ℕ → Verb → Option ℕ
 last_ask r by (Verb.Ask p) = if by == r then Some p else None
 last_ask r by _ = None
 
--- after `past` r meets the point of what is allowed of which the reason tells that it isn't met
+-- after `past` r meets a point of what is allowed; the reason is what is told if it doesn't
 abbrev pub IsMet : Config → ℕ → List Event → Reason → Type 0
 IsMet c r past (Reason.Budget steps) = length past < c.budget
 IsMet c r past (Reason.NoReplica q) = r < c.replicas
@@ -203,7 +203,8 @@ batch_points c r past v = Reason.NoBatch v ∷ later_points c r past v
 abbrev pub offers : Config → ℕ → List Event → ℕ → List Reason
 offers c r past v = if is_mark_offer c r past v then [] else batch_points c r past v
 
--- v is the value of the entry, if the looks show one; if they show none, r may offer v
+-- v is the value of the entry of the largest number that the looks show; if they show none, r may
+-- offer v
 abbrev pub picks : Config → ℕ → List Event → ℕ → ℕ → Option (ℕ × ℕ) → List Reason
 picks c r past i v (Some entry) = Reason.OtherAccepted i v entry.0 entry.1 ∷ []
 picks c r past i v None = offers c r past v
