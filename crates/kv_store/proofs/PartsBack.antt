@@ -12,7 +12,7 @@ pub op_with-parts : (op : Op) → op_with (parts_of op).key (parts_of op).kind (
 op_with-parts (Put key text) = refl
 op_with-parts op = refl
 
--- and has the parts of which it is made
+-- an operation has the parts of which it is made
 pub parts-made : (key : List ℕ) (arguments : Arguments) (kind : OpKind) (op : Op) → op_with key kind arguments ≡ Some op → parts_of op ≡ record { kind = kind; key = key; arguments = arguments }
 parts-made key Arguments.Nothing OpKind.Get op made = cc
 parts-made key (Arguments.Text text) OpKind.Put op made = cc
@@ -24,19 +24,21 @@ pub shape-parts : (op : Op) → shape_of (parts_of op).arguments ≡ shape_of_ki
 shape-parts (Put key text) = refl
 shape-parts op = refl
 
--- a number tells its kind
+-- a kind is found again by its number
 kind-coded : (kind : OpKind) → kind_of_code (code_of_kind kind) ≡ Some kind
 kind-coded OpKind.Put = refl
 kind-coded kind = refl
 
+-- two kinds with one number are the same
 pub same-kind : (a b : OpKind) → code_of_kind a ≡ code_of_kind b → a ≡ b
 same-kind a b same = same_Some _ _ (sym (kind-coded a) ∙ ap kind_of_code same ∙ kind-coded b)
 
+-- the number of a kind has eight bits
 pub code-small : (kind : OpKind) → code_of_kind kind < 256
 code-small OpKind.Put = omega arith
 code-small kind = omega arith
 
--- and so does a name
+-- a kind is found again by its name
 pub kind-named : (kind : OpKind) → kind_of_name (name_of_kind kind) ≡ Some kind
 kind-named OpKind.Put = refl
 kind-named kind = refl

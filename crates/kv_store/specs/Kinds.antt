@@ -3,7 +3,7 @@
 --
 -- Rows, lines and what is expected in a line go by these parts, so that a new operation is a line of
 -- each table here.
-use Rattle.std.specs.Prelude.{ℕ, ◌==◌, Bool, List, [], ◌∷◌, codes, if◌then◌else◌, None, Some}
+use Rattle.std.specs.Prelude.{ℕ, ◌==◌, List, [], ◌∷◌, codes, find, None, Some}
 use Rattle.std.specs.Str.{bytes_eq}
 use Rattle.std.specs.declared.option.Option.{Option}
 use Rattle.kv_store.specs.declared.command.Arguments.{Arguments}
@@ -22,7 +22,7 @@ code_of_kind OpKind.Del = 3
 code_of_kind OpKind.Swap = 4
 code_of_kind OpKind.Cas = 5
 
--- its name in a line
+-- the name of a kind in a line
 abbrev pub name_of_kind : OpKind → List ℕ
 name_of_kind OpKind.Put = codes "put"
 name_of_kind OpKind.Get = codes "get"
@@ -30,7 +30,7 @@ name_of_kind OpKind.Del = codes "del"
 name_of_kind OpKind.Swap = codes "swap"
 name_of_kind OpKind.Cas = codes "cas"
 
--- what it has besides its key
+-- what an operation of a kind has besides its key
 abbrev pub shape_of_kind : OpKind → OpShape
 shape_of_kind OpKind.Put = OpShape.Text
 shape_of_kind OpKind.Get = OpShape.Nothing
@@ -57,7 +57,7 @@ op_with key OpKind.Swap (Arguments.Text text) = Some (Swap key text)
 op_with key OpKind.Cas (Arguments.Texts old new) = Some (Cas key old new)
 op_with key _ _ = None
 
--- which arguments these are
+-- the shape of arguments
 abbrev pub shape_of : Arguments → OpShape
 shape_of Arguments.Nothing = OpShape.Nothing
 shape_of (Arguments.Text text) = OpShape.Text
@@ -69,15 +69,10 @@ texts_of Arguments.Nothing = []
 texts_of (Arguments.Text text) = text ∷ []
 texts_of (Arguments.Texts first second) = first ∷ second ∷ []
 
--- the first of these kinds that passes
-abbrev pub first_kind : (OpKind → Bool) → List OpKind → Option OpKind
-first_kind passes [] = None
-first_kind passes (kind ∷ kinds) = if passes kind then Some kind else first_kind passes kinds
-
--- the kind with this number
+-- the kind with this number, if there is one
 abbrev pub kind_of_code : ℕ → Option OpKind
-kind_of_code code = first_kind (λ kind. code_of_kind kind == code) OP_KINDS
+kind_of_code code = find (λ kind. code_of_kind kind == code) OP_KINDS
 
--- the kind with this name
+-- the kind with this name, if there is one
 abbrev pub kind_of_name : List ℕ → Option OpKind
-kind_of_name name = first_kind (λ kind. bytes_eq name (name_of_kind kind)) OP_KINDS
+kind_of_name name = find (λ kind. bytes_eq name (name_of_kind kind)) OP_KINDS

@@ -94,8 +94,7 @@ impl OpKind {
 
     /// The kind with this number, if there is one.
     pub fn of_code(code: u64) -> Option<OpKind>
-        ensures kind { result ≡ kind_of_code code }
-        ensures code { IfSome result (λ kind. code_of_kind kind ≡ code) }
+        ensures { result ≡ kind_of_code code }
     {
         match code {
             1 => Some(OpKind::Put),
@@ -107,10 +106,10 @@ impl OpKind {
         }
     }
 
-    /// Its name in a line: at most 5 bytes.
+    /// Its name in a line: at most 4 bytes.
     pub fn name(self) -> &'static [u8]
         ensures name { result.now ≡ name_of_kind self }
-        ensures short { length result.now ≤ 5 }
+        ensures short { length result.now ≤ 4 }
     {
         match self {
             OpKind::Put => b"put",
@@ -166,13 +165,12 @@ impl Op {
         }
     }
 
-    /// The operation with these parts, if the kind has such arguments.
-    pub fn of_parts(key: Key, kind: OpKind, arguments: Arguments) -> Option<Op>
-        ensures op { result ≡ op_with key kind arguments }
-        ensures parts { IfSome result (λ op. parts_of op
-            ≡ record { kind = kind; key = key; arguments = arguments }) }
+    /// The operation with these parts. `None` if its kind has no such arguments.
+    pub fn of_parts(parts: OpParts) -> Option<Op>
+        ensures { result ≡ op_with parts.key parts.kind parts.arguments }
     {
-        match (kind, arguments) {
+        let key = parts.key;
+        match (parts.kind, parts.arguments) {
             (OpKind::Put, Arguments::Text(text)) => Some(Op::Put(key, text)),
             (OpKind::Get, Arguments::Nothing) => Some(Op::Get(key)),
             (OpKind::Del, Arguments::Nothing) => Some(Op::Del(key)),
@@ -227,7 +225,8 @@ impl Command {
     }
 }
 
-/// Whether the texts of an operation are short, if it has two.
+/// Whether the texts of an operation are short, if it has two. A text that is alone may have any
+/// length.
 fn has_short_texts(op: &Op) -> bool
     ensures { IsTrue result ↔ HasShortTexts op.now }
 {
@@ -235,7 +234,7 @@ fn has_short_texts(op: &Op) -> bool
     are_short(&parts.arguments)
 }
 
-/// Whether two texts are short. Others may have any length.
+/// The same of arguments.
 fn are_short(arguments: &Arguments) -> bool
     ensures { IsTrue result ↔ AreShort arguments.now }
 {

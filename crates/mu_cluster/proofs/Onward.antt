@@ -26,7 +26,7 @@ use Rattle.mu_model.proofs.Basics.{same_number, same_some}
 use Rattle.mu_model.proofs.Lists.{item_below}
 use Rattle.mu_model.proofs.Parts.{history-part}
 use Rattle.mu_detect.proofs.Leaders.{failed_follows, may_lead, own_leads}
-use Rattle.mu_detect.proofs.Least.{least_found, least_next}
+use Rattle.mu_model.proofs.Least.{least_found, least_next}
 use Rattle.mu_detect.specs.Stands.{last_count}
 use Rattle.mu_grant.specs.Pace.{InCycleOrder}
 use Rattle.mu_node.specs.Due.{is_eager}

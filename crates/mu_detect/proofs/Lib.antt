@@ -1,3 +1,2 @@
 pub mod Leaders
-pub mod Least
 pub mod Peers

@@ -31,7 +31,7 @@ fence_of-first (a ∷ b ∷ c ∷ d ∷ []) = refl
 fence_of-first (a ∷ b ∷ c ∷ d ∷ e ∷ []) = refl
 fence_of-first (a ∷ b ∷ c ∷ d ∷ e ∷ f ∷ rest) = of_four-none _ (owner_of a) (of_32 b) (state_of c) ∙ sym (of_four-none _ (owner_of a) (of_32 b) (state_of c))
 
--- an answer of two words and more
+-- an answer that has two words or more is read as one of many words
 pub answer_of-more : (text : List (List ℕ)) (word : List ℕ) (words : List (List ℕ)) → text ≡ word ∷ words → 0 < length words → answer_of_many word words ≡ answer_of text
 answer_of-more text word [] e some = absurd (omega (arith, some))
 answer_of-more text word (next ∷ words) e some = ap answer_of (sym e)

@@ -11,7 +11,7 @@ use Rattle.mu_events.specs.Steps.{both, step_after}
 abbrev pub Words : Type 0
 Words = List (List ℕ)
 
--- one more word before the `=`
+-- both sides of a `=`, after one more word before it
 abbrev pub put_before : List ℕ → (Words × Words) → (Words × Words)
 put_before word parts = (word ∷ parts.0, parts.1)
 

@@ -51,14 +51,14 @@ number_last n fits = record {
   no_equals = All-cons (λ word. bytes_eq word (codes "=") ≡ false) (decimal n) [] (decimal-is_not n (codes "=") fits refl) (All-nil (λ word. bytes_eq word (codes "=") ≡ false));
 }
 
--- two texts with a space between them
+-- two texts with a space between them have the words of both
 join : (first second : List ℕ) (front back : Words) → Pieces first front → Pieces second back → Pieces ((first ++ SPACE ∷ []) ++ second) (front ++ back)
 join first second front back a b = record {
   spells = Spells-join first second front back a.spells b.spells;
   no_equals = All-append (λ word. bytes_eq word (codes "=") ≡ false) front back a.no_equals b.no_equals;
 }
 
--- one more number
+-- a text with one number more has one word more
 then_number : (text : List ℕ) (spelled : Words) (n : ℕ) → Pieces text spelled → n < 2 ^ 64 → Pieces ((text ++ SPACE ∷ []) ++ decimal n) (spelled ++ decimal n ∷ [])
 then_number text spelled n before fits = join text (decimal n) spelled (decimal n ∷ []) before (number_last n fits)
 
@@ -79,22 +79,22 @@ named-back target.None fits = refl
 named-back target.Min fits = refl
 named-back (target.Place place) fits = ap (option_map target.Place) (of_16-decimal place fits)
 
--- one number
+-- a name and a number are two words
 one : (name : List ℕ) (p : ℕ) → list_all (λ byte. nat_lt SPACE byte) name ≡ true → bytes_eq name (codes "=") ≡ false → p < 2 ^ 64 → Pieces (name ++ SPACE ∷ decimal p) (name ∷ decimal p ∷ [])
 one name p visible other fits = name_then name (decimal p) (decimal p ∷ []) visible other (number_last p fits)
 
--- two numbers
+-- a name and two numbers are three words
 two : (name : List ℕ) (p i : ℕ) → list_all (λ byte. nat_lt SPACE byte) name ≡ true → bytes_eq name (codes "=") ≡ false → p < 2 ^ 64 → i < 2 ^ 64
     → Pieces (((name ++ SPACE ∷ decimal p) ++ SPACE ∷ []) ++ decimal i) (name ∷ decimal p ∷ decimal i ∷ [])
 two name p i visible other first second = then_number (name ++ SPACE ∷ decimal p) (name ∷ decimal p ∷ []) i (one name p visible other first) second
 
--- three numbers
+-- a name and three numbers are four words
 three : (name : List ℕ) (p i n : ℕ) → list_all (λ byte. nat_lt SPACE byte) name ≡ true → bytes_eq name (codes "=") ≡ false → p < 2 ^ 64 → i < 2 ^ 64 → n < 2 ^ 64
     → Pieces (((((name ++ SPACE ∷ decimal p) ++ SPACE ∷ []) ++ decimal i) ++ SPACE ∷ []) ++ decimal n) (name ∷ decimal p ∷ decimal i ∷ decimal n ∷ [])
 three name p i n visible other first second third =
     then_number (((name ++ SPACE ∷ decimal p) ++ SPACE ∷ []) ++ decimal i) (name ∷ decimal p ∷ decimal i ∷ []) n (two name p i visible other first second) third
 
--- four numbers
+-- a name and four numbers are five words
 four : (name : List ℕ) (p i n v : ℕ) → list_all (λ byte. nat_lt SPACE byte) name ≡ true → bytes_eq name (codes "=") ≡ false → p < 2 ^ 64 → i < 2 ^ 64 → n < 2 ^ 64 → v < 2 ^ 64
     → Pieces (((((((name ++ SPACE ∷ decimal p) ++ SPACE ∷ []) ++ decimal i) ++ SPACE ∷ []) ++ decimal n) ++ SPACE ∷ []) ++ decimal v) (name ∷ decimal p ∷ decimal i ∷ decimal n ∷ decimal v ∷ [])
 four name p i n v visible other first second third fourth =
@@ -294,7 +294,7 @@ sides-front (word ∷ front) back none =
 abbrev event_pieces : Event → Words
 event_pieces event = (decimal event.by ∷ verb_pieces event.verb) ++ codes "=" ∷ answer_pieces event.answer
 
--- a `=` stands between two texts
+-- two texts with a `=` between them have the words of both, and the `=`
 equals-between : (first second : List ℕ) (front back : Words) → Spells first front → Spells second back → Spells ((first ++ codes " = ") ++ second) (front ++ codes "=" ∷ back)
 equals-between first second front back a b =
     subst (λ text. Spells text (front ++ codes "=" ∷ back)) (sym (append_assoc first (codes " = ") second))
@@ -306,7 +306,7 @@ event_line-spells event fits =
     let made = Spells-join by (verb_words event.verb) (by ∷ []) (verb_pieces event.verb) (Spells-word by (one_number event.by (omega (arith, fits.by)))) (verb-pieces event.verb fits.verb).spells in
     equals-between ((by ++ SPACE ∷ []) ++ verb_words event.verb) (answer_words event.answer) (by ∷ verb_pieces event.verb) (answer_pieces event.answer) made (answer-spells event.answer fits.answer)
 
--- the words of an event's line are the event
+-- the words of an event's line are read back as the event
 pub event-back : (replicas : ℕ) (event : Event) → IsSpelled replicas event → event_of replicas (words (event_line event)) ≡ Some event
 event-back replicas event is =
     let front : NoEquals (decimal event.by ∷ verb_pieces event.verb) =

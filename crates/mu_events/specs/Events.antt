@@ -29,7 +29,7 @@ abbrev pub of_four :
 of_four make (Some a) (Some b) (Some c) (Some d) = Some (make a b c d)
 of_four make _ _ _ _ = None
 
--- what a writer is about to write: `min`, or `place S`
+-- what the words say that a writer is about to write: `min`, or `place S`
 abbrev pub target_of : List (List ℕ) → Option Target
 target_of (word ∷ []) = if bytes_eq word (codes "min") then Some target.Min else None
 target_of (word ∷ place ∷ []) =
@@ -83,7 +83,7 @@ verb_of_four name a b c d =
     if bytes_eq name (codes "putslot")
     then of_four Verb.PutSlot (of_8 a) (of_16 b) (of_32 c) (of_16 d) else None
 
--- a verb and its words
+-- the verb that these words spell, if they spell one
 abbrev pub verb_of : List (List ℕ) → Option Verb
 verb_of (name ∷ []) = verb_alone name
 verb_of (name ∷ a ∷ []) = verb_of_one name a
@@ -141,7 +141,7 @@ answer_of_many name words =
     else if bytes_eq name (codes "lost") then option_map Answer.Lost (fence_of words)
     else None
 
--- an answer and its words
+-- the answer that these words spell, if they spell one
 abbrev pub answer_of : List (List ℕ) → Option Answer
 answer_of [] = None
 answer_of (word ∷ []) = answer_alone word

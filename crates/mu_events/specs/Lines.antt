@@ -10,29 +10,29 @@ use Rattle.mu_model.specs.declared.event.Target.TheVariants as target
 use Rattle.mu_model.specs.declared.event.Verb.{Verb}
 use Rattle.mu_model.specs.declared.event.Verb.TheVariants as verb
 
--- what a fence names, or what a writer is about to write
+-- the words of what a fence names, or a writer is about to write
 abbrev pub target_words : Target → List ℕ
 target_words target.None = codes "none"
 target_words target.Min = codes "min"
 target_words (target.Place place) = codes "place " ++ decimal place
 
--- the replica that a fence lets write
+-- the word of the replica that a fence lets write
 abbrev pub owner_words : Option ℕ → List ℕ
 owner_words None = codes "none"
 owner_words (Some owner) = decimal owner
 
--- whether a fence is closing
+-- the word of whether a fence is closing
 abbrev pub state_words : Bool → List ℕ
 state_words false = codes "open"
 state_words true = codes "closing"
 
--- a fence: the owner, the grant, the state and what it names
+-- the words of a fence: the owner, the grant, the state and what it names
 abbrev pub fence_words : Fence → List ℕ
 fence_words fence =
     owner_words fence.owner ++ codes " " ++ decimal fence.grant ++ codes " "
     ++ state_words fence.closing ++ codes " " ++ target_words fence.target
 
--- an answer
+-- the words of an answer
 abbrev pub answer_words : Answer → List ℕ
 answer_words Answer.Done = codes "done"
 answer_words Answer.Missed = codes "missed"
@@ -45,7 +45,7 @@ answer_words (Answer.Entry number value) =
     codes "entry " ++ decimal number ++ codes " " ++ decimal value
 answer_words Answer.Past = codes "past"
 
--- a step
+-- the words of a step
 abbrev pub verb_words : Verb → List ℕ
 verb_words (verb.Ask p) = codes "ask " ++ decimal p
 verb_words (verb.Fence p) = codes "fence " ++ decimal p
@@ -72,7 +72,7 @@ verb_words verb.LookTarget = codes "looktarget"
 verb_words verb.Drain = codes "drain"
 verb_words (verb.Grant w) = codes "grant " ++ decimal w
 
--- an event: the replica, its step and the answer
+-- the line of an event: the replica, its step and the answer
 abbrev pub event_line : Event → List ℕ
 event_line event =
     decimal event.by ++ codes " " ++ verb_words event.verb ++ codes " = "
@@ -108,11 +108,12 @@ FitsVerb verb.LookTarget = ⊤
 FitsVerb verb.Drain = ⊤
 FitsVerb (verb.Grant w) = w < 2 ^ 8
 
--- the numbers of a fence fit their types
+-- the replica that a fence lets write has 8 bits
 abbrev pub FitsOwner : Option ℕ → Type 0
 FitsOwner None = ⊤
 FitsOwner (Some owner) = owner < 2 ^ 8
 
+-- the numbers of a fence fit their types
 pub record FitsFence (fence : Fence) : Type 0 where
   pub owner : FitsOwner fence.owner
   pub grant : fence.grant < 2 ^ 32

@@ -37,12 +37,12 @@ fn push_step(line: &mut Line, event: &Event)
 {
     match (event.verb, event.answer) {
         (Verb::Beat, Answer::Done) => line.push(b" beat = done"),
-        _ => push_both(line, event),
+        _ => push_any_step(line, event),
     }
 }
 
-/// Adds a step and what it found, with a space before it.
-fn push_both(line: &mut Line, event: &Event)
+/// The same of any step, word by word.
+fn push_any_step(line: &mut Line, event: &Event)
     requires { length line.old + 155 ≤ LINE_BYTES }
     ensures bytes { line.new ≡ line.old ++ codes " " ++ verb_words event.now.verb ++ codes " = "
         ++ answer_words event.now.answer }
@@ -108,7 +108,7 @@ fn push_verb(line: &mut Line, verb: &Verb)
     }
 }
 
-/// Adds words and a number.
+/// Adds words and a number: at most 20 bytes more than the words have.
 fn push_one(line: &mut Line, words: &[u8], number: u64)
     requires { length line.old + length words.now + 20 ≤ LINE_BYTES }
     ensures bytes { line.new ≡ line.old ++ words.now ++ decimal number }
@@ -118,7 +118,7 @@ fn push_one(line: &mut Line, words: &[u8], number: u64)
     line.push_number(number);
 }
 
-/// Adds words and two numbers.
+/// Adds words and two numbers: at most 41 bytes more than the words have.
 fn push_two(line: &mut Line, words: &[u8], first: u64, second: u64)
     requires { length line.old + length words.now + 41 ≤ LINE_BYTES }
     ensures bytes { line.new ≡ line.old ++ words.now ++ decimal first ++ codes " "

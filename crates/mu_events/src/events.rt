@@ -75,8 +75,8 @@ fn found(verb: Option<Verb>, text: &[u8]) -> Option<(Verb, Answer)>
     Some((verb?, answer_of(text)?))
 }
 
-/// The step of a verb with this name, from what follows the name. Apart, so that a beat is read
-/// without what other lines want.
+/// The step of a verb with this name, from what follows the name. It isn't inlined, so that a beat is
+/// read without what other lines want.
 #[inline(never)]
 fn step_named(name: &[u8], text: &[u8]) -> Option<(Verb, Answer)>
     ensures { result ≡ step_after (name.now ∷ []) (sides (words text.now)) }
@@ -233,7 +233,7 @@ fn verb_of_four(name: &[u8], a: &[u8], b: &[u8], c: &[u8], d: &[u8]) -> Option<V
     }
 }
 
-/// What a writer is about to write.
+/// What these words say that a writer is about to write, if they say so.
 fn target_of(words: &[&[u8]]) -> Option<Target>
     ensures { result ≡ target_of (map (λ word. word.now) words.now) }
 {
@@ -244,7 +244,7 @@ fn target_of(words: &[&[u8]]) -> Option<Target>
     }
 }
 
-/// An answer and its words.
+/// The answer that a text spells, if it spells one.
 fn answer_of(text: &[u8]) -> Option<Answer>
     ensures { result ≡ answer_of (words text.now) }
 {
@@ -297,7 +297,7 @@ fn answer_of_many(name: &[u8], text: &[u8]) -> Option<Answer>
     }
 }
 
-/// An entry: its proposal number and its payload number.
+/// The entry that these words spell: its proposal number and its payload number.
 fn entry_of(text: &[u8]) -> Option<Answer>
     ensures { result ≡ entry_of (words text.now) }
 {
@@ -308,7 +308,7 @@ fn entry_of(text: &[u8]) -> Option<Answer>
     })
 }
 
-/// A fence: the owner, the grant, the state and what it names.
+/// The fence that these words spell: the owner, the grant, the state and what it names.
 fn fence_of(text: &[u8]) -> Option<Fence>
     ensures { result ≡ fence_of (words text.now) }
 {

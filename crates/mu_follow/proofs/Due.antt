@@ -21,7 +21,7 @@ use Rattle.mu_model.proofs.Basics.{none_some, same_some}
 use Rattle.mu_model.proofs.Scans.{each_all, least_below_fits}
 use Rattle.mu_agree.proofs.Possible.{parts_shorten_law}
 use Rattle.mu_agree.proofs.Readings.{parts_reach_law}
-use Rattle.mu_detect.proofs.Least.{least_found, least_next}
+use Rattle.mu_model.proofs.Least.{least_found, least_next}
 use Rattle.mu_knowledge.specs.FilledLog.{IsFilledTo}
 use Rattle.mu_knowledge.proofs.Fetched.{batch_there}
 use Rattle.mu_follow.specs.Due.{IsReplay, ahead_due, filled_known, first_word_of, fuo_due, head_due, look_due, next_due, next_word_of, other_head_due, other_of, own_fuo, raise_due, replay_due, row_read, row_under_way, rows_had, word_due}

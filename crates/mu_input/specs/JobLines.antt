@@ -17,13 +17,13 @@ abbrev pub after_spaces : List (List ℕ) → List ℕ
 after_spaces [] = []
 after_spaces (word ∷ words) = codes " " ++ word ++ after_spaces words
 
--- an operation: its name, its key and its texts
+-- the words of an operation: its name, its key and its texts
 abbrev pub op_words : Op → List ℕ
 op_words op =
     name_of_kind (parts_of op).kind
     ++ after_spaces ((parts_of op).key ∷ texts_of (parts_of op).arguments)
 
--- the most commands of a batch, only in version 2
+-- the line of the most commands of a batch, which only version 2 has
 abbrev pub batch_lines : Config → List (List ℕ)
 batch_lines config =
     if config.version == 2 then (codes "batch " ++ decimal config.width) ∷ [] else []
@@ -41,11 +41,11 @@ client_count count [] = count
 client_count count (command ∷ commands) =
     client_count (if nat_le count command.client then command.client + 1 else count) commands
 
--- a command, among those of its client
+-- the line of a command, if it is one of this client
 abbrev pub command_lines : ℕ → Request → List (List ℕ)
 command_lines client command = if command.client == client then op_words command.op ∷ [] else []
 
--- the commands of a client
+-- the lines of the commands of a client
 abbrev pub commands_lines : ℕ → List Request → List (List ℕ)
 commands_lines client [] = []
 commands_lines client (command ∷ commands) =
@@ -58,11 +58,11 @@ client_lines commands client (suc clients) =
     ((codes "client " ++ decimal client) ∷ commands_lines client commands)
     ++ client_lines commands (client + 1) clients
 
--- a stop
+-- the line of a stop
 abbrev pub stop_line : Stop → List ℕ
 stop_line stop = codes "stop " ++ decimal stop.replica ++ codes " " ++ decimal stop.steps
 
--- a pause
+-- the line of a pause
 abbrev pub pause_line : Pause → List ℕ
 pause_line pause =
     codes "pause " ++ decimal pause.replica ++ codes " " ++ decimal pause.steps ++ codes " "
@@ -72,13 +72,13 @@ pause_line pause =
 abbrev pub has_lines : Script → Bool
 has_lines script = nat_lt 0 (length script.stops) || nat_lt 0 (length script.pauses)
 
--- the script, if it has a line
+-- the lines of the script, if it has any
 abbrev pub script_lines : Script → List (List ℕ)
 script_lines script =
     if has_lines script
     then codes "script" ∷ (map stop_line script.stops ++ map pause_line script.pauses) else []
 
--- the whole trace of a job and events
+-- the lines of the whole trace of a job and events
 abbrev pub lines_of_trace : Job → List Event → List (List ℕ)
 lines_of_trace job events = setting_lines job.config
     ++ (client_lines job.commands 0 (client_count 0 job.commands)

@@ -16,25 +16,25 @@ use Rattle.mu_input.specs.declared.cause.TheConstants.{OPERATION, KEY, VALUE}
 abbrev pub is_short_text : List ℕ → Bool
 is_short_text bytes = is_text bytes && nat_le (length bytes) CAS_TEXT_BYTES
 
--- words as arguments of this shape, if they are as many
+-- the words as arguments of this shape, if they are as many as it has
 abbrev pub arguments_as : OpShape → List (List ℕ) → Option Arguments
 arguments_as OpShape.Nothing [] = Some Arguments.Nothing
 arguments_as OpShape.Text (text ∷ []) = Some (Arguments.Text text)
 arguments_as OpShape.Texts (first ∷ second ∷ []) = Some (Arguments.Texts first second)
 arguments_as _ _ = None
 
--- the words are texts that may stand there
+-- each argument is a text that may stand there
 abbrev pub are_texts : Arguments → Bool
 are_texts Arguments.Nothing = true
 are_texts (Arguments.Text text) = is_text text
 are_texts (Arguments.Texts first second) = is_short_text first && is_short_text second
 
--- the operation of some parts, if there is one
+-- what a line says whose parts make this operation, if they make one
 abbrev pub made : Option Op → Line Op
 made None = Wrong OPERATION
 made (Some op) = Says op
 
--- the key is judged first, and then the texts
+-- what a line says of a kind, a key and arguments: the key is judged first, and then the texts
 abbrev pub judged : OpKind → List ℕ → Option Arguments → Line Op
 judged kind key None = Wrong OPERATION
 judged kind key (Some arguments) =
@@ -42,12 +42,12 @@ judged kind key (Some arguments) =
     then (if are_texts arguments then made (op_with key kind arguments) else Wrong VALUE)
     else Wrong KEY
 
--- a key and the words after it, by what the word before it names
+-- what a line says, by what its first word names, from the key and the words after it
 abbrev pub of_kind : Option OpKind → List ℕ → List (List ℕ) → Line Op
 of_kind None key words = Wrong OPERATION
 of_kind (Some kind) key words = judged kind key (arguments_as (shape_of_kind kind) words)
 
--- an operation and its words
+-- what a line says of the store: its operation, or the cause why it asks for none
 abbrev pub operation_of : List (List ℕ) → Line Op
 operation_of (name ∷ key ∷ words) = of_kind (kind_of_name name) key words
 operation_of _ = Wrong OPERATION

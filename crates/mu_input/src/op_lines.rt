@@ -5,7 +5,7 @@ ghost use Rattle.mu_input.specs.JobLines.{after_spaces, op_words};
 ghost use Rattle.mu_text.specs.declared.line_text.TheConstants.{LINE_BYTES};
 
 use kv_store::{Arguments, Op};
-use mu_text::Line;
+use mu_text::{Line, SPACE};
 
 /// The line that asks for an operation.
 pub fn op_line(op: &Op) -> Line
@@ -17,11 +17,11 @@ pub fn op_line(op: &Op) -> Line
     line
 }
 
-/// Adds an operation, as in a job: at most 160 bytes.
+/// Adds an operation, as in a job: at most 159 bytes.
 pub fn push_op(line: &mut Line, op: &Op)
-    requires { length line.old + 160 ≤ LINE_BYTES }
+    requires { length line.old + 159 ≤ LINE_BYTES }
     ensures bytes { line.new ≡ line.old ++ op_words op.now }
-    ensures room { length line.new ≤ length line.old + 160 }
+    ensures room { length line.new ≤ length line.old + 159 }
 {
     let parts = op.parts();
     line.push(parts.kind.name());
@@ -51,6 +51,6 @@ fn push_after_space(line: &mut Line, word: &[u8])
     ensures bytes { line.new ≡ line.old ++ codes " " ++ word.now }
     ensures room { length line.new ≡ length line.old + 1 + length word.now }
 {
-    line.push(b" ");
+    line.push_byte(SPACE);
     line.push(word);
 }

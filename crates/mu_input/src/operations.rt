@@ -7,7 +7,7 @@ ghost use Rattle.mu_input.specs.Operations.{arguments_as, is_short_text, judged,
 ghost use Rattle.mu_input.specs.Readings.{Tells};
 
 use crate::cause::{KEY, OPERATION, VALUE};
-use kv_store::{Arguments, CAS_TEXT_BYTES, Key, Op, OpKind, OpShape, Text};
+use kv_store::{Arguments, CAS_TEXT_BYTES, Key, Op, OpKind, OpParts, OpShape, Text};
 
 /// Whether the first word names an operation.
 pub fn names_operation(words: &[&[u8]]) -> bool
@@ -76,7 +76,12 @@ fn made(kind: OpKind, key: Key, arguments: Arguments) -> Result<Op, u8>
     ensures reading { Tells result (made (op_with key kind arguments)) }
     ensures short { AreShort arguments → IfOk result HasShortTexts }
 {
-    Op::of_parts(key, kind, arguments).ok_or(OPERATION)
+    let parts = OpParts {
+        kind,
+        key,
+        arguments,
+    };
+    Op::of_parts(parts).ok_or(OPERATION)
 }
 
 fn good_key(bytes: &[u8]) -> Result<Key, u8>

@@ -2,6 +2,7 @@ pub mod AllMet
 pub mod Basics
 pub mod Budgets
 pub mod Counts
+pub mod Least
 pub mod FirstBelow
 pub mod Lists
 pub mod Owned

@@ -16,7 +16,7 @@ use Rattle.mu_model.specs.Picks.{first_value, highest_accepted, is_fresh_batch, 
 use Rattle.mu_model.specs.Entering.{last_opened, min_read, number_allowed, open_target}
 use Rattle.mu_model.specs.Placing.{fuo_read_or_raised, is_caught_up_at, is_within_ring, looked_before_entering, reaches_head}
 use Rattle.mu_model.specs.Room.{has_room, last_head, reserve}
-use Rattle.std.proofs.lemmas.Bool.{and_from, and_parts, eq-eqb, eqb-true, false≢true, le-leb, leb-true, or_cases}
+use Rattle.std.proofs.lemmas.Bool.{and_from, and_parts, eq-eqb, eqb-true, false≢true, le-leb, leb-true, not-true, not_from_false, or_cases}
 use Rattle.std.proofs.lemmas.Bool.Decides.{eqb_tells}
 use Rattle.mu_model.proofs.Basics.{none_some, or_true, same_some, true_or}
 use Rattle.mu_model.proofs.Scans.{all_at, each_all}
@@ -64,44 +64,50 @@ pub record MayPutSlot (c : Config) (r : ℕ) (past : List Event) (p i b v : ℕ)
   pub caught_up : (j : ℕ) → j < i → is_caught_up_at c r p past j ≡ true
   pub value : (slice_get (known c r past) i ≡ Some v) ⊎ IsNew c r past i v
 
--- those of each number are met exactly if a test of each passes
+-- the points of all numbers below n are met exactly if each number passes a test
 pub all_met : (c : Config) (r : ℕ) (past : List Event) (n : ℕ) (test : ℕ → Bool) (of_each : ℕ → List Reason) → ((j : ℕ) → (AreMet c r past (of_each j) ↔ (test j ≡ true))) → (AreMet c r past (each_below n of_each) ↔ (all_below n test ≡ true))
 all_met c r past n test of_each tells = (
   λ m. each_all n test (λ j low. (tells j).0 (met_each c r past n of_each m j low)),
   λ h. each_met c r past n of_each (λ j low. (tells j).1 (all_at n test h j low)),
 )
 
-pub rooms_met : (c : Config) (r : ℕ) (past : List Event) (i free : ℕ) → (AreMet c r past (rooms c r past i free) ↔ (has_room c r past i free ≡ true))
+-- the points of room are met exactly if there is room
+rooms_met : (c : Config) (r : ℕ) (past : List Event) (i free : ℕ) → (AreMet c r past (rooms c r past i free) ↔ (has_room c r past i free ≡ true))
 rooms_met c r past i free =
     let one : ℕ → Bool = λ q. marked c q (known c r past) || nat_lt (i + free) (last_head r q past + c.ring) in (
       λ m. each_all c.replicas one (λ q low. (met_each c r past c.replicas (λ q. Reason.NoRoom i free q (last_head r q past) ∷ []) m q low).0),
       λ h. each_met c r past c.replicas (λ q. Reason.NoRoom i free q (last_head r q past) ∷ []) (λ q low. (all_at c.replicas one h q low, tt)),
     )
 
--- the points of a list hold if a test calls for them
+-- points that only a fresh batch has to meet are met exactly if v isn't fresh or they are met
 where_fresh : (c : Config) (r : ℕ) (past : List Event) (t room : Bool) (xs : List Reason) → (AreMet c r past xs ↔ (room ≡ true)) → (AreMet c r past (if t then xs else []) ↔ (t ≡ true → room ≡ true))
 where_fresh c r past true room xs met = (λ m is. met.0 m, λ h. met.1 (h refl))
 where_fresh c r past false room xs met = (λ m is. absurd (false≢true is), λ h. tt)
 
-pub reserved_met : (c : Config) (r : ℕ) (past : List Event) (i v : ℕ) → (AreMet c r past (reserved_rooms c r past i v) ↔ (is_fresh_batch c r past i v ≡ true → has_room c r past i (reserve c) ≡ true))
+-- so are those of the reserve
+reserved_met : (c : Config) (r : ℕ) (past : List Event) (i v : ℕ) → (AreMet c r past (reserved_rooms c r past i v) ↔ (is_fresh_batch c r past i v ≡ true → has_room c r past i (reserve c) ≡ true))
 reserved_met c r past i v = where_fresh c r past (is_fresh_batch c r past i v) (has_room c r past i (reserve c)) (rooms c r past i (reserve c)) (rooms_met c r past i (reserve c))
 
+-- the points of the rows of a batch are met exactly if the batch is written
 pub batch_written_met : (c : Config) (r : ℕ) (past : List Event) (v : ℕ) → (AreMet c r past (batch_written c v) ↔ (wrote_batch c r (v % 4096) past ≡ true))
 batch_written_met c r past v =
     all_met c r past (rest_of c (v % 4096) + 1) (λ t. all_below 12 (λ k. wrote r (v % 4096 + t) k past)) (λ t. row_written v (v % 4096 + t)) (λ t.
     all_met c r past 12 (λ k. wrote r (v % 4096 + t) k past) (λ k. Reason.NotWritten v (v % 4096 + t) k ∷ []) (λ k. (λ m. m.0, λ h. (h, tt))))
 
--- if the test fails, the last point fails
+-- the last point fails exactly if more than `count` entries are to be applied
 where_applied : (c : Config) (r : ℕ) (past : List Event) (t : Bool) (h count : ℕ) (xs : List Reason) → nat_le h count ≡ t → (AreMet c r past (if t then [] else (xs ++ Reason.NotApplied h count ∷ [])) ↔ (h ≤ count))
 where_applied c r past true h count xs is = (λ m. leb-true h count is, λ low. tt)
 where_applied c r past false h count xs is = (λ m. (met_rest c r past xs (Reason.NotApplied h count ∷ []) m).0, λ low. absurd (false≢true (sym is ∙ le-leb h count low)))
 
-pub applied_met : (c : Config) (r : ℕ) (past : List Event) (h count : ℕ) → (AreMet c r past (applied_to c r past h count) ↔ (h ≤ count))
+-- the points of a head are met exactly if so many entries are applied
+applied_met : (c : Config) (r : ℕ) (past : List Event) (h count : ℕ) → (AreMet c r past (applied_to c r past h count) ↔ (h ≤ count))
 applied_met c r past h count = where_applied c r past (nat_le h count) h count (entry_there c h count (slice_get (known c r past) count)) refl
 
+-- four facts hold exactly if the test that joins them passes: from the facts
 all_four : (a b : Bool) (x y n m : ℕ) → a ≡ true → x ≡ y → b ≡ true → n ≡ m → (a && ((x == y) && (b && (n == m)))) ≡ true
 all_four a b x y n m p q s t = and_from _ _ p (and_from _ _ (eq-eqb x y q) (and_from _ _ s (eq-eqb n m t)))
 
+-- and from the test
 each_of_four : (a b : Bool) (x y n m : ℕ) → (a && ((x == y) && (b && (n == m)))) ≡ true → (a ≡ true) × (x ≡ y) × (b ≡ true) × (n ≡ m)
 each_of_four a b x y n m h =
     let one = and_parts a ((x == y) && (b && (n == m))) h in
@@ -109,7 +115,8 @@ each_of_four a b x y n m h =
     let three = and_parts b (n == m) two.1 in
     (one.0, eqb-true x y two.0, three.0, eqb-true n m three.1)
 
-pub offers_met : (c : Config) (r : ℕ) (past : List Event) (v : ℕ) → (AreMet c r past (offers c r past v) ↔ (pick c r past v None ≡ true))
+-- the points of an offer are met exactly if the pick allows it
+offers_met : (c : Config) (r : ℕ) (past : List Event) (v : ℕ) → (AreMet c r past (offers c r past v) ↔ (pick c r past v None ≡ true))
 offers_met c r past v = go (is_mark_offer c r past v)
   where
     go : (t : Bool) → (AreMet c r past (if t then [] else batch_points c r past v)
@@ -122,21 +129,16 @@ offers_met c r past v = go (is_mark_offer c r past v)
           λ h. elim (or_cases _ false h) [ inl own ↦ (let all = each_of_four _ _ _ _ _ _ own in (all.0, (all.1, met_append c r past rows last ((batch_written_met c r past v).1 all.2) (all.3, tt)))) | inr bad ↦ absurd (false≢true bad) ],
         )
 
-pub picks_met : (c : Config) (r : ℕ) (past : List Event) (i v : ℕ) (o : Option (ℕ × ℕ)) → (AreMet c r past (picks c r past i v o) ↔ (pick c r past v o ≡ true))
+-- so are those of a value by what the looks show
+picks_met : (c : Config) (r : ℕ) (past : List Event) (i v : ℕ) (o : Option (ℕ × ℕ)) → (AreMet c r past (picks c r past i v o) ↔ (pick c r past v o ≡ true))
 picks_met c r past i v (Some entry) = (λ m. eq-eqb entry.1 v m.0, λ h. (eqb-true entry.1 v h, tt))
 picks_met c r past i v None = offers_met c r past v
 
-not_true : (t : Bool) → t ≡ false → not t ≡ true
-not_true t is = rw is refl
-
-true_not : (t : Bool) → not t ≡ true → t ≡ false
-true_not true is = sym is
-true_not false is = refl
-
-pub proposals_met : (c : Config) (r : ℕ) (past : List Event) (i v : ℕ) (o : Option ℕ) → (AreMet c r past (proposals c r past i v o) ↔ (may_propose c r past i v o ≡ true))
+-- the points of a proposal are met exactly if r may propose it
+proposals_met : (c : Config) (r : ℕ) (past : List Event) (i v : ℕ) (o : Option ℕ) → (AreMet c r past (proposals c r past i v o) ↔ (may_propose c r past i v o ≡ true))
 proposals_met c r past i v (Some first) = (
-  λ m. and_from _ _ (eq-eqb v first m.0) (not_true _ m.1.0),
-  λ h. let both = and_parts (v == first) (not (joined_since_first_put r i past)) h in (eqb-true v first both.0, (true_not _ both.1, tt)),
+  λ m. and_from _ _ (eq-eqb v first m.0) (not_from_false _ m.1.0),
+  λ h. let both = and_parts (v == first) (not (joined_since_first_put r i past)) h in (eqb-true v first both.0, (not-true _ both.1, tt)),
 )
 proposals_met c r past i v None =
     let one : ℕ → Bool = λ p. not (is_member r p past) || is_some (last_look r p i past) in
@@ -151,10 +153,12 @@ proposals_met c r past i v None =
           ((picks_met c r past i v top).1 both.1),
     )
 
-pub clear_met : (c : Config) (r : ℕ) (past : List Event) (i : ℕ) → (AreMet c r past (clear_members c i) ↔ (all_below c.replicas (λ p. not (is_member r p past && has (λ e. is_past_look (look_answer r p i e.by e.verb e.answer)) (leadership r past))) ≡ true))
+-- the points of members that were seen past a position are met exactly if none was
+clear_met : (c : Config) (r : ℕ) (past : List Event) (i : ℕ) → (AreMet c r past (clear_members c i) ↔ (all_below c.replicas (λ p. not (is_member r p past && has (λ e. is_past_look (look_answer r p i e.by e.verb e.answer)) (leadership r past))) ≡ true))
 clear_met c r past i =
     all_met c r past c.replicas (λ p. not (is_member r p past && has (λ e. is_past_look (look_answer r p i e.by e.verb e.answer)) (leadership r past))) (λ p. Reason.PastSeen p i ∷ []) (λ p. (λ m. m.0, λ h. (h, tt)))
 
+-- the points of a new value are met exactly if r may put it as new
 pub new_met : (c : Config) (r : ℕ) (past : List Event) (i v : ℕ) → (AreMet c r past (new_values c r past i v) ↔ IsNew c r past i v)
 new_met c r past i v =
     let first = first_value r i past in
@@ -170,7 +174,7 @@ new_met c r past i v =
       λ h. (h.next, met_append c r past all (kept ++ late) ((rooms_met c r past i 0).1 h.room) (met_append c r past kept late ((reserved_met c r past i v).1 h.reserve_kept) (met_append c r past clear offered ((clear_met c r past i).1 h.none_past) ((proposals_met c r past i v first).1 h.value)))),
     )
 
--- the points of a new value are asked for if the value isn't known
+-- a value is allowed exactly if it is known at the position, or meets the points of a new one
 where_known : (c : Config) (r : ℕ) (past : List Event) (o : Option ℕ) (v : ℕ) (xs : List Reason) (New : Type 0) → (AreMet c r past xs ↔ New) → (AreMet c r past (if is_value o v then [] else xs) ↔ ((o ≡ Some v) ⊎ New))
 where_known c r past None v xs New met = (λ m. inr (met.0 m), λ h. elim h [ inl is ↦ absurd (none_some v is) | inr new ↦ met.1 new ])
 where_known c r past (Some w) v xs New met = elim (eqb_tells w v) [
@@ -178,14 +182,15 @@ where_known c r past (Some w) v xs New met = elim (eqb_tells w v) [
   | inr other ↦ rw other.0 (λ m. inr (met.0 m), λ h. elim h [ inl is ↦ absurd (other.1 (same_some w v is)) | inr new ↦ met.1 new ])
 ]
 
+-- the points of a value are met exactly if it is known there, or may be put as new
 pub values_met : (c : Config) (r : ℕ) (past : List Event) (i v : ℕ) → (AreMet c r past (values c r past i v) ↔ ((slice_get (known c r past) i ≡ Some v) ⊎ IsNew c r past i v))
 values_met c r past i v = where_known c r past (slice_get (known c r past) i) v (new_values c r past i v) (IsNew c r past i v) (new_met c r past i v)
 
--- what the points of a put of a number come to
+-- a put of a number that is allowed is one that r may make
 pub min_facts : (c : Config) (r : ℕ) (past : List Event) (p b : ℕ) → Needs c r past (Verb.PutMin p b) → MayPutMin r past p b
 min_facts c r past p b m = record { not_over = m.1.0; entered = m.1.1.0; read = m.1.1.1.0; numbered = m.1.1.1.1.0 }
 
--- what the points of a put come to
+-- a put of an entry that is allowed is one that r may make
 pub put_facts : (c : Config) (r : ℕ) (past : List Event) (p i b v : ℕ) → Needs c r past (Verb.PutSlot p i b v) → MayPutSlot c r past p i b v
 put_facts c r past p i b v m =
     let each : ℕ → List Reason = λ j. Reason.Behind p j ∷ [] in
@@ -205,7 +210,7 @@ put_facts c r past p i b v m =
       value = (values_met c r past i v).0 value;
     }
 
--- the points of a put, from the facts
+-- a put of an entry that r may make, in a region and at a position that are there, is allowed
 pub put_points : (c : Config) (r : ℕ) (past : List Event) (p i b v : ℕ) → p < c.replicas → i ≤ row_count c + reserve c → MayPutSlot c r past p i b v → Needs c r past (Verb.PutSlot p i b v)
 put_points c r past p i b v inside near may =
     let each : ℕ → List Reason = λ j. Reason.Behind p j ∷ [] in
@@ -214,19 +219,22 @@ put_points c r past p i b v inside near may =
     let more = met_append c r past (each_below i each) (values c r past i v) caught value in
     (inside, (near, (may.within_ring, (may.not_over, (may.carried, (may.member, (may.numbered, (may.entered, (may.looked, more)))))))))
 
--- the positions below the new FUO are filled
+-- a FUO may be raised only if all positions below it are filled
 pub raise_facts : (c : Config) (r : ℕ) (past : List Event) (p u : ℕ) → Needs c r past (Verb.RaiseFuo p u) → all_below u (is_filled c r p past) ≡ true
 raise_facts c r past p u m = each_all u (is_filled c r p past) (λ j low. (met_each c r past u (λ j. Reason.NotFilled p j ∷ []) m.1.1 j low).0)
 
+-- a FUO may be raised to what r knows, if all positions below it are filled
 pub raise_points : (c : Config) (r : ℕ) (past : List Event) (p u : ℕ) → p < c.replicas → u ≤ length (known c r past) → all_below u (is_filled c r p past) ≡ true → Needs c r past (Verb.RaiseFuo p u)
 raise_points c r past p u inside few all = (inside, (few, each_met c r past u (λ j. Reason.NotFilled p j ∷ []) (λ j low. (all_at u (is_filled c r p past) all j low, tt))))
 
--- so many entries are applied, and a FUO that was read or raised reaches the head
+-- a head may be raised only to entries that are applied
 pub head_applied : (c : Config) (r : ℕ) (past : List Event) (h : ℕ) → Needs c r past (Verb.RaiseHead h) → h ≤ length (applied c r past)
 head_applied c r past h m = (applied_met c r past h (length (applied c r past))).0 (met_front c r past (applied_to c r past h (length (applied c r past))) (Reason.NotReached h ∷ []) m)
 
+-- a head may be raised only to what a FUO that r read or raised reaches
 pub head_reached : (c : Config) (r : ℕ) (past : List Event) (h : ℕ) → Needs c r past (Verb.RaiseHead h) → has (λ e. reaches_head h (fuo_read_or_raised r r e.by e.verb e.answer)) past ≡ true
 head_reached c r past h m = (met_rest c r past (applied_to c r past h (length (applied c r past))) (Reason.NotReached h ∷ []) m).0
 
+-- a head may be raised so far as entries are applied and such a FUO reaches
 pub head_points : (c : Config) (r : ℕ) (past : List Event) (h : ℕ) → h ≤ length (applied c r past) → has (λ e. reaches_head h (fuo_read_or_raised r r e.by e.verb e.answer)) past ≡ true → Needs c r past (Verb.RaiseHead h)
 head_points c r past h few reached = met_append c r past (applied_to c r past h (length (applied c r past))) (Reason.NotReached h ∷ []) ((applied_met c r past h (length (applied c r past))).1 few) (reached, tt)

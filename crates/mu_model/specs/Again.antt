@@ -1,7 +1,8 @@
--- foreign row, astray, asks again: a leader asks again, with a cause of its own: the region of a
--- replica that lives belongs to another for good.
+-- foreign row, astray, asks again: when a leader asks again though its leadership isn't over: it saw
+-- the region of a replica that it doesn't hold failed granted to another, 16 times in a row.
 --
--- Only eager nodes do so.
+-- Only eager nodes do so. Each time begins a new leadership and a new row, and no limit is set to how
+-- often it happens.
 use Rattle.std.specs.Prelude.{Bool, List, None, Some, [], false, if◌then◌else◌, is_some, nat_le, nat_lt, not, ℕ, ◌&&◌, ◌+◌, ◌==◌, ◌∷◌}
 use Rattle.std.specs.declared.option.Option.{Option}
 use Rattle.mu_model.specs.declared.config.Config.{Config}
@@ -11,7 +12,7 @@ use Rattle.mu_model.specs.Histories.{count_below}
 use Rattle.mu_model.specs.Leaderships.{begins_leadership, fence_seen, is_member, is_over, proposal_number}
 use Rattle.mu_model.specs.Scores.{is_failed}
 
--- the owner, if there is one, is another than r
+-- there is an owner, and it is another than r
 abbrev pub owner_is_other : ℕ → Option ℕ → Bool
 owner_is_other r None = false
 owner_is_other r (Some w) = not (w == r)
@@ -20,11 +21,11 @@ owner_is_other r (Some w) = not (w == r)
 abbrev pub is_foreign : ℕ → Fence → Bool
 is_foreign r f = not f.closing && owner_is_other r f.owner
 
--- one more in the row, which counts up to 16
+-- the length of a row after one more: it isn't counted beyond 16
 abbrev pub one_more : ℕ → ℕ
 one_more k = if nat_lt k 16 then k + 1 else k
 
--- the row after what was seen of the fence, by whether the leadership has its number
+-- the length of the row after what was seen of the fence, by whether the leadership has its number
 abbrev pub row_with : ℕ → Bool → Option Fence → ℕ → ℕ
 row_with r numbered None k = k
 row_with r numbered (Some f) k = if numbered then (if is_foreign r f then one_more k else 0) else k

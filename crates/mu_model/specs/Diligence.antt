@@ -1,5 +1,7 @@
--- diligent: the journal of replica r keeps its paces: ten points, one for each pace. One that may
--- ask again keeps the same, but has one more cause to ask anew.
+-- diligent: the journal of replica r keeps thirteen rules, of how soon it does what it has to and of
+-- what gives it cause.
+--
+-- A replica that may ask again keeps the same rules, but has one more cause to begin a leadership.
 use Rattle.std.specs.Prelude.{Bool, List, [], false, if◌then◌else◌, is_some, length, min, nat_le, not, true, ℕ, ◌%◌, ◌&&◌, ◌*◌, ◌++◌, ◌+◌, ◌<◌, ◌==◌, ◌||◌, ◌∷◌, ◌≡◌, ◌≢◌, ◌≤◌, ◌⊎◌}
 use Rattle.mu_model.specs.declared.config.Config.{Config}
 use Rattle.mu_model.specs.declared.event.Event.{Event}
@@ -108,12 +110,12 @@ may_ask_anew c r past =
     || (not (has_min r past)
     && all_below c.replicas (λ p. nat_le 16 (how_many (is_fencing p) (leadership r past))))))
 
--- the same if it may also ask again, since a region has gone astray
+-- r may begin another leadership; if the first argument is true, also since a region has gone astray
 abbrev pub may_begin : Bool → Config → ℕ → List Event → Bool
 may_begin false c r past = may_ask_anew c r past
 may_begin true c r past = may_ask_anew c r past || asks_again c r past
 
--- ask discipline: r asks only if it is named, and asks again only with cause
+-- ask discipline: r asks only if it is named, and begins a leadership only if it may
 pub record AsksWithCauseBy (again : Bool) (c : Config) (r : ℕ) (past : List Event) : Type 0 where
   pub named :
       (p : ℕ) (e : Event) (older : List Event) → IsStretch past (e ∷ []) older
@@ -122,6 +124,7 @@ pub record AsksWithCauseBy (again : Bool) (c : Config) (r : ℕ) (past : List Ev
       (e : Event) (older : List Event) → IsStretch past (e ∷ []) older → is_asking 0 e ≡ true
       → may_begin again c r older ≡ true
 
+-- ask discipline of a replica to which a region gone astray is no cause
 abbrev pub AsksWithCause : Config → ℕ → List Event → Type 0
 AsksWithCause c r past = AsksWithCauseBy false c r past
 
@@ -241,7 +244,7 @@ pub record TellsHeads (c : Config) (r : ℕ) (past : List Event) : Type 0 where
       (q : ℕ) (window older : List Event) → q < c.replicas → q ≢ r → IsStretch past window older
       → length window ≡ c.replicas * cycle c → has (is_head_of q) window ≡ true
 
--- the journal of r is diligent, and asks again if it may
+-- the journal of r is diligent; if `again` is true, a region gone astray may be a cause to ask
 pub record IsDiligentBy (again : Bool) (c : Config) (r : ℕ) (past : List Event) : Type 0 where
   pub heartbeat_pace : ReadsInTime c r past
   pub grant_pace : GrantsInTime c r past
@@ -257,6 +260,6 @@ pub record IsDiligentBy (again : Bool) (c : Config) (r : ℕ) (past : List Event
   pub replayer_pace : Replays c r past
   pub head_pace : TellsHeads c r past
 
--- the journal of r is diligent, and never asks again
+-- the journal of r is diligent, and no region gone astray is a cause to ask
 abbrev pub IsDiligent : Config → ℕ → List Event → Type 0
 IsDiligent c r past = IsDiligentBy false c r past

@@ -1,5 +1,7 @@
 -- point, met: what each point of what is allowed demands; what a verb needs, as a list of points
 -- in a fixed order.
+--
+-- The comment on a list of points says what it means that all of them are met.
 use Rattle.std.specs.Prelude.{Bool, List, None, Some, [], false, if◌then◌else◌, is_some, length, max, nat_le, nat_lt, not, suc, true, zero, ℕ, ◌%◌, ◌&&◌, ◌*◌, ◌++◌, ◌+◌, ◌-◌, ◌/◌, ◌<◌, ◌==◌, ◌^◌, ◌||◌, ◌∷◌, ◌≡◌, ◌≢◌, ◌≤◌, ◌⊎◌}
 use Rattle.std.specs.declared.option.Option.{Option}
 use Rattle.std.specs.List.{AllByRecursion, slice_get}
@@ -16,6 +18,7 @@ use Rattle.mu_model.specs.Picks.{first_value, highest_accepted, is_fresh_batch, 
 use Rattle.mu_model.specs.Placing.{fuo_read_or_raised, is_caught_up_at, is_within_ring, looked_before_entering, reaches_head}
 use Rattle.mu_model.specs.Regions.{fence_closing}
 use Rattle.mu_model.specs.Room.{last_head, reserve}
+use Rattle.mu_model.specs.Scores.{least_below}
 use Rattle.mu_model.specs.Serving.{drained_since_close, has_unserved_ask, is_least_waiting, looked_since_close, must_drain}
 use Rattle.mu_model.specs.declared.reason.Reason.{Reason}
 
@@ -24,7 +27,7 @@ abbrev pub last_ask : ℕ → ℕ → Verb → Option ℕ
 last_ask r by (Verb.Ask p) = if by == r then Some p else None
 last_ask r by _ = None
 
--- r doesn't lack what the reason says: the point of what is allowed that the reason speaks of holds
+-- after `past` r meets a point of what is allowed; the reason is what is told if it doesn't
 abbrev pub IsMet : Config → ℕ → List Event → Reason → Type 0
 IsMet c r past (Reason.Budget steps) = length past < c.budget
 IsMet c r past (Reason.NoReplica q) = r < c.replicas
@@ -102,15 +105,13 @@ abbrev pub each_below : ℕ → (ℕ → List Reason) → List Reason
 each_below zero of_each = []
 each_below (suc n) of_each = each_below n of_each ++ of_each n
 
--- the one that was found, or n if it passes
-abbrev pub or_last : ℕ → (ℕ → Bool) → Option ℕ → Option ℕ
-or_last n test (Some found) = Some found
-or_last n test None = if test n then Some n else None
+-- the number, if it is below the limit
+abbrev pub if_below : ℕ → ℕ → Option ℕ
+if_below limit n = if nat_lt n limit then Some n else None
 
--- the first number below n that passes, if any does
+-- the least number below n that passes, if any does
 abbrev pub first_below : ℕ → (ℕ → Bool) → Option ℕ
-first_below zero test = None
-first_below (suc n) test = or_last n test (first_below n test)
+first_below n test = if_below n (least_below n test)
 
 -- the last position of a log
 abbrev pub last_position : Config → ℕ
@@ -122,7 +123,7 @@ least_number r above =
     if nat_lt 7 above && nat_lt above (above / 8 * 8 + r) then above / 8 * 8 + r
     else above / 8 * 8 + r + 8
 
--- all that r read in the leadership and put is at most this
+-- the greatest of the minimums that r read in its leadership and of the numbers that it ever put
 abbrev pub greatest_used : ℕ → List Event → ℕ
 greatest_used r past =
     max (greatest (λ e. any_min_read r e.by e.verb e.answer) (leadership r past))
@@ -130,15 +131,15 @@ greatest_used r past =
 
 -- the number, if it has 32 bits
 abbrev pub of_32_bits : ℕ → Option ℕ
-of_32_bits n = if nat_lt n (2 ^ 32) then Some n else None
+of_32_bits n = if_below (2 ^ 32) n
 
 -- the number to put: that of the leadership, or the least above this that a new one may take
 abbrev pub right_number : ℕ → ℕ → Option ℕ → Option ℕ
 right_number r above (Some own) = Some own
 right_number r above None = of_32_bits (least_number r above)
 
--- the word is that of the row as the job spells it; client and number of the row's command are told
--- too
+-- x is word k of row j as the job spells it; the reason also tells client and number of the row's
+-- command
 abbrev pub spelled_word : Config → ℕ → ℕ → ℕ → Reason
 spelled_word c j k x =
     Reason.OtherWord j k x (config_word c j k) (client_of c j) (number_of c j)
@@ -147,45 +148,44 @@ spelled_word c j k x =
 abbrev pub clear_members : Config → ℕ → List Reason
 clear_members c i = each_below c.replicas (λ p. Reason.PastSeen p i ∷ [])
 
--- the words of r's own row j that are to be written for the value v
+-- r has written all words of its row j, which the value v needs
 abbrev pub row_written : ℕ → ℕ → List Reason
 row_written v j = each_below 12 (λ k. Reason.NotWritten v j k ∷ [])
 
--- the rows of the batch v are written in full
+-- r has written all rows of the batch v
 abbrev pub batch_written : Config → ℕ → List Reason
 batch_written c v =
     each_below (rest_of c (v % 4096) + 1) (λ t. row_written v (v % 4096 + t))
 
--- the words of the row of v are there: a head h above `count` applied entries needs them
+-- r has all words of the row of v, which a head h above `count` applied entries needs
 abbrev pub row_there : ℕ → ℕ → ℕ → List Reason
 row_there h count v = each_below 12 (λ k. Reason.NoRowWord h count v k ∷ [])
 
--- the rows of the entry are there, if one is known
+-- r has the rows of the entry, if one is known and it is a batch
 abbrev pub entry_there : Config → ℕ → ℕ → Option ℕ → List Reason
 entry_there c h count None = []
 entry_there c h count (Some v) =
     if is_batch c v then each_below (rest_of c (v % 4096) + 1) (λ t. row_there h count (v + t))
     else []
 
--- h entries are applied; if they aren't, the first one that isn't applied lacks a word, or isn't
--- known
+-- h entries are applied: if only `count` are, the points name what the next one lacks
 abbrev pub applied_to : Config → ℕ → List Event → ℕ → ℕ → List Reason
 applied_to c r past h count =
     if nat_le h count then []
     else (entry_there c h count (slice_get (known c r past) count)
     ++ Reason.NotApplied h count ∷ [])
 
--- the heads of all replicas leave room for position i and for `free` more
+-- the head of each replica that isn't marked leaves room for position i and for `free` more
 abbrev pub rooms : Config → ℕ → List Event → ℕ → ℕ → List Reason
 rooms c r past i free =
     each_below c.replicas (λ q. Reason.NoRoom i free q (last_head r q past) ∷ [])
 
--- the same of the reserve, for a fresh batch
+-- if v is a fresh batch, the heads leave room for position i and for the whole reserve
 abbrev pub reserved_rooms : Config → ℕ → List Event → ℕ → ℕ → List Reason
 reserved_rooms c r past i v =
     if is_fresh_batch c r past i v then rooms c r past i (reserve c) else []
 
--- the batch v is one of r's own, written in full, and the next of its client
+-- v, if it is a batch, is one of r's own, is written in full, and is the next of its client
 abbrev pub later_points : Config → ℕ → List Event → ℕ → List Reason
 later_points c r past v =
     Reason.NotOwn v
@@ -195,21 +195,22 @@ later_points c r past v =
     (command_count c (client_of c (v % 4096)) (known c r past))
     ∷ [])
 
--- v is such a batch
+-- v is a batch of r's own that is written in full, and the next of its client
 abbrev pub batch_points : Config → ℕ → List Event → ℕ → List Reason
 batch_points c r past v = Reason.NoBatch v ∷ later_points c r past v
 
--- v is such a batch, or a mark that r may offer
+-- v is a mark that r may offer, or a batch that meets the points of one
 abbrev pub offers : Config → ℕ → List Event → ℕ → List Reason
 offers c r past v = if is_mark_offer c r past v then [] else batch_points c r past v
 
--- the looks show the value in the entry of the largest number, or no entry, and v may be offered
+-- v is the value of the entry of the largest number that the looks show; if they show none, r may
+-- offer v
 abbrev pub picks : Config → ℕ → List Event → ℕ → ℕ → Option (ℕ × ℕ) → List Reason
 picks c r past i v (Some entry) = Reason.OtherAccepted i v entry.0 entry.1 ∷ []
 picks c r past i v None = offers c r past v
 
--- v is the value of the first put at i, and no region joined since; if none was made, all members
--- were looked at and the pick allows v
+-- v is the value of the first put at i, and no region joined since; if none was made, r looked at all
+-- members, and may pick v
 abbrev pub proposals : Config → ℕ → List Event → ℕ → ℕ → Option ℕ → List Reason
 proposals c r past i v (Some first) = Reason.OtherFirst i v first ∷ Reason.JoinedSince i ∷ []
 proposals c r past i v None =
@@ -230,7 +231,8 @@ abbrev pub values : Config → ℕ → List Event → ℕ → ℕ → List Reaso
 values c r past i v =
     if is_value (slice_get (known c r past) i) v then [] else new_values c r past i v
 
--- r leads under the number b and has entered p for the place of i, which it looked at before
+-- r leads a quorum under the number b, and has entered its member p, which reaches i, for the place
+-- of i, after a look at i
 abbrev pub puts : Config → ℕ → List Event → ℕ → ℕ → ℕ → List Reason
 puts c r past p i b =
     Reason.OutOfReach p i ∷ Reason.Over ∷ Reason.NoQuorum ∷ Reason.NotMember p

@@ -18,7 +18,7 @@ use Rattle.mu_model.specs.Steps.{is_asking, is_asking_verb, is_beat, is_beat_rea
 use Rattle.mu_model.specs.Stretches.{is_odd}
 use Rattle.mu_detect.specs.Stands.{last_count}
 use Rattle.mu_detect.proofs.Leaders.{alive_leads, may_lead, own_leads}
-use Rattle.mu_detect.proofs.Least.{least_found}
+use Rattle.mu_model.proofs.Least.{least_found}
 use Rattle.mu_grant.specs.Pace.{host_place}
 use Rattle.mu_grant.specs.Stands.{is_of_place}
 use Rattle.mu_lead.specs.Beside.{leads_at}

@@ -39,7 +39,7 @@ high word kept m lt low none =
     let more : 2 ^ (8 * kept) ≤ 2 ^ (8 * m) = pow_mono (omega (arith, low)) in
     past word m lt (omega (arith, small, more))
 
--- a word of zeros
+-- each byte of a word of zeros is zero
 pub no-byte : (m : ℕ) → get_or (to_le_bytes w64 0) m 0 ≡ 0
 no-byte zero = refl
 no-byte (suc zero) = refl
@@ -51,14 +51,14 @@ no-byte (suc (suc (suc (suc (suc (suc zero)))))) = refl
 no-byte (suc (suc (suc (suc (suc (suc (suc zero))))))) = refl
 no-byte (suc (suc (suc (suc (suc (suc (suc (suc m)))))))) = refl
 
--- zeros
+-- each number of a list of zeros is zero
 pub zeros : (n k : ℕ) → get_or {A = ℕ} (replicate n 0) k 0 ≡ 0
 zeros n k = elim (cases_Bool (nat_lt k n)) [
   | inl within ↦ get_or-replicate n k 0 0 (ltb-true k n within)
   | inr beyond ↦ let late = ltb-false k n beyond in get_or_past (replicate n 0) k 0 (omega (arith, late, length-replicate {A = ℕ} n 0))
 ]
 
--- all words are read, and zeros stand behind
+-- if all words are read and zeros stand behind, each byte is that of its word
 pub bytes-read : (words back : List ℕ) (index : ℕ) → length words ≤ index
     → ((k : ℕ) → k < 8 * index → get_or back k 0 ≡ get_or (to_le_bytes w64 (get_or words (k / 8) 0)) (k % 8) 0)
     → ((k : ℕ) → 8 * index ≤ k → get_or back k 0 ≡ 0)
@@ -70,7 +70,7 @@ bytes-read words back index all done rest i = elim (cases_Bool (nat_lt i (8 * in
       rest i late ∙ sym (ap (λ w. get_or (to_le_bytes w64 w) (i % 8) 0) (get_or_past words (i / 8) 0 (omega (arith, late, all))) ∙ no-byte (i % 8))
 ]
 
--- sums of eight bytes
+-- two sums of eight bytes that are equal one by one are equal
 same-sum : (s n a b c d e f g h i j k l m o p q : ℕ)
     → s ≡ a + 256 * b + 65536 * c + 16777216 * d + 4294967296 * e + 1099511627776 * f + 281474976710656 * g + 72057594037927936 * h
     → a ≡ i → b ≡ j → c ≡ k → d ≡ l → e ≡ m → f ≡ o → g ≡ p → h ≡ q
@@ -131,18 +131,18 @@ spelled-clear words bytes small same j there few =
           let is = get_or_past (take n xs) i 0 (omega (arith, most, late)) in omega (arith, is)
     ]
 
--- a part of words
+-- a part of words has the words that stand there
 pub part_at : (words : List ℕ) (from count j : ℕ) → j < count → get_or (take count (drop from words)) j 0 ≡ get_or words (from + j) 0
 part_at words from count j lt = get_or-take count (drop from words) j 0 lt ∙ get_or-drop from words j 0
 
 pub part_long : (words : List ℕ) (from count : ℕ) → from + count ≤ length words → length (take count (drop from words)) ≡ count
 part_long words from count fits = let long = length-drop from words in let most = length-take count (drop from words) in omega (arith, long, most, fits)
 
--- what is so of a word that is read off words
+-- the word is one of this length, and its bytes stand in the words from a place on
 abbrev pub IsHeld : (words : List ℕ) (from count most len : ℕ) → List ℕ → Type 0
 IsHeld words from count most len word = IsWord most word × (len ≡ length word) × ((j : ℕ) → j < count → get_or words (from + j) 0 ≡ word_of word j)
 
--- what a maker of words makes of the bytes that words hold
+-- if a maker of words makes a word of the bytes that words hold, they hold this word
 pub maker_holds : (result : Option (List ℕ)) (most : ℕ) (words back part : List ℕ) (len : ℕ)
     → (IsSome result ↔ IsWord most part) → IfSome result (λ w. w ≡ part) → part ≡ take len back → length part ≡ len
     → ((j : ℕ) → j < length words → get_or words j 0 ≡ word_of (take len back) j)
@@ -159,7 +159,7 @@ held_in_whole (Some w) most words from count len fits holds =
     (holds.0, holds.1, λ j lt. sym (part_at words from count j lt) ∙ holds.2 j (let long = part_long words from count fits in omega (arith, long, lt)))
 held_in_whole None most words from count len fits holds = tt
 
--- the front of bytes
+-- a range from 0 on is the front
 pub front : (back part : List ℕ) (len : ℕ) → part ≡ slice_range back 0 len → part ≡ take len back
 front back part len is = is ∙ ap (λ n. take n back) (omega arith)
 
@@ -176,7 +176,7 @@ part-fits words from count fit j = elim (cases_Bool (nat_lt j count)) [
       omega (arith, is)
 ]
 
--- eight words of zeros
+-- eight words that are clear from the start on are zeros
 pub clear-none : (words : List ℕ) → length words ≡ 12 → AreClear (take 8 (drop 4 words)) 0 → (j : ℕ) → j < 8 → get_or words (4 + j) 0 ≡ 0
 clear-none words long clear j lt =
     let part = take 8 (drop 4 words) in

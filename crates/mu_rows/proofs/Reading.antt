@@ -1,5 +1,5 @@
 -- What a row says of the command that it spells.
-use Rattle.std.proofs.Common.{◌≡◌, ◌↔◌, true, false, Option, None, Some, subst, add-zero, ℕ, zero, suc, ◌+◌, ◌*◌, ◌<◌, ◌≤◌, ◌/◌, ◌%◌, List, [], ◌∷◌, length, map, take, drop, get_or, refl, sym, ap, ◌∙◌, arith, length-take, get_or-take, inl, inr}
+use Rattle.std.proofs.Common.{◌≡◌, ◌↔◌, Option, None, Some, subst, add-zero, ℕ, zero, suc, ◌+◌, ◌*◌, ◌<◌, ◌≤◌, ◌/◌, ◌%◌, List, [], ◌∷◌, length, map, take, drop, get_or, refl, sym, ap, ◌∙◌, arith, length-take, get_or-take, inl, inr}
 use Rattle.std.specs.Prelude.{nat_lt}
 use Rattle.std.specs.Option.{IsSome, IfSome}
 use Rattle.std.proofs.lemmas.Bool.{cases_Bool, false≢true, ltb-false, ltb-true}
@@ -15,7 +15,7 @@ use Rattle.kv_store.specs.declared.command.Arguments.{Arguments}
 use Rattle.kv_store.specs.declared.command.Op.{Op}
 use Rattle.kv_store.specs.Kinds.{parts_of, shape_of, shape_of_kind}
 use Rattle.kv_store.proofs.PartsBack.{code-small, same-kind, same-parts, shape-parts}
-use Rattle.mu_rows.specs.Rows.{word_of, code_of, first_of, second_of, first_text, second_text, head_word, argument_word, text_word, spelled, AreArguments, HasWords, IsCommand}
+use Rattle.mu_rows.specs.Rows.{word_of, code_of, first_of, second_of, first_text, second_text, head_word, argument_word, text_word, spelled, AreTexts, HasWords, IsCommand}
 use Rattle.mu_rows.specs.Saying.{SaysOp}
 use Rattle.std.proofs.Math.Nat.{div-div-eq-div-mul}
 use Rattle.mu_rows.proofs.Bytes.{word_of-bytes}
@@ -83,14 +83,14 @@ words-tell most a b count word_a word_b long fits same =
     ∙ ap (λ w. get_or (to_le_bytes w64 w) (i % 8) 0) (at (i / 8) (omega arith))
     ∙ byte-back b (below most b word_b) i)
 
--- what the fields of a head word hold
+-- the fields of the head word have room for the number and the lengths of an operation
 record Small (op : Op) : Type 0 where
   pub code : code_of op < 256
   pub key : IsWord 24 (key_of op)
   pub first : length (first_text op) ≤ 64
   pub second : length (second_text op) ≤ 64
 
-small_texts : (a : Arguments) → AreArguments a → (length (first_of a) ≤ 64) × (length (second_of a) ≤ 64)
+small_texts : (a : Arguments) → AreTexts a → (length (first_of a) ≤ 64) × (length (second_of a) ≤ 64)
 small_texts Arguments.Nothing h = (omega arith, omega arith)
 small_texts (Arguments.Text text) h = (h.fits, omega arith)
 small_texts (Arguments.Texts first second) h = (h.0.fits, h.1.fits)
@@ -202,7 +202,7 @@ maker_gives_command (Some x) client number op r allowed same c n o is = ap Some 
 maker_gives_command None client number op r allowed same c n o is = absurd (false≢true (allowed.1 (rw (c, n, o) is)))
 
 -- arguments of one shape with the same words are the same
-same-arguments : (a b : Arguments) → AreArguments a → AreArguments b → AreShort a → AreShort b → shape_of a ≡ shape_of b
+same-arguments : (a b : Arguments) → AreTexts a → AreTexts b → AreShort a → AreShort b → shape_of a ≡ shape_of b
     → length (first_of a) ≡ length (first_of b) → length (second_of a) ≡ length (second_of b)
     → map (argument_word a) (range_with_len 0 8) ≡ map (argument_word b) (range_with_len 0 8) → a ≡ b
 same-arguments Arguments.Nothing Arguments.Nothing wa wb sa sb shape fl sl ts = refl

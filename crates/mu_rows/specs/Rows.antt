@@ -15,7 +15,7 @@ number_of (byte ∷ bytes) = byte + 256 * number_of bytes
 unfoldable pub word_of : List ℕ → ℕ → ℕ
 word_of bytes index = number_of (take 8 (drop (8 * index) bytes))
 
--- the number of an operation
+-- the number of an operation in a row
 abbrev pub code_of : Op → ℕ
 code_of op = code_of_kind (parts_of op).kind
 
@@ -25,31 +25,33 @@ first_of Arguments.Nothing = []
 first_of (Arguments.Text text) = text
 first_of (Arguments.Texts first second) = first
 
--- the second one
+-- the second text of arguments, or nothing
 abbrev pub second_of : Arguments → List ℕ
 second_of (Arguments.Texts first second) = second
 second_of _ = []
 
--- one of their eight words, by its index: two texts have four each
+-- one of the eight words of arguments, by its index: two texts have four each
 abbrev pub argument_word : Arguments → ℕ → ℕ
 argument_word Arguments.Nothing index = 0
 argument_word (Arguments.Text text) index = word_of text index
 argument_word (Arguments.Texts first second) index =
     if nat_lt index 4 then word_of first index else word_of second (index - 4)
 
--- arguments are texts
-abbrev pub AreArguments : Arguments → Type 0
-AreArguments Arguments.Nothing = ⊤
-AreArguments (Arguments.Text text) = IsText text
-AreArguments (Arguments.Texts first second) = IsText first × IsText second
+-- all arguments are texts
+abbrev pub AreTexts : Arguments → Type 0
+AreTexts Arguments.Nothing = ⊤
+AreTexts (Arguments.Text text) = IsText text
+AreTexts (Arguments.Texts first second) = IsText first × IsText second
 
--- the same of an operation
+-- the first text of an operation, or nothing
 abbrev pub first_text : Op → List ℕ
 first_text op = first_of (parts_of op).arguments
 
+-- the second text of an operation, or nothing
 abbrev pub second_text : Op → List ℕ
 second_text op = second_of (parts_of op).arguments
 
+-- one of the eight words of its arguments, by its index
 abbrev pub text_word : Op → ℕ → ℕ
 text_word op = argument_word (parts_of op).arguments
 
@@ -73,11 +75,11 @@ spelled request rest =
     ∷ text_word request.op 4 ∷ text_word request.op 5 ∷ text_word request.op 6
     ∷ text_word request.op 7 ∷ []
 
--- what an operation has is a key, and arguments
+-- the key of the operation is one, and its arguments are texts
 abbrev pub HasWords : Op → Type 0
-HasWords op = IsKey (key_of op) × AreArguments (parts_of op).arguments
+HasWords op = IsKey (key_of op) × AreTexts (parts_of op).arguments
 
--- a request that is a command: one that the store may be asked for
+-- the request is a command: one that the store may be asked for
 pub record IsCommand (request : Request) : Type 0 where
   pub allowed : IsAllowed request.client request.number request.op
   pub words : HasWords request.op

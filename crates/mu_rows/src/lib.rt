@@ -2,7 +2,7 @@
 #![tactic(auto)]
 
 ghost use Rattle.std.specs.Prelude.{◌≡◌, ◌<◌, ◌≤◌, ◌/◌, ◌%◌, ◌^◌, length, slice_index, slice_index_or};
-ghost use Rattle.mu_rows.specs.Rows.{word_of, first_of, second_of, head_word, argument_word, spelled, AreArguments, HasWords, IsCommand};
+ghost use Rattle.mu_rows.specs.Rows.{word_of, first_of, second_of, head_word, argument_word, spelled, AreTexts, HasWords, IsCommand};
 
 mod read;
 
@@ -64,18 +64,18 @@ pub fn is_command(command: &Command)
     has_words(&command.op);
 }
 
-/// What an operation has is a key, and arguments. It does nothing.
+/// The key of an operation is one, and its arguments are texts. It does nothing.
 fn has_words(op: &Op)
     ensures { HasWords op.now }
 {
     let parts = op.parts();
     parts.key.as_bytes();
-    are_arguments(&parts.arguments);
+    are_texts(&parts.arguments);
 }
 
-/// What arguments are. It does nothing.
-fn are_arguments(arguments: &Arguments)
-    ensures { AreArguments arguments.now }
+/// All arguments are texts. It does nothing.
+fn are_texts(arguments: &Arguments)
+    ensures { AreTexts arguments.now }
 {
     match arguments {
         Arguments::Nothing => {}

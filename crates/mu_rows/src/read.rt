@@ -7,10 +7,10 @@ ghost use Rattle.kv_store.specs.Kinds.{shape_of};
 ghost use Rattle.kv_store.specs.Words.{IsKey, IsText};
 ghost use Rattle.kv_store.specs.declared.command.Arguments.{Arguments as SomeArguments};
 ghost use Rattle.mu_rows.specs.Rows.{word_of, spelled, IsCommand};
-ghost use Rattle.mu_rows.specs.Saying.{AreClear, SaysArguments, SaysOp, SpellArguments};
+ghost use Rattle.mu_rows.specs.Saying.{AreClear, SaysArguments, SaysOp, SaysShortArguments};
 
 use crate::{CLIENT, FIRST_LENGTH, KEY_LENGTH, NUMBER, REST, SECOND_LENGTH};
-use kv_store::{Arguments, Command, Key, Op, OpKind, OpShape, TEXT_BYTES, Text};
+use kv_store::{Arguments, Command, Key, Op, OpKind, OpParts, OpShape, TEXT_BYTES, Text};
 use mu_model::Row;
 
 // How many values the number of a command has in the head word, and how many each other field has.
@@ -65,13 +65,18 @@ fn op_in(words: &[u64; 12]) -> Option<Op>
 {
     let kind = OpKind::of_code(words[0] % BYTES)?;
     let key = key_in(words)?;
-    Op::of_parts(key, kind, arguments_in(words, kind.shape())?)
+    let arguments = arguments_in(words, kind.shape())?;
+    Op::of_parts(OpParts {
+        kind,
+        key,
+        arguments,
+    })
 }
 
 /// The arguments of this shape that these words spell, if they do.
 fn arguments_in(words: &[u64; 12], shape: OpShape) -> Option<Arguments>
     ensures some { IfSome result (λ arguments. SaysArguments words.now arguments) }
-    ensures found { (arguments : SomeArguments) → SpellArguments words.now arguments
+    ensures found { (arguments : SomeArguments) → SaysShortArguments words.now arguments
         → shape_of arguments ≡ shape → result ≡ Some arguments }
 {
     match shape {

@@ -9,10 +9,11 @@ use Rattle.std.specs.List.{All, position, position_or_len, before_first, after_f
 use Rattle.mu_text.specs.Lines.{lines, words}
 use Rattle.mu_text.specs.declared.TheConstants.{LINE_FEED, SPACE}
 
--- the bytes that are no line feed
+-- the byte ends a line
 abbrev ends : ℕ → Bool
 ends byte = byte == LINE_FEED
 
+-- the byte parts two words
 abbrev parts : ℕ → Bool
 parts byte = byte == SPACE
 
@@ -35,18 +36,18 @@ missing : (b : Bool) (n : ℕ) → cond b (Some n) None ≡ None → b ≡ false
 missing true n e = cc
 missing false n e = refl
 
--- if a byte passes, its place
+-- if a byte passes, its place is that of the first one, and not past the end
 place : (p : ℕ → Bool) (bytes : List ℕ) (end : ℕ) → position p bytes ≡ Some end → (position_or_len p bytes ≡ end) × (end < length bytes)
 place p bytes end e = let f = found (nat_lt (position_or_len p bytes) (length bytes)) (position_or_len p bytes) end e in grind (arith, common_steps, f)
 
--- if none passes, each fails
+-- if no element is found that passes, each fails
 pub none_passes : {X : Type 0} (p : X → Bool) (xs : List X) → position p xs ≡ None → All (λ x. p x ≡ false) xs
 none_passes p xs e k d below =
     let m : nat_lt (position_or_len p xs) (length xs) ≡ false = missing _ (position_or_len p xs) e in
     let l : length xs ≤ position_or_len p xs = grind (arith, common_steps, m) in
     fails_before_first p xs k d (omega arith)
 
--- all elements from a place on
+-- the elements from a place on are as many as are left there
 pub all_after : {X : Type 0} (xs : List X) (n : ℕ) → take (length xs - n) (drop n xs) ≡ drop n xs
 all_after xs n = grind (arith, common_steps)
 

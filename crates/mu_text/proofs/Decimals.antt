@@ -38,7 +38,7 @@ no_leading_zero : (n : ℕ) → n < 2 ^ 64 → has_leading_zero (decimal n) ≡ 
 no_leading_zero zero fits = ap has_leading_zero (decimal_digit 0 (omega arith))
 no_leading_zero (suc n) fits = no_zero (decimal (suc n)) (first_decimal (suc n) (omega arith) fits)
 
--- it is a number of at most this many digits
+-- the digits of a number are a decimal number of at most as many digits
 pub is_decimal-decimal : (most n : ℕ) → 0 < most → n < 10 ^ most → n < 2 ^ 64 → is_decimal most (decimal n) ≡ true
 is_decimal-decimal most n some few fits =
     let short : length (decimal n) ≤ most = length-decimal-le most n some few fits in
@@ -50,7 +50,7 @@ is_decimal-decimal most n some few fits =
     ∙ ap (λ b. b && not (has_leading_zero (decimal n))) (decimal-tells n fits).0
     ∙ ap not (no_leading_zero n fits)
 
--- the number that they spell is this one
+-- the digits of a number of a job spell it
 pub number_of-decimal : (n : ℕ) → n < 10000000 → number_of (decimal n) ≡ Some n
 number_of-decimal n few =
     ap (λ b. cond b (Some (value_of (decimal n))) None) (is_decimal-decimal 7 n (omega arith) few (omega arith))
@@ -77,7 +77,7 @@ within-is low high n least most =
     let second : nat_le n high ≡ true = grind (arith, nat_tests) in
     ap (λ b. cond (b && nat_le n high) (Some n) None) first ∙ ap (λ b. cond b (Some n) None) second
 
--- and one from a least to a greatest between them
+-- a number from a least to a greatest is read back between them
 pub within-decimal : (low high n : ℕ) → low ≤ n → n ≤ high → n < 10000000 → within low high (number_of (decimal n)) ≡ Some n
 within-decimal low high n least most few = ap (within low high) (number_of-decimal n few) ∙ within-is low high n least most
 

@@ -6,7 +6,7 @@ use Rattle.std.proofs.lemmas.Grind.{common_steps, pow_more}
 use Rattle.mu_text.specs.Numbers.{is_digit, value_of}
 use Rattle.mu_text.specs.declared.TheConstants.{ZERO}
 
--- one more digit
+-- one digit more makes the value ten times as large, and adds what the digit is worth
 pub value_of-push : (digits : List ℕ) (digit : ℕ) → value_of (digits ++ digit ∷ []) ≡ value_of digits * 10 + (digit - ZERO)
 value_of-push [] digit = omega arith
 value_of-push (first ∷ digits) digit =
@@ -16,7 +16,7 @@ value_of-push (first ∷ digits) digit =
     let front : (first - ZERO) * 10 ^ length (digits ++ digit ∷ []) ≡ (first - ZERO) * 10 ^ length digits * 10 = ap (λ n. (first - ZERO) * n) power ∙ omega arith in
     omega (arith, rest, front)
 
--- the digits up to the one at `i`
+-- the same of the digits up to the one at `i`
 pub value_of-take : (word : List ℕ) (i : ℕ) → i < length word → value_of (take (i + 1) word) ≡ value_of (take i word) * 10 + (get_or word i 0 - ZERO)
 value_of-take word i below = ap value_of (grind (arith, common_steps, take-suc word i 0 below)) ∙ value_of-push (take i word) (get_or word i 0)
 
@@ -28,7 +28,7 @@ small i value below few = omega (arith, pow-le-pow_right {n = 10} (lit≤ tt) fe
 pub below_power : (i most value : ℕ) → value + 1 ≤ 10 ^ i → i ≤ most → value < 10 ^ most
 below_power i most value below few = omega (arith, pow-le-pow_right {n = 10} (lit≤ tt) few)
 
--- a value that is there
+-- if a test leaves a value, the test passes and the value is the one that it guards
 pub chosen : (b : Bool) (n value : ℕ) → Some value ≡ cond b (Some n) None → (b ≡ true) × (value ≡ n)
 chosen true n value e = (refl, cc)
 chosen false n value e = cc

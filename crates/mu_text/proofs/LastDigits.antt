@@ -3,7 +3,7 @@ use Rattle.std.proofs.Common.{◌≡◌, ℕ, ◌+◌, ◌/◌, ◌%◌, ◌^◌
 use Rattle.std.specs.Fmt.{decimal}
 use Rattle.std.proofs.lemmas.Fmt.{decimal_digit, decimal_step}
 
--- the last digit behind the ones before it, which are none below ten
+-- the digits of a number are its last one behind those before it, which are none below ten
 pub decimal_behind : (old mid : List ℕ) (n : ℕ) → n < 2 ^ 64 → ((10 ≤ n) × (mid ≡ old ++ decimal (n / 10))) ⊎ ((n < 10) × (mid ≡ old))
     → mid ++ (48 + n % 10) ∷ [] ≡ old ++ decimal n
 decimal_behind old mid n small (inl p) =

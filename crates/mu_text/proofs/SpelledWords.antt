@@ -41,7 +41,7 @@ Spells-word word one = record {
   before = λ more. slice_split_at (λ byte. byte == SPACE) word SPACE more (uncut word one) refl;
 }
 
--- a space stands between two texts
+-- two texts with a space between them spell the words of both
 pub Spells-more : (first second : List ℕ) (front back : List (List ℕ)) → Spells first front → Spells second back → Spells (first ++ SPACE ∷ second) (front ++ back)
 Spells-more first second front back a b = record {
   one_line = All-append (λ byte. LINE_FEED < byte) first (SPACE ∷ second) a.one_line (All-cons (λ byte. LINE_FEED < byte) SPACE second (omega arith) b.one_line);
@@ -51,18 +51,18 @@ Spells-more first second front back a b = record {
       ∙ ap (λ back. front ++ back) (b.before more) ∙ sym (append_assoc front back (words more));
 }
 
--- the same, if the space was added to the first text before the second
+-- the same holds if the space was added to the first text before the second
 pub Spells-join : (first second : List ℕ) (front back : List (List ℕ)) → Spells first front → Spells second back → Spells ((first ++ SPACE ∷ []) ++ second) (front ++ back)
 Spells-join first second front back a b = subst (λ text. Spells text (front ++ back)) (sym (append_assoc first (SPACE ∷ []) second)) (Spells-more first second front back a b)
 
--- one more word in front
+-- a text with a word in front of it spells one word more
 pub Spells-then : (word text : List ℕ) (spelled : List (List ℕ)) → IsOneWord word → Spells text spelled → Spells (word ++ SPACE ∷ text) (word ∷ spelled)
 Spells-then word text spelled one rest = Spells-more word text (word ∷ []) spelled (Spells-word word one) rest
 
 above_space : (byte : ℕ) → nat_lt SPACE byte ≡ true → SPACE < byte
 above_space byte test = grind (arith, nat_tests)
 
--- a word that is written out
+-- a text whose bytes all stand above the space is one word
 pub written : (word : List ℕ) → list_all (λ byte. nat_lt SPACE byte) word ≡ true → IsOneWord word
 written [] all = All-nil (λ byte. SPACE < byte)
 written (byte ∷ word) all =

@@ -12,7 +12,7 @@ use Rattle.mu_text.proofs.Digits.{chosen, value_of-take}
 whole : (word : List ℕ) → length word ≡ 20 → take (19 + 1) word ≡ word
 whole word long = grind (arith, common_steps)
 
--- the last digit
+-- the last one of twenty digits
 abbrev last : List ℕ → ℕ
 last word = get_or word 19 0
 
@@ -77,12 +77,12 @@ within_64 n small = grind (arith, nat_tests)
 beyond_64 : (n : ℕ) → 2 ^ 64 ≤ n → nat_lt n (2 ^ 64) ≡ false
 beyond_64 n large = grind (arith, nat_tests)
 
--- with both it is the number, if that has 64 bits
+-- the value of both parts is the number of the word, if it has 64 bits
 pub both-fit : (word : List ℕ) (first digit value : ℕ) → length word ≡ 20 → Some first ≡ front word → Some digit ≡ worth word → value ≡ first * 10 + digit → value < 2 ^ 64 → Some value ≡ of_64 word
 both-fit word first digit value long is_first is_last is small =
     sym (both-there word first digit long is_first is_last ∙ ap (λ n. below (2 ^ 64) (Some n)) (sym is) ∙ ap (λ t. cond t (Some value) None) (within_64 value small))
 
--- and none if it hasn't
+-- the word has no number if the value has more than 64 bits
 pub both-large : (word : List ℕ) (first digit value : ℕ) → length word ≡ 20 → Some first ≡ front word → Some digit ≡ worth word → value ≡ first * 10 + digit → 2 ^ 64 ≤ value → None ≡ of_64 word
 both-large word first digit value long is_first is_last is large =
     sym (both-there word first digit long is_first is_last ∙ ap (λ n. below (2 ^ 64) (Some n)) (sym is) ∙ ap (λ t. cond t (Some value) None) (beyond_64 value large))

@@ -1,7 +1,7 @@
 use Rattle.std.proofs.Common.{arith, sym, subst, ◌∙◌, ◌<◌, ◌≡◌, true, false}
 use Rattle.mu_model.specs.Scores.{least_below, score}
 use Rattle.mu_detect.proofs.Leaders.{alive_leads, failed_follows, may_lead, own_leads}
-use Rattle.mu_detect.proofs.Least.{least_found, least_next}
+use Rattle.mu_model.proofs.Least.{least_found, least_next}
 use Rattle.mu_detect.proofs.scores.Scores.leader.Goals as goal
 
 pub returns-then-alive : goal.returns-then-alive
