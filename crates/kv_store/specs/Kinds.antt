@@ -1,8 +1,8 @@
 -- kind, parts of an operation: which operations there are, with number, name and arguments of each;
 -- and an operation as its kind, its key and its arguments.
 --
--- Rows, lines and what is expected in a line go by these parts, so that a new operation is a line of
--- each table here.
+-- Rows, lines and what is expected in a line go by these parts, so that a new operation is a line
+-- of each table here.
 use Rattle.std.specs.Prelude.{ℕ, ◌==◌, List, [], ◌∷◌, codes, find, None, Some}
 use Rattle.std.specs.Str.{bytes_eq}
 use Rattle.std.specs.declared.option.Option.{Option}

@@ -186,27 +186,33 @@ note_step c r p by v past h may s = s
 pub open_noted : (c : Config) (r p : ℕ) (past : List Event) → IsLegalHistory c past → OpenNoted r p past
 open_noted c r p = legal_induction c (OpenNoted r p) (λ t g e. cc) (λ past by v h may s. note_step c r p by v past h may.may s)
 
--- what was noted at the joining is the grant under which p joined
+-- what was noted at a joining, if it is a grant, is the grant of the joining; and if nothing is told
+-- of a joining, there was none
 pub record JoinPair (o : Option (Option ℕ)) (j : Option ℕ) : Type 0 where
   pub is : (g : ℕ) → o ≡ Some (Some g) → j ≡ Some g
   pub none : o ≡ None → j ≡ None
 
+-- what r noted when p joined its leadership is the grant under which p joined
 abbrev pub JoinNoted : ℕ → ℕ → List Event → Type 0
 JoinNoted r p past = JoinPair (grant_at_joining r p past) (join_grant r p past)
 
+-- before a joining nothing is told of one
 pair_none : JoinPair None None
 pair_none = record { is = λ g e. cc; none = λ e. refl }
 
+-- a put by which a region joins keeps the pair, if what is noted then is the region's grant
 pair_lands : (grant : ℕ) (n : Option ℕ) (o : Option (Option ℕ)) (j : Option ℕ) → ((g : ℕ) → n ≡ Some g → g ≡ grant) → JoinPair o j → JoinPair (newer_or o (Some n)) (newer_or j (Some grant))
 pair_lands grant n None None f s = record { is = λ g e. ap Some (sym (f g (same_some n (Some g) e))); none = λ e. cc }
 pair_lands grant n None (Some x) f s = absurd (let e : Some x ≡ None = s.none refl in cc)
 pair_lands grant n (Some o) None f s = record { is = λ g e. (let k : None ≡ Some g = s.is g e in cc); none = λ e. cc }
 pair_lands grant n (Some o) (Some x) f s = record { is = s.is; none = λ e. cc }
 
+-- an ask keeps the pair: one that begins a leadership forgets what joined before
 pair_ask : (c : Config) (r p by q : ℕ) (past : List Event) → JoinNoted r p past → (t : Bool) → is_first_ask r by (Verb.Ask q) ≡ t → JoinNoted r p (event_after c past by (Verb.Ask q) ∷ past)
 pair_ask c r p by q past s true h = rw h pair_none
 pair_ask c r p by q past s false h = rw h s
 
+-- when a number of r lands at p, what r has noted of p is the grant of p
 lands_noted : (c : Config) (r p by q b : ℕ) (past : List Event) → IsLegalHistory c past → Needs c by (part by past) (Verb.PutMin q b) → put_answer (drained by q past) ≡ Answer.Done → (by == r) ≡ true → (q == p) ≡ true → (g : ℕ) → noted_grant r p past ≡ Some g → g ≡ fence_grant p past
 lands_noted c r p by q b past h may e hx hy g n =
     let at_r = subst (λ z. Needs c z (part z past) (Verb.PutMin q b)) (eqb-true by r hx) may in
@@ -214,6 +220,7 @@ lands_noted c r p by q b past h may e hx hy g n =
     let d = subst (λ z. drained r z past ≡ false) (eqb-true q p hy) (subst (λ z. drained z q past ≡ false) (eqb-true by r hx) (put_done_undrained (drained by q past) e)) in
     open_noted c r p past h Target.Min g (sym (open_target-part r p past) ∙ at_p.1.1.0) refl d n
 
+-- a put of a number keeps the pair
 pair_put : (c : Config) (r p by q b : ℕ) (past : List Event) → IsLegalHistory c past → Needs c by (part by past) (Verb.PutMin q b) → JoinNoted r p past
     → (a : Answer) → put_answer (drained by q past) ≡ a → (x : Bool) → (by == r) ≡ x → (y : Bool) → (q == p) ≡ y
     → JoinNoted r p (record { by = by; verb = Verb.PutMin q b; answer = a } ∷ past)
@@ -223,11 +230,13 @@ pair_put c r p by q b past h may s Answer.Done e true hx false hy = rw (hx, hy) 
 pair_put c r p by q b past h may s Answer.Done e false hx y hy = rw hx s
 pair_put c r p by q b past h may s a e x hx y hy = s
 
+-- each step keeps the pair
 pair_step : (c : Config) (r p by : ℕ) (v : Verb) (past : List Event) → IsLegalHistory c past → Needs c by (part by past) v → JoinNoted r p past → JoinNoted r p (event_after c past by v ∷ past)
 pair_step c r p by (Verb.Ask q) past h may s = pair_ask c r p by q past s (is_first_ask r by (Verb.Ask q)) refl
 pair_step c r p by (Verb.PutMin q b) past h may s = pair_put c r p by q b past h may s (put_answer (drained by q past)) refl (by == r) refl (q == p) refl
 pair_step c r p by v past h may s = s
 
+-- in a legal history what r noted when p joined is the grant under which p joined
 pub join_noted : (c : Config) (r p : ℕ) (past : List Event) → IsLegalHistory c past → JoinNoted r p past
 join_noted c r p = legal_induction c (JoinNoted r p) pair_none (λ past by v h may s. pair_step c r p by v past h may.may s)
 

@@ -75,8 +75,8 @@ fn found(verb: Option<Verb>, text: &[u8]) -> Option<(Verb, Answer)>
     Some((verb?, answer_of(text)?))
 }
 
-/// The step of a verb with this name, from what follows the name. It isn't inlined, so that a beat is
-/// read without what other lines want.
+/// The step of a verb with this name, from what follows the name. It isn't inlined, so that a beat
+/// is read without what other lines want.
 #[inline(never)]
 fn step_named(name: &[u8], text: &[u8]) -> Option<(Verb, Answer)>
     ensures { result ≡ step_after (name.now ∷ []) (sides (words text.now)) }

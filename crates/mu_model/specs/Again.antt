@@ -1,8 +1,8 @@
--- foreign row, astray, asks again: when a leader asks again though its leadership isn't over: it saw
--- the region of a replica that it doesn't hold failed granted to another, 16 times in a row.
+-- foreign row, astray, asks again: when a leader asks again though its leadership isn't over: it
+-- saw the region of a replica that it doesn't hold failed granted to another, 16 times in a row.
 --
--- Only eager nodes do so. Each time begins a new leadership and a new row, and no limit is set to how
--- often it happens.
+-- Only eager nodes do so. Each time begins a new leadership and a new row, and no limit is set to
+-- how often it happens.
 use Rattle.std.specs.Prelude.{Bool, List, None, Some, [], false, if◌then◌else◌, is_some, nat_le, nat_lt, not, ℕ, ◌&&◌, ◌+◌, ◌==◌, ◌∷◌}
 use Rattle.std.specs.declared.option.Option.{Option}
 use Rattle.mu_model.specs.declared.config.Config.{Config}

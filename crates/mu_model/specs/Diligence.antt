@@ -1,5 +1,5 @@
--- diligent: the journal of replica r keeps thirteen rules, of how soon it does what it has to and of
--- what gives it cause.
+-- diligent: the journal of replica r keeps thirteen rules, of how soon it does what it has to and
+-- of what gives it cause.
 --
 -- A replica that may ask again keeps the same rules, but has one more cause to begin a leadership.
 use Rattle.std.specs.Prelude.{Bool, List, [], false, if◌then◌else◌, is_some, length, min, nat_le, not, true, ℕ, ◌%◌, ◌&&◌, ◌*◌, ◌++◌, ◌+◌, ◌<◌, ◌==◌, ◌||◌, ◌∷◌, ◌≡◌, ◌≢◌, ◌≤◌, ◌⊎◌}
@@ -110,7 +110,8 @@ may_ask_anew c r past =
     || (not (has_min r past)
     && all_below c.replicas (λ p. nat_le 16 (how_many (is_fencing p) (leadership r past))))))
 
--- r may begin another leadership; if the first argument is true, also since a region has gone astray
+-- r may begin another leadership; if the first argument is true, also since a region has gone
+-- astray
 abbrev pub may_begin : Bool → Config → ℕ → List Event → Bool
 may_begin false c r past = may_ask_anew c r past
 may_begin true c r past = may_ask_anew c r past || asks_again c r past

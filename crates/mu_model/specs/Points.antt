@@ -209,8 +209,8 @@ abbrev pub picks : Config → ℕ → List Event → ℕ → ℕ → Option (ℕ
 picks c r past i v (Some entry) = Reason.OtherAccepted i v entry.0 entry.1 ∷ []
 picks c r past i v None = offers c r past v
 
--- v is the value of the first put at i, and no region joined since; if none was made, r looked at all
--- members, and may pick v
+-- v is the value of the first put at i, and no region joined since; if none was made, r looked at
+-- all members, and may pick v
 abbrev pub proposals : Config → ℕ → List Event → ℕ → ℕ → Option ℕ → List Reason
 proposals c r past i v (Some first) = Reason.OtherFirst i v first ∷ Reason.JoinedSince i ∷ []
 proposals c r past i v None =

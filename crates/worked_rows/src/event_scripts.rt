@@ -212,7 +212,7 @@ const PUT_LOST: [Step; 6] = [
 pub(crate) type Script = (&'static str, usize, &'static [&'static [Step]]);
 
 /// A put of a minimum that was entered for before the region was drained and granted on misses.
-pub(crate) const LATE_EXCHANGE: Script = ("late exchange", 26, &[&START, &NUMBER_LOST]);
+const LATE_EXCHANGE: Script = ("late exchange", 26, &[&START, &NUMBER_LOST]);
 
 /// A value that landed at only one region, before this was granted on, is adopted.
 pub(crate) const ADOPTED_VALUE: Script = (
@@ -222,7 +222,7 @@ pub(crate) const ADOPTED_VALUE: Script = (
 );
 
 /// A put of a slot that was entered for before the region was drained and granted on misses.
-pub(crate) const MISSED_AFTER_DRAIN: Script = (
+const MISSED_AFTER_DRAIN: Script = (
     "missed after a drain",
     48,
     &[&START, &LEADING, &TAKEN, &PUT_LOST],

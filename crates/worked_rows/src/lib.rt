@@ -1,5 +1,6 @@
 //! The worked rows of all crates that only a call can say: figures, lists of events and texts from
-//! outside, compared with what the public calls make of them. What the program can say is in `cases/`.
+//! outside, compared with what the public calls make of them. What the program can say is in
+//! `cases/`.
 #![tactic(auto)]
 
 #[cfg(test)]

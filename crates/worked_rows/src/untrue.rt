@@ -320,7 +320,8 @@ fn is_allowed(alloc: Global, parts: &[&[Stretch]]) -> Result<bool, Fail> {
     Ok(is_legal(alloc, &config, course.events.as_slice())?)
 }
 
-/// False: what other machines of a replica look at leaves the put that is due to its leader allowed.
+/// False: what other machines of a replica look at leaves the put that is due to its leader
+/// allowed.
 #[test]
 fn look_beside_forbids_due_put(rt: HostRuntime) -> Result<(), Fail> {
     assert!(rt; is_allowed(rt.alloc(), &[&OVERTAKEN, &DUE_PUT])?);
