@@ -25,29 +25,29 @@ min_elsewhere r p f by x mine (Some g) other = rw (other, and-false (by == r)) r
 pub notes_kept : (r p q by : ℕ) (verb : Verb) (answer : Answer) (mine : List Event) (notes : RegionNotes) → region_named verb ≡ Some q → q ≢ p → StandsForRegionNotes r p mine notes → StandsForRegionNotes r p (event_by by verb answer ∷ mine) notes
 notes_kept r p q by (Verb.Fence f) (Answer.Seen fence) mine notes names differs held =
     let other : (f == p) ≡ false = apart f p q names differs in
-    record { noted = rw (other, and-false (by == r)) held.noted; joined = held.joined; entered = held.entered; opened = held.opened; minimum = held.minimum; shown = rw (other, and-false (by == r)) held.shown; has_read = rw (other, and-false (by == r)) held.has_read; seen = rw (other, and-false (by == r)) held.seen; foreign = rw (other, and-false (by == r)) held.foreign }
+    record { noted = rw (other, and-false (by == r)) held.noted; joined = held.joined; entered = held.entered; opened = held.opened; minimum = held.minimum; has_read = rw (other, and-false (by == r)) held.has_read; seen = rw (other, and-false (by == r)) held.seen; foreign = rw (other, and-false (by == r)) held.foreign }
 notes_kept r p q by (Verb.Fence f) answer mine notes names differs held =
     let other : (f == p) ≡ false = apart f p q names differs in
-    record { noted = held.noted; joined = held.joined; entered = held.entered; opened = held.opened; minimum = held.minimum; shown = held.shown; has_read = held.has_read; seen = held.seen; foreign = held.foreign }
+    record { noted = held.noted; joined = held.joined; entered = held.entered; opened = held.opened; minimum = held.minimum; has_read = held.has_read; seen = held.seen; foreign = held.foreign }
 notes_kept r p q by (Verb.Min f) (Answer.Number x) mine notes names differs held =
     let other : (f == p) ≡ false = apart f p q names differs in
-    record { noted = held.noted; joined = held.joined; entered = held.entered; opened = held.opened; minimum = rw (other, and-false (by == r)) held.minimum; shown = held.shown; has_read = held.has_read ∙ sym (min_elsewhere r p f by x mine (last_grant r p mine) other); seen = held.seen; foreign = held.foreign }
+    record { noted = held.noted; joined = held.joined; entered = held.entered; opened = held.opened; minimum = rw (other, and-false (by == r)) held.minimum; has_read = held.has_read ∙ sym (min_elsewhere r p f by x mine (last_grant r p mine) other); seen = held.seen; foreign = held.foreign }
 notes_kept r p q by (Verb.Min f) answer mine notes names differs held =
     let other : (f == p) ≡ false = apart f p q names differs in
-    record { noted = held.noted; joined = held.joined; entered = held.entered; opened = held.opened; minimum = held.minimum; shown = held.shown; has_read = held.has_read; seen = held.seen; foreign = held.foreign }
+    record { noted = held.noted; joined = held.joined; entered = held.entered; opened = held.opened; minimum = held.minimum; has_read = held.has_read; seen = held.seen; foreign = held.foreign }
 notes_kept r p q by (Verb.Enter f t) Answer.Entered mine notes names differs held =
     let other : (f == p) ≡ false = apart f p q names differs in
-    record { noted = held.noted; joined = held.joined; entered = rw (other, and-false (by == r)) held.entered; opened = rw (other, and-false (by == r)) held.opened; minimum = held.minimum; shown = held.shown; has_read = held.has_read; seen = held.seen; foreign = held.foreign }
+    record { noted = held.noted; joined = held.joined; entered = rw (other, and-false (by == r)) held.entered; opened = rw (other, and-false (by == r)) held.opened; minimum = held.minimum; has_read = held.has_read; seen = held.seen; foreign = held.foreign }
 notes_kept r p q by (Verb.Enter f t) answer mine notes names differs held =
     let other : (f == p) ≡ false = apart f p q names differs in
-    record { noted = held.noted; joined = held.joined; entered = rw (other, and-false (by == r)) held.entered; opened = rw (other, and-false (by == r)) held.opened; minimum = held.minimum; shown = held.shown; has_read = held.has_read; seen = held.seen; foreign = held.foreign }
+    record { noted = held.noted; joined = held.joined; entered = rw (other, and-false (by == r)) held.entered; opened = rw (other, and-false (by == r)) held.opened; minimum = held.minimum; has_read = held.has_read; seen = held.seen; foreign = held.foreign }
 notes_kept r p q by (Verb.PutMin f b) Answer.Done mine notes names differs held =
     let other : (f == p) ≡ false = apart f p q names differs in
-    record { noted = held.noted; joined = rw (other, and-false (by == r)) held.joined; entered = rw (other, and-false (by == r)) held.entered; opened = rw (other, and-false (by == r)) held.opened; minimum = held.minimum; shown = held.shown; has_read = held.has_read; seen = held.seen; foreign = held.foreign }
+    record { noted = held.noted; joined = rw (other, and-false (by == r)) held.joined; entered = rw (other, and-false (by == r)) held.entered; opened = rw (other, and-false (by == r)) held.opened; minimum = held.minimum; has_read = held.has_read; seen = held.seen; foreign = held.foreign }
 notes_kept r p q by (Verb.PutMin f b) answer mine notes names differs held =
     let other : (f == p) ≡ false = apart f p q names differs in
-    record { noted = held.noted; joined = held.joined; entered = rw (other, and-false (by == r)) held.entered; opened = rw (other, and-false (by == r)) held.opened; minimum = held.minimum; shown = held.shown; has_read = held.has_read; seen = held.seen; foreign = held.foreign }
+    record { noted = held.noted; joined = held.joined; entered = rw (other, and-false (by == r)) held.entered; opened = rw (other, and-false (by == r)) held.opened; minimum = held.minimum; has_read = held.has_read; seen = held.seen; foreign = held.foreign }
 notes_kept r p q by (Verb.PutSlot f i b v) answer mine notes names differs held =
     let other : (f == p) ≡ false = apart f p q names differs in
-    record { noted = held.noted; joined = held.joined; entered = rw (other, and-false (by == r)) held.entered; opened = rw (other, and-false (by == r)) held.opened; minimum = held.minimum; shown = held.shown; has_read = held.has_read; seen = held.seen; foreign = held.foreign }
+    record { noted = held.noted; joined = held.joined; entered = rw (other, and-false (by == r)) held.entered; opened = rw (other, and-false (by == r)) held.opened; minimum = held.minimum; has_read = held.has_read; seen = held.seen; foreign = held.foreign }
 notes_kept r p q by verb answer mine notes names differs held = absurd (none_some q names)
