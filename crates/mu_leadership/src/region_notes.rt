@@ -363,6 +363,10 @@ pub(crate) fn take_at_regions(notes: &mut [RegionNotes; 7], r: u8, event: &Event
 {
     match region_of(&event.verb) {
         Some(p) => take_at(notes, p, r, event),
-        None => take_at_each(notes, r, event),
+        None => {
+            if begins(r, event) {
+                take_at_each(notes, r, event);
+            }
+        }
     }
 }
