@@ -12,7 +12,7 @@ ghost use Rattle.mu_model.specs.Histories.{count_below, greatest, newest, or_zer
 ghost use Rattle.mu_model.specs.Leaderships.{ends_leadership, fence_seen, grant_at_joining, has_begun, has_quorum, is_changed, is_member, is_over, leadership, noted_grant, number_put, proposal_number};
 ghost use Rattle.mu_model.specs.Parts.{IsPossible};
 ghost use Rattle.mu_leadership.specs.Bearing.{reads_fence};
-ghost use Rattle.mu_leadership.specs.Leadership.{StandsForRegionNotes, StandsForLeadership, ReadsWithin};
+ghost use Rattle.mu_leadership.specs.Leadership.{StandsForRegionNotes, StandsForLeadership};
 
 use crate::after::{
     asked_after, begun_after, greatest_minimum_after, greatest_number_after, number_after,

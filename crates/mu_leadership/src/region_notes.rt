@@ -1,5 +1,5 @@
 //! What a replica has done at one region.
-ghost use Rattle.std.specs.Prelude.{List, Some, [], false, if◌then◌else◌, is_some, nat_lt, ℕ, ◌<◌, ◌∷◌, ◌≡◌, ◌≢◌};
+ghost use Rattle.std.specs.Prelude.{List, Some, [], false, if◌then◌else◌, is_some, ℕ, ◌<◌, ◌∷◌, ◌≡◌, ◌≢◌};
 ghost use Rattle.mu_model.specs.declared.config.Config.{Config};
 ghost use Rattle.mu_model.specs.declared.event.Answer.{Answer as SomeAnswer};
 ghost use Rattle.mu_model.specs.declared.event.Event.{Event};
