@@ -48,8 +48,8 @@ pub record HoldsValues (c : Config) (values : List ℕ) (state : KnownLog) : Typ
   pub room : row_count c + reserve c < vec_capacity state.values
   pub marks : MarksReplicas c values state.marks
   pub counts : CountsCommands c values state.counts.items
-  pub held : state.held ≡ length (rows_in c values)
-  pub rows : StandsForClientRows c state.rows
+  pub rows : state.rows ≡ length (rows_in c values)
+  pub by_client : StandsForClientRows c state.by_client
 
 -- the state stands for the events of r
 pub record StandsForKnownLog (c : Config) (r : ℕ) (mine : List Event)

@@ -27,10 +27,10 @@ pub struct KnownLog {
     marks: [bool; 7],
     /// How many commands of each client it knows.
     counts: Vec<u16>,
-    /// How many commands it knows.
-    held: usize,
+    /// How many rows they have.
+    rows: usize,
     /// Where the rows of each client stand.
-    rows: ClientRows,
+    by_client: ClientRows,
     /// The greatest FUO that it has read of each region.
     fuos: [u64; 7],
     /// The positions of its own region at which it has seen an entry.
@@ -97,13 +97,13 @@ fn rows_of(config: &Config, v: u16) -> usize
     }
 }
 
-/// How many rows the values have after the value `v`, if they had `held` before it.
-fn held_after(held: usize, config: &Config, v: u16) -> usize
+/// How many rows some values and `v` have, if those had `rows`.
+fn rows_after(rows: usize, config: &Config, v: u16) -> usize
     ensures { (values : List ℕ) → IsConfig config.now → length values < 2000
-        → held ≡ length (rows_in config.now values)
+        → rows ≡ length (rows_in config.now values)
         → result ≡ length (rows_in config.now (values ++ v ∷ [])) }
 {
-    held.saturating_add(rows_of(config, v))
+    rows.saturating_add(rows_of(config, v))
 }
 
 /// Adds a value if there is room. Takes no memory.
@@ -189,8 +189,8 @@ impl KnownLog {
             values: no_values(alloc, config)?,
             marks: [false; 7],
             counts: no_counts(alloc)?,
-            held: 0,
-            rows: ClientRows::new(alloc, config)?,
+            rows: 0,
+            by_client: ClientRows::new(alloc, config)?,
             fuos: [0; 7],
             seen: vec![in alloc; false; positions]?,
         })
@@ -271,7 +271,7 @@ impl KnownLog {
             push_value(&mut self.values, v);
             note_mark(&mut self.marks, config, v);
             count_rows(&mut self.counts, config, v);
-            self.held = held_after(self.held, config, v);
+            self.rows = rows_after(self.rows, config, v);
         }
     }
 
@@ -317,16 +317,8 @@ impl KnownLog {
         self.values.as_slice()
     }
 
-    /// Whether a mark of `q` is known.
-    pub fn is_marked(&self, q: u8) -> bool
-        ensures { (c : Config) → (r : ℕ) → (mine : List Event) → q < 7
-            → StandsForKnownLog c r mine self.now → result ≡ marked c q (known c r mine) }
-    {
-        self.has_mark(q)
-    }
-
     /// Whether a mark of `q` is among the values.
-    pub fn has_mark(&self, q: u8) -> bool
+    pub fn is_marked(&self, q: u8) -> bool
         ensures { (c : Config) → (values : List ℕ) → q < 7 → HoldsValues c values self.now
             → result ≡ marked c q values }
     {
@@ -337,11 +329,11 @@ impl KnownLog {
     }
 
     /// How many rows the values have.
-    pub fn held(&self) -> usize
+    pub fn rows(&self) -> usize
         ensures { (c : Config) → (values : List ℕ) → HoldsValues c values self.now
             → result ≡ length (rows_in c values) }
     {
-        self.held
+        self.rows
     }
 
     /// How many commands of the client are known.
@@ -368,7 +360,8 @@ impl KnownLog {
             → result ≡ None → (j : ℕ) → client_of config.now j ≡ client
             → IsNextRow config.now values j → ⊥ }
     {
-        self.rows.batch_after(config, client, self.count_at(client))
+        self.by_client
+            .batch_after(config, client, self.count_at(client))
     }
 
     /// One more than the greatest client of a row of the job.
@@ -378,7 +371,7 @@ impl KnownLog {
         ensures few { (c : Config) → (values : List ℕ) → HoldsValues c values self.now
             → result ≤ 256 }
     {
-        self.rows.clients()
+        self.by_client.clients()
     }
 
     /// How many commands of the client are known.

@@ -32,7 +32,7 @@ use Rattle.mu_lead.proofs.Joins.{joins_anywhere, none_begun}
 use Rattle.mu_lead.proofs.Misses.{explained_on}
 use Rattle.mu_lead.proofs.RoomsAsking.{rooms_first_ask}
 
--- a leadership that goes on under its number is not over, and has one
+-- a leader asks again only in a leadership that has its number and isn't over
 pub numbered_on : (c : Config) (r : ℕ) (mine : List Event) → asks_again c r mine ≡ true → (is_some (proposal_number r mine) ≡ true) × (is_over r mine ≡ false)
 numbered_on c r mine asks =
     let both = and_parts (is_some (proposal_number r mine) && not (is_over r mine)) _ asks in
@@ -43,14 +43,15 @@ numbered_on c r mine asks =
     goes true on = absurd (true≢false (sym on))
     goes false on = refl
 
--- so no leadership without a number asks again
+-- so it doesn't in one without a number
 unnumbered_asks : (c : Config) (r : ℕ) (mine : List Event) → asks_again c r mine ≡ true → proposal_number r mine ≡ None → ⊥
 unnumbered_asks c r mine asks none = true≢false (sym (numbered_on c r mine asks).0 ∙ ap is_some none)
 
+-- nor in one that is over
 over_asks : (c : Config) (r : ℕ) (mine : List Event) → asks_again c r mine ≡ true → is_over r mine ≡ true → ⊥
 over_asks c r mine asks over = true≢false (sym over ∙ (numbered_on c r mine asks).1)
 
--- the place after the first ask: the second ask, or the first fence if there is one region
+-- after the first ask comes the second, or the first fence if there is only one region
 abbrev IsAsked : Config → Place → Type 0
 IsAsked c place = (place ≡ Place.Ask 1) ⊎ ((place ≡ Place.Confirm 0 0) × (c.replicas ≤ 1))
 
@@ -61,13 +62,14 @@ is_asked c r n mine t a = go (nat_lt 1 c.replicas) refl
     go true more = inl refl
     go false last = inr (refl, ltb-false 1 c.replicas last)
 
--- what is known of the counts before the ask: no miss waits for its evidence, no confirmed leadership
--- for its minimum, and the asks come in time
+-- before the ask no put that missed waits for its evidence and no confirmed leadership for its
+-- minimum, and with the ask the asks are in time
 record IsLeaving (c : Config) (r : ℕ) (mine : List Event) : Type 0 where
   pub explained : IsExplained c r mine
   pub read : NoneIsAwaited c r mine
   pub elects : (a : Answer) → is_replication mine (first_ask r a) ≡ true → (place : Place) → IsAsked c place → ElectsAt c r (first_ask r a ∷ mine) place
 
+-- with the ask they are in time if the leadership had read a minimum
 elects_led : (c : Config) (r : ℕ) (mine : List Event) → has_min r mine ≡ true → is_over r mine ≡ false → (a : Answer) → is_replication mine (first_ask r a) ≡ true → (place : Place) → IsAsked c place → ElectsAt c r (first_ask r a ∷ mine) place
 elects_led c r mine read going a turn place goes =
     let now = first_ask r a ∷ mine in
@@ -77,6 +79,7 @@ elects_led c r mine read going a turn place goes =
       | inr x ↦ subst (ElectsAt c r now) (sym x.0) (fences_quiet c r 0 0 now quiet)
     ]
 
+-- and if the first ask was next anyway
 elects_asked : (c : Config) (r : ℕ) (mine : List Event) → 0 < c.replicas → AsksNext c r mine 0 → (a : Answer) → is_replication mine (first_ask r a) ≡ true → (place : Place) → IsAsked c place → ElectsAt c r (first_ask r a ∷ mine) place
 elects_asked c r mine some at a turn place goes =
     let now = first_ask r a ∷ mine in
@@ -85,11 +88,11 @@ elects_asked c r mine some at a turn place goes =
       | inr x ↦ subst (ElectsAt c r now) (sym x.0) (asked_last c r 0 a mine turn some x.1 at)
     ]
 
--- a leader that leads
+-- a leader that leads leaves in such a state
 leaving_led : (c : Config) (r : ℕ) (mine : List Event) → is_over r mine ≡ false → IsExplained c r mine → HasRead c r mine → IsLeaving c r mine
 leaving_led c r mine going explained read = record { explained = explained; read = read.none; elects = elects_led c r mine read.read going }
 
--- wherever it is
+-- and so does one that asks again, at any place
 leaving : (c : Config) (r b : ℕ) (mine : List Event) (up : List ℕ) (reach : List (Option ℕ)) (written : List ℕ) (place : Place) → 0 < c.replicas → asks_again c r mine ≡ true → At c r b mine up reach written place → KeepsAt c r mine written place → IsLeaving c r mine
 leaving c r b mine up reach written (Place.Ask p) some asks at keeps = elim (cases_eq p 0) [
   | inl first ↦ record { explained = keeps.counts.evidence; read = keeps.counts.confirms; elects = elects_asked c r mine some (subst (AsksNext c r mine) first keeps.elects) }
@@ -103,14 +106,14 @@ leaving c r b mine up reach written (Place.ReadMin p) some asks at keeps = absur
 leaving c r b mine up reach written (Place.Evidence p) some asks at keeps = absurd (over_asks c r mine asks keeps.counts.rooms.over)
 leaving c r b mine up reach written place some asks at keeps = leaving_led c r mine (numbered_on c r mine asks).1 keeps.counts.evidence keeps.counts.confirms
 
--- a first ask ends the waiting for raises
+-- after a first ask no FUO has to be raised
 none_raises : (c : Config) (r : ℕ) (a : Answer) (mine : List Event) → IsRaisedEverywhere c r (first_ask r a ∷ mine)
 none_raises c r a mine q =
     let e = first_ask r a in
     shut (raising c r q) mine e (unallowed (λ before f. commits_more c r before f && is_member r q (f ∷ before)) (members c r) mine e (ap (λ z. z && is_member r q (e ∷ mine)) (not_more (length (commits c r mine)))))
     (or_left (begins_leadership r e) (turns_away c r (is_full_raise c r q) mine e) (begins_now r a))
 
--- all that a leader keeps after it
+-- after the ask a leader keeps all that it keeps at the next place
 keeps_asked : (c : Config) (r : ℕ) (mine : List Event) (words : List ℕ) (a : Answer) (place : Place) → is_replication mine (first_ask r a) ≡ true → IsLeaving c r mine → IsAsked c place → KeepsAt c r (first_ask r a ∷ mine) words place
 keeps_asked c r mine words a place turn leaves goes =
     let now = first_ask r a ∷ mine in

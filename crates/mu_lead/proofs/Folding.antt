@@ -5,7 +5,7 @@ use Rattle.mu_lead.proofs.Lates.{fence_ends}
 use Rattle.mu_lead.proofs.Says.{said_next}
 use Rattle.mu_lead.specs.Beside.{leads_at, writes_row}
 use Rattle.mu_lead.specs.Going.{begins_at, going_after}
-use Rattle.mu_lead.specs.Journal.{HasLeft, IsWhere, PlacesNext, WritesNext, due_after, least_above, number_due, number_or, place_after, place_before, tables_at, tables_beside, tables_with}
+use Rattle.mu_lead.specs.Journal.{HasLeft, IsWhere, PlacesNext, WritesNext, due_after, number_due, number_or, place_after, place_before, tables_at, tables_beside, tables_with}
 use Rattle.mu_lead.specs.Lasting.{Follows, tables_of}
 use Rattle.mu_lead.specs.Listing.{Tables, next_place}
 use Rattle.mu_lead.specs.Losses.{LosesEntering, LosesReading}
@@ -23,6 +23,7 @@ use Rattle.mu_model.specs.Histories.{greatest, or_zero}
 use Rattle.mu_model.specs.Knowledge.{known}
 use Rattle.mu_model.specs.Leaderships.{begins_leadership, is_above, is_member, is_over, leadership, number_put, proposal_number}
 use Rattle.mu_model.specs.Parts.{IsPossible}
+use Rattle.mu_model.specs.Points.{least_number}
 use Rattle.mu_model.specs.Scores.{leader}
 use Rattle.mu_model.specs.Steps.{is_named}
 use Rattle.mu_model.specs.Stretches.{is_replication}
@@ -33,24 +34,30 @@ use Rattle.mu_model.specs.declared.event.Fence.{Fence}
 use Rattle.mu_model.specs.declared.event.Target.{Target}
 use Rattle.mu_model.specs.declared.event.Verb.{Verb}
 use Rattle.std.proofs.Common.{Bool, List, None, Some, ap, arith, false, get_or, inl, inr, max, refl, subst, sym, true, true≢false, ℕ, ◌%◌, ◌&&◌, ◌*◌, ◌+◌, ◌/◌, ◌<◌, ◌==◌, ◌||◌, ◌∙◌, ◌∷◌, ◌≡◌, ◌≤◌}
-use Rattle.std.proofs.lemmas.Bool.{cases_eq, ltb-false, ltb-true}
+use Rattle.std.proofs.lemmas.Bool.{and_from, and_parts, cases_eq, cases_lt, lt-ltb, ltb-true}
 use Rattle.std.specs.Prelude.{if◌then◌else◌, nat_lt, not, ◌⊎◌}
 use Rattle.std.specs.declared.option.Option.{Option}
 
 -- a number that is allowed is the journal's
-least_is : (r x y b : ℕ) → r < 8 → b % 8 ≡ r → 8 ≤ b → x < b → y < b → ((n : ℕ) → n % 8 ≡ r → 8 ≤ n → x < n → y < n → b ≤ n) → b ≡ least_above r (max x y)
-least_is r x y b small own from above_x above_y least = go (nat_lt (max x y) 8) refl
+least_is : (r x y b : ℕ) → r < 8 → b % 8 ≡ r → 8 ≤ b → x < b → y < b → ((n : ℕ) → n % 8 ≡ r → 8 ≤ n → x < n → y < n → b ≤ n) → b ≡ least_number r (max x y)
+least_is r x y b small own from above_x above_y least = go (nat_lt 7 (max x y) && nat_lt (max x y) (max x y / 8 * 8 + r)) refl
   where
-    m : ℕ
-    m = max x y
-
-    far : (t : Bool) → nat_lt (max x y) (max x y / 8 * 8 + r) ≡ t → 8 ≤ max x y → b ≡ (if t then max x y / 8 * 8 + r else max x y / 8 * 8 + 8 + r)
-    far true here high = let low = ltb-true (max x y) (max x y / 8 * 8 + r) here in let at_most = least (max x y / 8 * 8 + r) (omega (arith, small)) (omega (arith, high, low)) (omega (arith, low)) (omega (arith, low)) in omega (arith, small, own, above_x, above_y, at_most, low)
-    far false here high = let low = ltb-false (max x y) (max x y / 8 * 8 + r) here in let at_most = least (max x y / 8 * 8 + 8 + r) (omega (arith, small)) (omega (arith, high)) (omega arith) (omega arith) in omega (arith, small, own, above_x, above_y, at_most, low)
-
-    go : (t : Bool) → nat_lt (max x y) 8 ≡ t → b ≡ (if t then 8 + r else (if nat_lt (max x y) (max x y / 8 * 8 + r) then max x y / 8 * 8 + r else max x y / 8 * 8 + 8 + r))
-    go true here = let low = ltb-true (max x y) 8 here in let at_most = least (8 + r) (omega (arith, small)) (omega arith) (omega (arith, low)) (omega (arith, low)) in omega (arith, small, own, from, at_most)
-    go false here = far (nat_lt (max x y) (max x y / 8 * 8 + r)) refl (ltb-false (max x y) 8 here)
+    go : (t : Bool) → (nat_lt 7 (max x y) && nat_lt (max x y) (max x y / 8 * 8 + r)) ≡ t → b ≡ (if t then max x y / 8 * 8 + r else max x y / 8 * 8 + r + 8)
+    go true is =
+        let both = and_parts (nat_lt 7 (max x y)) (nat_lt (max x y) (max x y / 8 * 8 + r)) is in
+        let high = ltb-true 7 (max x y) both.0 in
+        let low = ltb-true (max x y) (max x y / 8 * 8 + r) both.1 in
+        let at_most = least (max x y / 8 * 8 + r) (omega (arith, small)) (omega (arith, high, low)) (omega (arith, low)) (omega (arith, low)) in
+        omega (arith, small, own, above_x, above_y, at_most, low)
+    go false is =
+        let at_most = least (max x y / 8 * 8 + r + 8) (omega (arith, small)) (omega arith) (omega arith) (omega arith) in
+        elim (cases_lt 7 (max x y)) [
+          | inl high ↦ elim (cases_lt (max x y) (max x y / 8 * 8 + r)) [
+            | inl same ↦ absurd (true≢false (sym (and_from _ _ (lt-ltb 7 (max x y) high) (lt-ltb (max x y) (max x y / 8 * 8 + r) same)) ∙ is))
+            | inr over ↦ omega (arith, small, own, above_x, above_y, at_most, over)
+          ]
+          | inr few ↦ omega (arith, small, own, from, at_most, few)
+        ]
 
 number_is : (r b : ℕ) (mine : List Event) (o : Option ℕ) → r < 8 → number_allowed r mine b o → b ≡ number_or r mine o
 number_is r b mine (Some first) small allowed = allowed

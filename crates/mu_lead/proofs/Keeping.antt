@@ -142,8 +142,7 @@ leading_calm r by verb answer mine state calm held = record {
   number = held.number;
   read = held.read;
   put = held.put;
-  notes = λ p notes there. (let d = held.notes p notes there in record { noted = d.noted; joined = d.joined; entered = d.entered; opened = d.opened; minimum = d.minimum; shown = d.shown; has_read = d.has_read; seen = d.seen; foreign = d.foreign });
-  rows_short = held.rows_short;
+  notes = λ p notes there. (let d = held.notes p notes there in record { noted = d.noted; joined = d.joined; entered = d.entered; opened = d.opened; minimum = d.minimum; has_read = d.has_read; seen = d.seen; foreign = d.foreign });
 }
 
 -- a member stays one by a calm verb

@@ -1,6 +1,6 @@
--- asks again, tells astray: a leader that has a region gone astray asks the first region out of
--- turn: every count and pace is then as at the place after a first ask, whatever place it left; it
--- notes the region that is astray; and before that it read its fence 16 times.
+-- asks again, tells astray: if some region has gone astray a leader asks the first region out of
+-- turn, from any place; it then keeps what a leader keeps after any first ask, its note names that
+-- region, and it had read the fence of that region 16 times.
 use Rattle.std.specs.Prelude.{List, Some, [], if◌then◌else◌, is_some, true, ℕ, ◌&&◌, ◌+◌, ◌<◌, ◌∷◌, ◌≡◌, ◌≤◌}
 use Rattle.std.specs.declared.option.Option.{Option}
 use Rattle.mu_model.specs.declared.config.Config.{Config}
@@ -29,8 +29,8 @@ use Rattle.mu_lead.specs.Standing.{At}
 abbrev pub first_ask : ℕ → Answer → Event
 first_ask r answer = record { by = r; verb = Verb.Ask 0; answer = answer }
 
--- it is the same leader, at its first ask, and no leadership is under way
-pub record HasLeftFor (old new : Lead) : Type 0 where
+-- the new leader is the old one with the same tables, and is at its first ask
+pub record IsSameAtFirstAsk (old new : Lead) : Type 0 where
   pub config : new.config ≡ old.config
   pub id : new.id ≡ old.id
   pub tables : tables_of new ≡ tables_of old
@@ -48,8 +48,8 @@ abbrev pub place_asked : Config → ℕ → ℕ → List Event → Tables → An
 place_asked c r b mine t answer =
     next_place c r b (first_ask r answer ∷ mine) t answer (Place.Ask 0)
 
--- a leader that asks again, wherever it is, keeps with the first ask what it keeps at the place
--- after it; and it asks with a cause
+-- a leader that asks again, at any place, keeps with the first ask what a leader keeps at the place
+-- after it; and it has a cause to ask
 pub record LeadersAskAgain : Type 0 where
   pub asked :
       (c : Config) (r b n : ℕ) (mine : List Event) (up : List ℕ) (reach : List (Option ℕ))
@@ -71,7 +71,7 @@ pub record TellsAstray (c : Config) (r : ℕ) (mine : List Event) (note : Note) 
   pub seen : newest (λ e. fence_seen r region e.by e.verb e.answer) mine ≡ Some fence
   pub told : note ≡ Note.Astray region fence
 
--- how many fences of p r saw in its leadership, since that has a number
+-- how many fences of p r saw in its leadership since that has a number
 abbrev pub fences_numbered : ℕ → ℕ → List Event → ℕ
 fences_numbered r p [] = 0
 fences_numbered r p (e ∷ past) =
@@ -79,8 +79,8 @@ fences_numbered r p (e ∷ past) =
     else (if is_some (proposal_number r past) && is_some (fence_seen r p e.by e.verb e.answer)
     then fences_numbered r p past + 1 else fences_numbered r p past)
 
--- who asks again has seen 16 fences of one region in the leadership that it leaves, since that has
--- a number: so many events at least lie between an ask again and any first ask before it
+-- a leader that asks again has seen 16 fences of one region in the leadership that it leaves, since
+-- that has a number: so at least 16 events lie between its ask and any first ask before it
 abbrev pub AsksAreApart : Type 0
 AsksAreApart =
     (c : Config) (r : ℕ) (mine : List Event) → asks_again c r mine ≡ true

@@ -1,17 +1,17 @@
 -- place after, tables at, due after, is where: the place, the tables and the due verb of a leader,
 -- by its journal only; and that a leader is at that place with those tables.
-use Rattle.std.specs.Prelude.{Bool, List, None, Some, [], false, get_or, if◌then◌else◌, max, nat_le, nat_lt, replicate, set, true, ℕ, ◌*◌, ◌+◌, ◌/◌, ◌==◌, ◌||◌, ◌∷◌, ◌≡◌, ◌⊎◌}
+use Rattle.std.specs.Prelude.{Bool, List, None, Some, [], false, get_or, if◌then◌else◌, max, nat_le, nat_lt, replicate, set, true, ℕ, ◌+◌, ◌==◌, ◌||◌, ◌∷◌, ◌≡◌, ◌⊎◌}
 use Rattle.std.specs.declared.option.Option.{Option}
 use Rattle.mu_model.specs.declared.config.Config.{Config}
 use Rattle.mu_model.specs.declared.event.Answer.{Answer}
 use Rattle.mu_model.specs.declared.event.Event.{Event}
 use Rattle.mu_model.specs.declared.event.Verb.{Verb}
 use Rattle.mu_model.specs.Contents.{row_count}
-use Rattle.mu_model.specs.Entering.{any_min_read}
-use Rattle.mu_model.specs.Histories.{greatest, or_zero}
+use Rattle.mu_model.specs.Histories.{or_zero}
 use Rattle.mu_model.specs.Knowledge.{known}
-use Rattle.mu_model.specs.Leaderships.{begins_leadership, is_member, leadership, number_put, proposal_number}
+use Rattle.mu_model.specs.Leaderships.{begins_leadership, is_member, proposal_number}
 use Rattle.mu_model.specs.Parts.{IsPossible}
+use Rattle.mu_model.specs.Points.{greatest_used, least_number}
 use Rattle.mu_model.specs.Scores.{leader}
 use Rattle.mu_model.specs.Steps.{is_named}
 use Rattle.mu_model.specs.Stretches.{is_replication}
@@ -130,19 +130,10 @@ place_after c r (e ∷ past) =
     else Place.Ask 0)
     else place_after c r past
 
--- the least number of r, from 8 on, that is above m
-abbrev pub least_above : ℕ → ℕ → ℕ
-least_above r m =
-    if nat_lt m 8 then 8 + r
-    else (if nat_lt m (m / 8 * 8 + r) then m / 8 * 8 + r else m / 8 * 8 + 8 + r)
-
 -- the number, if there is one, else the least of r above all that it read and put
 abbrev pub number_or : ℕ → List Event → Option ℕ → ℕ
 number_or r mine (Some b) = b
-number_or r mine None =
-    least_above r
-    (max (greatest (λ e. any_min_read r e.by e.verb e.answer) (leadership r mine))
-    (greatest (λ e. number_put r e.by e.verb) mine))
+number_or r mine None = least_number r (greatest_used r mine)
 
 -- the number that r puts: that of its leadership, or the next one if it has none
 abbrev pub number_due : ℕ → List Event → ℕ

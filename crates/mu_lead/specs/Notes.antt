@@ -1,9 +1,6 @@
 -- notes: what the notes of puts, minima and heads say.
-use Rattle.std.specs.Prelude.{Bool, List, None, Some, [], if◌then◌else◌, length, min, nat_lt, ℕ, ◌++◌, ◌∷◌, ◌≡◌, ◌⊎◌}
+use Rattle.std.specs.Prelude.{Bool, None, Some, if◌then◌else◌, min, nat_lt, ℕ}
 use Rattle.std.specs.declared.option.Option.{Option}
-use Rattle.mu_model.specs.declared.config.Config.{Config}
-use Rattle.mu_model.specs.declared.event.Event.{Event}
-use Rattle.mu_model.specs.Knowledge.{known}
 use Rattle.mu_lead.specs.declared.note.AbortCause.{AbortCause}
 use Rattle.mu_lead.specs.declared.note.Note.{Note}
 use Rattle.mu_lead.specs.declared.place.Offer.{Offer}

@@ -1,8 +1,5 @@
 -- sets: sets of replicas as the bits of a number.
-use Rattle.std.specs.Prelude.{Bool, None, Some, false, suc, true, zero, ℕ, ◌%◌, ◌*◌, ◌+◌, ◌/◌, ◌==◌, ◌≡◌}
-use Rattle.std.specs.declared.option.Option.{Option}
-use Rattle.mu_model.specs.declared.event.Answer.{Answer}
-use Rattle.mu_model.specs.declared.event.Fence.{Fence}
+use Rattle.std.specs.Prelude.{Bool, false, suc, true, zero, ℕ, ◌%◌, ◌*◌, ◌+◌, ◌/◌, ◌==◌}
 
 -- 1 if it is so, else 0
 abbrev pub bit : Bool → ℕ

@@ -4,23 +4,24 @@ ghost use Rattle.mu_model.specs.declared.event.Event.{Event};
 ghost use Rattle.mu_model.specs.Again.{asks_again, is_astray};
 ghost use Rattle.mu_model.specs.Histories.{count_below};
 ghost use Rattle.mu_knowledge.specs.Offers.{IsFirst};
-ghost use Rattle.mu_lead.specs.Again.{HasLeftFor, TellsAstray};
+ghost use Rattle.mu_lead.specs.Again.{IsSameAtFirstAsk, TellsAstray};
 ghost use Rattle.mu_lead.specs.Standing.{HasHeeded, StandsFor, TellsFailed};
 
 use crate::lead::Lead;
 use crate::note::Note;
 use crate::offering::has_bit;
 use crate::place::Place;
+use mu_leadership::LONG_ROW;
 
 impl Lead {
     /// Whether the region has gone astray: it is no member, its host isn't held to be failed, and
-    /// it was seen open to another 16 times in a row.
+    /// it was seen open to another `LONG_ROW` times in a row.
     fn is_astray(&self, p: u8, failed: u8) -> bool
         ensures { (mine : List Event) → StandsFor mine self.now
             → TellsFailed self.now.config self.now.id mine failed
             → p < self.now.config.replicas → result ≡ is_astray self.now.id mine p }
     {
-        !self.leading.is_member(p) && !has_bit(failed, p) && self.leading.foreign(p) >= 16
+        !self.leading.is_member(p) && !has_bit(failed, p) && self.leading.foreign(p) >= LONG_ROW
     }
 
     /// The first region that has gone astray.
@@ -44,19 +45,15 @@ impl Lead {
             → result
             ≡ nat_lt 0 (count_below self.now.config.replicas (λ p. is_astray self.now.id mine p)) }
     {
-        if self.leading.has_short_rows() {
-            false
-        } else {
-            self.first_astray(failed).is_some()
-        }
+        self.first_astray(failed).is_some()
     }
 
     /// Whether the leadership goes on under its number, and some region has gone astray. `failed`
     /// has bit q for a replica q that is held to be failed.
     ///
-    /// How often a leader asks again has no bound but its budget, and needs none: before it does so
-    /// once more it has read 16 fences of one region under its new number, one in each round, so
-    /// between two such asks it does all that it would do if it stayed.
+    /// A leader may ask again until its budget is spent. That holds nothing up: before it does so
+    /// once more it has read `LONG_ROW` fences of one region under its new number, one in each
+    /// round, so between two such asks it does all that it would do if it stayed.
     pub fn asks_again(&self, failed: u8) -> bool
         ghost mine: { List Event }
         requires stands { StandsFor mine self.now }
@@ -73,7 +70,7 @@ impl Lead {
         requires heeded { HasHeeded mine self.old }
         requires asks { asks_again self.old.config self.old.id mine ≡ true }
         ensures stands { StandsFor mine self.new }
-        ensures left { HasLeftFor self.old self.new }
+        ensures left { IsSameAtFirstAsk self.old self.new }
         ensures named { self.new.named ≡ self.old.named }
         ensures failed { self.new.failed ≡ self.old.failed }
         ensures going { self.new.under_way ≡ false }

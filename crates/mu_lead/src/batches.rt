@@ -14,7 +14,7 @@ pub(crate) fn knows_all(config: &Config, log: &KnownLog) -> bool
     ensures { (values : List ℕ) → HoldsValues config.now values log.now → IsConfig config.now
         → IsInSession config.now values → result ≡ holds_all config.now values }
 {
-    log.held() == count_of_rows(config)
+    log.rows() == count_of_rows(config)
 }
 
 /// The replica's own payload number of row `j`.

@@ -290,6 +290,7 @@ impl Lead {
 
     /// Takes the answer to the verb that was due. `log` is what the replica knows, `known` its
     /// values.
+    #[inline(always)]
     pub fn take(&mut self, verb: Verb, answer: Answer, known: &[u16], log: &KnownLog) -> Note
         ghost mine: { List Event }
         requires stands { StandsFor mine self.old }
@@ -332,9 +333,30 @@ impl Lead {
         with_idle(&self.config, note, log)
     }
 
-    /// Makes the step of the listing: tells the leaderships, writes the tables, and goes to the place
-    /// that follows. The note doesn't tell yet that all commands are known.
+    /// Makes the step of the listing. The note doesn't tell yet that all commands are known.
+    #[inline(always)]
     fn step(&mut self, verb: Verb, answer: Answer, known: &[u16], log: &KnownLog) -> Note
+        ensures steps { (mine : List Event) → IsAnswered mine self.old known.now verb answer
+            → Steps mine self.old known.now log.now verb answer self.new result }
+        ensures config { self.new.config ≡ self.old.config }
+        ensures id { self.new.id ≡ self.old.id }
+        ensures named { self.new.named ≡ self.old.named }
+        ensures failed { self.new.failed ≡ self.old.failed }
+        ensures going { self.new.under_way
+            ≡ going_after (begins_at self.old.place || self.old.under_way) result }
+    {
+        match self.place {
+            Place::Write(j, last, offer) => {
+                self.take_word(j, last, offer);
+                Note::Working
+            }
+            _ => self.other_step(verb, answer, known, log),
+        }
+    }
+
+    /// Makes any step: tells the leaderships, writes the tables, and goes to the place that follows.
+    #[inline(always)]
+    fn other_step(&mut self, verb: Verb, answer: Answer, known: &[u16], log: &KnownLog) -> Note
         ensures steps { (mine : List Event) → IsAnswered mine self.old known.now verb answer
             → Steps mine self.old known.now log.now verb answer self.new result }
         ensures config { self.new.config ≡ self.old.config }

@@ -74,7 +74,7 @@ pub enum Note {
     },
     /// The leadership was given up for the replica that the scores name.
     Resigned {
-        /// That replica.
+        /// The replica that they name.
         to: u8,
     },
     /// The leadership was given up for a new one: this region had gone astray, as the last of its

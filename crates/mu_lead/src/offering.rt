@@ -82,7 +82,7 @@ impl Lead {
     {
         for p in from..self.config.replicas {
             if !self.leaves_room(self.head_of(p), reserve_of(&self.config), known)
-                && !log.has_mark(p)
+                && !log.is_marked(p)
             {
                 return Some(p);
             }

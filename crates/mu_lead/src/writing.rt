@@ -4,15 +4,20 @@ ghost use Rattle.std.specs.List.{slice_get};
 ghost use Rattle.mu_model.specs.declared.config.Config.{Config as SomeConfig};
 ghost use Rattle.mu_model.specs.declared.event.Answer.{Answer as SomeAnswer};
 ghost use Rattle.mu_model.specs.declared.event.Event.{Event as SomeEvent};
+ghost use Rattle.mu_model.specs.declared.event.Verb.{Verb as SomeVerb};
 ghost use Rattle.mu_model.specs.Contents.{is_batch, rest_of};
 ghost use Rattle.mu_model.specs.Parts.{IsPossible};
+ghost use Rattle.mu_knowledge.specs.declared.known_log.KnownLog.{KnownLog as SomeLog};
 ghost use Rattle.mu_knowledge.specs.Offers.{IsFirst};
+ghost use Rattle.mu_lead.specs.declared.note.Note.{Note as SomeNote};
+ghost use Rattle.mu_lead.specs.declared.place.Place.{Place as SomePlace};
 ghost use Rattle.mu_lead.specs.Ahead.{IsAhead, ahead_at, ahead_event, ahead_verb, entry_before, word_after, word_from};
 ghost use Rattle.mu_lead.specs.Journal.{tables_beside};
 ghost use Rattle.mu_lead.specs.Lasting.{tables_of};
 ghost use Rattle.mu_lead.specs.Listing.{write_from};
 ghost use Rattle.mu_lead.specs.Resigning.{CountsAt};
 ghost use Rattle.mu_lead.specs.Standing.{Stands, StandsFor};
+ghost use Rattle.mu_lead.specs.Stepping.{IsAnswered, Steps};
 
 use crate::lead::Lead;
 use crate::place::{Offer, Place};
@@ -100,6 +105,25 @@ impl Lead {
         ensures failed { self.new.failed ≡ self.old.failed }
     {
         count_word(&mut self.written, j);
+    }
+
+    /// Takes the answer to a write of a word of row `j`: the next word is due, or the offer is put.
+    /// Most steps of a leader are such writes, and nothing else follows from them.
+    #[inline(always)]
+    pub(crate) fn take_word(&mut self, j: u16, last: u16, offer: Offer)
+        ensures steps { (mine : List SomeEvent) → (values : List ℕ) → (log : SomeLog)
+            → (verb : SomeVerb) → (answer : SomeAnswer)
+            → self.old.place ≡ SomePlace.Write j last offer
+            → IsAnswered mine self.old values verb answer
+            → Steps mine self.old values log verb answer self.new SomeNote.Working }
+        ensures config { self.new.config ≡ self.old.config }
+        ensures id { self.new.id ≡ self.old.id }
+        ensures named { self.new.named ≡ self.old.named }
+        ensures failed { self.new.failed ≡ self.old.failed }
+        ensures going { self.new.under_way ≡ self.old.under_way }
+    {
+        count_word(&mut self.written, j);
+        self.place = self.write_from(j, last, offer);
     }
 
     /// The first row from `first` to `last` that isn't written.

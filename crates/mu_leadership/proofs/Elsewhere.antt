@@ -7,7 +7,8 @@ use Rattle.mu_model.specs.declared.event.Answer.{Answer}
 use Rattle.mu_model.specs.declared.event.Event.{Event}
 use Rattle.mu_model.specs.declared.event.Verb.{Verb}
 use Rattle.mu_model.specs.Entering.{min_read_since}
-use Rattle.mu_leadership.specs.Bearing.{region_named}
+use Rattle.mu_model.specs.Leaderships.{begins_leadership}
+use Rattle.mu_leadership.specs.Bearing.{reads_fence, region_named}
 use Rattle.mu_leadership.specs.Leadership.{StandsForRegionNotes, last_grant}
 use Rattle.mu_leadership.specs.declared.region_notes.RegionNotes.{RegionNotes}
 use Rattle.mu_model.proofs.Basics.{event_by, none_some, same_some}
@@ -25,29 +26,42 @@ min_elsewhere r p f by x mine (Some g) other = rw (other, and-false (by == r)) r
 pub notes_kept : (r p q by : ℕ) (verb : Verb) (answer : Answer) (mine : List Event) (notes : RegionNotes) → region_named verb ≡ Some q → q ≢ p → StandsForRegionNotes r p mine notes → StandsForRegionNotes r p (event_by by verb answer ∷ mine) notes
 notes_kept r p q by (Verb.Fence f) (Answer.Seen fence) mine notes names differs held =
     let other : (f == p) ≡ false = apart f p q names differs in
-    record { noted = rw (other, and-false (by == r)) held.noted; joined = held.joined; entered = held.entered; opened = held.opened; minimum = held.minimum; shown = rw (other, and-false (by == r)) held.shown; has_read = rw (other, and-false (by == r)) held.has_read; seen = rw (other, and-false (by == r)) held.seen; foreign = rw (other, and-false (by == r)) held.foreign }
+    record { noted = rw (other, and-false (by == r)) held.noted; joined = held.joined; entered = held.entered; opened = held.opened; minimum = held.minimum; has_read = rw (other, and-false (by == r)) held.has_read; seen = rw (other, and-false (by == r)) held.seen; foreign = rw (other, and-false (by == r)) held.foreign }
 notes_kept r p q by (Verb.Fence f) answer mine notes names differs held =
     let other : (f == p) ≡ false = apart f p q names differs in
-    record { noted = held.noted; joined = held.joined; entered = held.entered; opened = held.opened; minimum = held.minimum; shown = held.shown; has_read = held.has_read; seen = held.seen; foreign = held.foreign }
+    record { noted = held.noted; joined = held.joined; entered = held.entered; opened = held.opened; minimum = held.minimum; has_read = held.has_read; seen = held.seen; foreign = held.foreign }
 notes_kept r p q by (Verb.Min f) (Answer.Number x) mine notes names differs held =
     let other : (f == p) ≡ false = apart f p q names differs in
-    record { noted = held.noted; joined = held.joined; entered = held.entered; opened = held.opened; minimum = rw (other, and-false (by == r)) held.minimum; shown = held.shown; has_read = held.has_read ∙ sym (min_elsewhere r p f by x mine (last_grant r p mine) other); seen = held.seen; foreign = held.foreign }
+    record { noted = held.noted; joined = held.joined; entered = held.entered; opened = held.opened; minimum = rw (other, and-false (by == r)) held.minimum; has_read = held.has_read ∙ sym (min_elsewhere r p f by x mine (last_grant r p mine) other); seen = held.seen; foreign = held.foreign }
 notes_kept r p q by (Verb.Min f) answer mine notes names differs held =
     let other : (f == p) ≡ false = apart f p q names differs in
-    record { noted = held.noted; joined = held.joined; entered = held.entered; opened = held.opened; minimum = held.minimum; shown = held.shown; has_read = held.has_read; seen = held.seen; foreign = held.foreign }
+    record { noted = held.noted; joined = held.joined; entered = held.entered; opened = held.opened; minimum = held.minimum; has_read = held.has_read; seen = held.seen; foreign = held.foreign }
 notes_kept r p q by (Verb.Enter f t) Answer.Entered mine notes names differs held =
     let other : (f == p) ≡ false = apart f p q names differs in
-    record { noted = held.noted; joined = held.joined; entered = rw (other, and-false (by == r)) held.entered; opened = rw (other, and-false (by == r)) held.opened; minimum = held.minimum; shown = held.shown; has_read = held.has_read; seen = held.seen; foreign = held.foreign }
+    record { noted = held.noted; joined = held.joined; entered = rw (other, and-false (by == r)) held.entered; opened = rw (other, and-false (by == r)) held.opened; minimum = held.minimum; has_read = held.has_read; seen = held.seen; foreign = held.foreign }
 notes_kept r p q by (Verb.Enter f t) answer mine notes names differs held =
     let other : (f == p) ≡ false = apart f p q names differs in
-    record { noted = held.noted; joined = held.joined; entered = rw (other, and-false (by == r)) held.entered; opened = rw (other, and-false (by == r)) held.opened; minimum = held.minimum; shown = held.shown; has_read = held.has_read; seen = held.seen; foreign = held.foreign }
+    record { noted = held.noted; joined = held.joined; entered = rw (other, and-false (by == r)) held.entered; opened = rw (other, and-false (by == r)) held.opened; minimum = held.minimum; has_read = held.has_read; seen = held.seen; foreign = held.foreign }
 notes_kept r p q by (Verb.PutMin f b) Answer.Done mine notes names differs held =
     let other : (f == p) ≡ false = apart f p q names differs in
-    record { noted = held.noted; joined = rw (other, and-false (by == r)) held.joined; entered = rw (other, and-false (by == r)) held.entered; opened = rw (other, and-false (by == r)) held.opened; minimum = held.minimum; shown = held.shown; has_read = held.has_read; seen = held.seen; foreign = held.foreign }
+    record { noted = held.noted; joined = rw (other, and-false (by == r)) held.joined; entered = rw (other, and-false (by == r)) held.entered; opened = rw (other, and-false (by == r)) held.opened; minimum = held.minimum; has_read = held.has_read; seen = held.seen; foreign = held.foreign }
 notes_kept r p q by (Verb.PutMin f b) answer mine notes names differs held =
     let other : (f == p) ≡ false = apart f p q names differs in
-    record { noted = held.noted; joined = held.joined; entered = rw (other, and-false (by == r)) held.entered; opened = rw (other, and-false (by == r)) held.opened; minimum = held.minimum; shown = held.shown; has_read = held.has_read; seen = held.seen; foreign = held.foreign }
+    record { noted = held.noted; joined = held.joined; entered = rw (other, and-false (by == r)) held.entered; opened = rw (other, and-false (by == r)) held.opened; minimum = held.minimum; has_read = held.has_read; seen = held.seen; foreign = held.foreign }
 notes_kept r p q by (Verb.PutSlot f i b v) answer mine notes names differs held =
     let other : (f == p) ≡ false = apart f p q names differs in
-    record { noted = held.noted; joined = held.joined; entered = rw (other, and-false (by == r)) held.entered; opened = rw (other, and-false (by == r)) held.opened; minimum = held.minimum; shown = held.shown; has_read = held.has_read; seen = held.seen; foreign = held.foreign }
+    record { noted = held.noted; joined = held.joined; entered = rw (other, and-false (by == r)) held.entered; opened = rw (other, and-false (by == r)) held.opened; minimum = held.minimum; has_read = held.has_read; seen = held.seen; foreign = held.foreign }
 notes_kept r p q by verb answer mine notes names differs held = absurd (none_some q names)
+
+-- an event at no region that begins no leadership leaves what was done at each
+left_by : (r p by : ℕ) (verb : Verb) (answer : Answer) (mine : List Event) (notes : RegionNotes) → reads_fence verb ≡ false → region_named verb ≡ None → begins_leadership r (event_by by verb answer) ≡ false → StandsForRegionNotes r p mine notes → StandsForRegionNotes r p (event_by by verb answer ∷ mine) notes
+left_by r p by (Verb.Ask q) answer mine notes other none goes held = record { noted = rw goes held.noted; joined = rw goes held.joined; entered = rw goes held.entered; opened = held.opened; minimum = held.minimum; seen = held.seen; has_read = held.has_read; foreign = rw goes held.foreign }
+left_by r p by (Verb.Fence q) answer mine notes other none goes held = cc
+left_by r p by (Verb.Min q) answer mine notes other none goes held = cc
+left_by r p by (Verb.Enter q t) answer mine notes other none goes held = cc
+left_by r p by (Verb.PutMin q b) answer mine notes other none goes held = cc
+left_by r p by (Verb.PutSlot q i b v) answer mine notes other none goes held = cc
+left_by r p by verb answer mine notes other none goes held = record { noted = held.noted; joined = held.joined; entered = held.entered; opened = held.opened; minimum = held.minimum; seen = held.seen; has_read = held.has_read; foreign = held.foreign }
+
+pub notes_left : (r p : ℕ) (e : Event) (mine : List Event) (notes : RegionNotes) → reads_fence e.verb ≡ false → region_named e.verb ≡ None → begins_leadership r e ≡ false → StandsForRegionNotes r p mine notes → StandsForRegionNotes r p (e ∷ mine) notes
+notes_left r p e mine notes other none goes held = left_by r p e.by e.verb e.answer mine notes other none goes held

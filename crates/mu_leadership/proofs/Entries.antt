@@ -23,15 +23,15 @@ over_then held was ends now same is = rw (same, is, or_comm was now) refl
 
 -- the state with the notes after such a step, over if it was or if the step ends it
 abbrev pub entered_state : Leadership → Bool → List RegionNotes → Leadership
-entered_state state ends notes = record { replica = state.replica; begun = state.begun; asked = state.asked; over = state.over || ends; number = state.number; greatest_minimum = state.greatest_minimum; greatest_number = state.greatest_number; notes = notes; rows_short = state.rows_short }
+entered_state state ends notes = record { replica = state.replica; begun = state.begun; asked = state.asked; over = state.over || ends; number = state.number; greatest_minimum = state.greatest_minimum; greatest_number = state.greatest_number; notes = notes }
 
 -- it stands for the events with the step
 entered_by : (r p by : ℕ) (verb : Verb) (answer : Answer) (mine : List Event) (state : Leadership) (ends : Bool) (notes : List RegionNotes) → region_entered verb ≡ Some p → ends ≡ ends_leadership r mine by verb answer
     → StandForRegionNotes r (event_by by verb answer ∷ mine) notes → StandsForLeadership r mine state → StandsForLeadership r (event_by by verb answer ∷ mine) (entered_state state ends notes)
 entered_by r p by (Verb.Enter q t) answer mine state ends notes names is each held =
-    record { replica = held.replica; begun = held.begun; asked = held.asked; over = over_then state.over (is_over r mine) ends _ held.over is; number = held.number; read = held.read; put = held.put; notes = each; rows_short = held.rows_short }
+    record { replica = held.replica; begun = held.begun; asked = held.asked; over = over_then state.over (is_over r mine) ends _ held.over is; number = held.number; read = held.read; put = held.put; notes = each }
 entered_by r p by (Verb.PutSlot q i b v) answer mine state ends notes names is each held =
-    record { replica = held.replica; begun = held.begun; asked = held.asked; over = over_then state.over (is_over r mine) ends _ held.over is; number = held.number; read = held.read; put = held.put; notes = each; rows_short = held.rows_short }
+    record { replica = held.replica; begun = held.begun; asked = held.asked; over = over_then state.over (is_over r mine) ends _ held.over is; number = held.number; read = held.read; put = held.put; notes = each }
 entered_by r p by verb answer mine state ends notes names is each held = absurd (none_some p names)
 
 pub entered_stands : (r p : ℕ) (e : Event) (mine : List Event) (state : Leadership) (ends : Bool) (notes : List RegionNotes) → region_entered e.verb ≡ Some p → ends ≡ ends_leadership r mine e.by e.verb e.answer → StandForRegionNotes r (e ∷ mine) notes → StandsForLeadership r mine state

@@ -1,23 +1,30 @@
 -- What a read of a fence changes of a leadership.
-use Rattle.std.proofs.Common.{Bool, List, Some, refl, subst, sym, ℕ, ◌∷◌, ◌≡◌, ◌||◌}
+use Rattle.std.proofs.Common.{Bool, List, None, Some, ap, false, refl, subst, sym, ℕ, ◌∙◌, ◌∷◌, ◌≡◌, ◌||◌}
 use Rattle.std.specs.Prelude.{is_some}
 use Rattle.std.specs.declared.option.Option.{Option}
+use Rattle.mu_model.specs.declared.config.Config.{Config}
 use Rattle.mu_model.specs.declared.event.Answer.{Answer}
 use Rattle.mu_model.specs.declared.event.Event.{Event}
 use Rattle.mu_model.specs.declared.event.Fence.{Fence}
 use Rattle.mu_model.specs.declared.event.Verb.{Verb}
 use Rattle.mu_model.specs.Again.{foreign_row, row_with}
+use Rattle.mu_model.specs.Answers.{answer_of}
 use Rattle.mu_model.specs.Entering.{min_read_under}
-use Rattle.mu_model.specs.Leaderships.{ends_leadership, grant_for, is_over, proposal_number}
+use Rattle.mu_model.specs.Histories.{newer_or, newest}
+use Rattle.mu_model.specs.Leaderships.{ends_leadership, fence_seen, grant_for, is_over, proposal_number}
+use Rattle.mu_model.specs.Parts.{IsPossible}
+use Rattle.mu_model.specs.Regions.{fence}
 use Rattle.mu_model.proofs.Basics.{event_by, same_number}
-use Rattle.mu_leadership.specs.Leadership.{StandForRegionNotes, StandsForLeadership, StandsForRegionNotes, are_rows_short}
+use Rattle.mu_agree.proofs.Possible.{at_event}
+use Rattle.mu_leadership.specs.Bearing.{reads_fence}
+use Rattle.mu_leadership.specs.Leadership.{StandForRegionNotes, StandsForLeadership, StandsForRegionNotes}
 use Rattle.mu_leadership.specs.declared.leadership.Leadership.{Leadership}
 use Rattle.mu_leadership.specs.declared.region_notes.RegionNotes.{RegionNotes}
 use Rattle.mu_leadership.proofs.Entries.{over_then}
 
 -- the notes with a fence
 abbrev pub noted_with : RegionNotes → Fence → Option ℕ → Bool → ℕ → RegionNotes
-noted_with notes f noted read row = record { noted = noted; joined = notes.joined; entered = notes.entered; opened = notes.opened; minimum = notes.minimum; shown = Some f.grant; has_read = read; seen = Some f; foreign = row }
+noted_with notes f noted read row = record { noted = noted; joined = notes.joined; entered = notes.entered; opened = notes.opened; minimum = notes.minimum; has_read = read; seen = Some f; foreign = row }
 
 -- they stand for the events with the read of the fence
 seen_here : (r p : ℕ) (f : Fence) (mine : List Event) (notes : RegionNotes) (noted : Option ℕ) (read : Bool) (row : ℕ) → noted ≡ grant_for r (Some f) → read ≡ min_read_under r p f.grant mine
@@ -28,7 +35,6 @@ seen_here r p f mine notes noted read row grant since counted held = record {
   entered = held.entered;
   opened = held.opened;
   minimum = held.minimum;
-  shown = rw (same_number r, same_number p) refl;
   has_read = rw (same_number r, same_number p) since;
   seen = rw (same_number r, same_number p) refl;
   foreign = rw (same_number r, same_number p) counted;
@@ -46,17 +52,31 @@ pub seen_notes : (r p : ℕ) (e : Event) (f : Fence) (mine : List Event) (notes 
 seen_notes r p e f mine notes noted read row own is seen grant since counted held =
     seen_by r p e.by e.verb e.answer f mine (noted_with notes f noted read row) own is seen (seen_here r p f mine notes noted read row grant since counted held)
 
+-- a read of a fence shows it
+pub fence_shown : (c : Config) (r p : ℕ) (mine : List Event) (e : Event) → IsPossible c r (e ∷ mine) → e.verb ≡ Verb.Fence p → (f : Fence) × (e.answer ≡ Answer.Seen f)
+fence_shown c r p mine e possible is =
+    let s = at_event c r mine e possible in
+    (fence p s.older, s.follows.answer ∙ ap (λ v. answer_of c e.by s.older v) is)
+
+-- any other step shows none
+unshown_by : (r p by : ℕ) (verb : Verb) (answer : Answer) → reads_fence verb ≡ false → fence_seen r p by verb answer ≡ None
+unshown_by r p by (Verb.Fence q) answer other = cc
+unshown_by r p by verb answer other = refl
+
+pub still_seen : (r p : ℕ) (mine : List Event) (e : Event) → reads_fence e.verb ≡ false → newest (λ x. fence_seen r p x.by x.verb x.answer) (e ∷ mine) ≡ newest (λ x. fence_seen r p x.by x.verb x.answer) mine
+still_seen r p mine e other = ap (λ o. newer_or o (newest (λ x. fence_seen r p x.by x.verb x.answer) mine)) (unshown_by r p e.by e.verb e.answer other)
+
 -- the state with the notes after a read of a fence, over if it was or if the fence ends it
-abbrev pub fenced_state : Leadership → Bool → List RegionNotes → Bool → Leadership
-fenced_state state ends notes short = record { replica = state.replica; begun = state.begun; asked = state.asked; over = state.over || ends; number = state.number; greatest_minimum = state.greatest_minimum; greatest_number = state.greatest_number; notes = notes; rows_short = short }
+abbrev pub fenced_state : Leadership → Bool → List RegionNotes → Leadership
+fenced_state state ends notes = record { replica = state.replica; begun = state.begun; asked = state.asked; over = state.over || ends; number = state.number; greatest_minimum = state.greatest_minimum; greatest_number = state.greatest_number; notes = notes }
 
 -- it stands for the events with the read
-fenced_by : (r p by : ℕ) (verb : Verb) (answer : Answer) (mine : List Event) (state : Leadership) (ends : Bool) (notes : List RegionNotes) (short : Bool) → verb ≡ Verb.Fence p → ends ≡ ends_leadership r mine by verb answer
-    → StandForRegionNotes r (event_by by verb answer ∷ mine) notes → short ≡ are_rows_short r (event_by by verb answer ∷ mine) → StandsForLeadership r mine state → StandsForLeadership r (event_by by verb answer ∷ mine) (fenced_state state ends notes short)
-fenced_by r p by (Verb.Fence q) answer mine state ends notes short is told each few held =
-    record { replica = held.replica; begun = held.begun; asked = held.asked; over = over_then state.over (is_over r mine) ends _ held.over told; number = held.number; read = held.read; put = held.put; notes = each; rows_short = few }
-fenced_by r p by verb answer mine state ends notes short is told each few held = cc
+fenced_by : (r p by : ℕ) (verb : Verb) (answer : Answer) (mine : List Event) (state : Leadership) (ends : Bool) (notes : List RegionNotes) → verb ≡ Verb.Fence p → ends ≡ ends_leadership r mine by verb answer
+    → StandForRegionNotes r (event_by by verb answer ∷ mine) notes → StandsForLeadership r mine state → StandsForLeadership r (event_by by verb answer ∷ mine) (fenced_state state ends notes)
+fenced_by r p by (Verb.Fence q) answer mine state ends notes is told each held =
+    record { replica = held.replica; begun = held.begun; asked = held.asked; over = over_then state.over (is_over r mine) ends _ held.over told; number = held.number; read = held.read; put = held.put; notes = each }
+fenced_by r p by verb answer mine state ends notes is told each held = cc
 
-pub fenced_stands : (r p : ℕ) (e : Event) (mine : List Event) (state : Leadership) (ends : Bool) (notes : List RegionNotes) (short : Bool) → e.verb ≡ Verb.Fence p → ends ≡ ends_leadership r mine e.by e.verb e.answer → StandForRegionNotes r (e ∷ mine) notes → short ≡ are_rows_short r (e ∷ mine) → StandsForLeadership r mine state
-    → StandsForLeadership r (e ∷ mine) (fenced_state state ends notes short)
-fenced_stands r p e mine state ends notes short is told each few held = fenced_by r p e.by e.verb e.answer mine state ends notes short is told each few held
+pub fenced_stands : (r p : ℕ) (e : Event) (mine : List Event) (state : Leadership) (ends : Bool) (notes : List RegionNotes) → e.verb ≡ Verb.Fence p → ends ≡ ends_leadership r mine e.by e.verb e.answer → StandForRegionNotes r (e ∷ mine) notes → StandsForLeadership r mine state
+    → StandsForLeadership r (e ∷ mine) (fenced_state state ends notes)
+fenced_stands r p e mine state ends notes is told each held = fenced_by r p e.by e.verb e.answer mine state ends notes is told each held

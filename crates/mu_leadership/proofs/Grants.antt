@@ -79,12 +79,6 @@ no_read_before c r p mine e f possible verb answer other = go (min_read_under r 
         let same : last.0 ≡ f.grant = omega arith in
         absurd (other (last.1 ∙ ap Some same))
 
--- whether the minimum was read since the first answer with the last grant, after a fence answer of p
-pub fence_read : (c : Config) (r p : ℕ) (mine : List Event) (e : Event) (q : ℕ) (f : Fence) (result : Bool) → IsPossible c r (e ∷ mine) → e.verb ≡ Verb.Fence q → e.answer ≡ Answer.Seen f → (e.by == r) ≡ true → (q == p) ≡ true → ((last_grant r p mine ≢ Some f.grant → min_read_under r p f.grant mine ≡ false) → result ≡ min_read_under r p f.grant mine) → result ≡ min_read_since r p (e ∷ mine) (last_grant r p (e ∷ mine))
-fence_read c r p mine e q f result possible verb answer own here told =
-    let there : e.verb ≡ Verb.Fence p = verb ∙ ap (λ x. Verb.Fence x) (eqb-true q p here) in
-    told (no_read_before c r p mine e f possible there answer) ∙ rw (verb, answer, own, here) refl
-
 -- the grant that r saw last was seen
 last_was_seen : (r p g : ℕ) (mine : List Event) → last_grant r p mine ≡ Some g → saw r p g mine ≡ true
 last_was_seen r p g [] is = cc
@@ -101,7 +95,15 @@ last_was_seen r p g (e ∷ mine) is = by_event e.by e.verb e.answer is (last_was
         go false h u k is = before is
     by_event by verb answer is before = before is
 
--- the same after a minimum was read of p
+-- a fence of p was seen exactly if a grant of it was
+pub seen_granted : (r p : ℕ) (mine : List Event) → is_some (newest (λ e. fence_seen r p e.by e.verb e.answer) mine) ≡ is_some (last_grant r p mine)
+seen_granted r p mine = go (newest (λ e. fence_seen r p e.by e.verb e.answer) mine)
+  where
+    go : (o : Option Fence) → is_some o ≡ is_some (grant_of o)
+    go None = refl
+    go (Some f) = refl
+
+-- whether the minimum was read since the first answer with the last grant, after a minimum was read of p
 pub min_read_now : (r p : ℕ) (mine : List Event) (e : Event) (q x : ℕ) (result : Bool) → e.verb ≡ Verb.Min q → e.answer ≡ Answer.Number x → (e.by == r) ≡ true → (q == p) ≡ true → result ≡ is_some (last_grant r p mine) → min_read_since r p mine (last_grant r p mine) ≡ false → result ≡ min_read_since r p (e ∷ mine) (last_grant r p (e ∷ mine))
 min_read_now r p mine e q x result verb answer own here is none = is ∙ step (last_grant r p mine) refl ∙ ap (λ o. min_read_since r p (e ∷ mine) o) same_last
   where

@@ -27,6 +27,11 @@ changes_leadership (Verb.PutMin p b) = true
 changes_leadership (Verb.PutSlot p i b v) = true
 changes_leadership _ = false
 
+-- the verb reads a fence
+abbrev pub reads_fence : Verb → Bool
+reads_fence (Verb.Fence p) = true
+reads_fence _ = false
+
 -- the region at which the verb is a step, if it may change what was done there and nowhere else
 abbrev pub region_named : Verb → Option ℕ
 region_named (Verb.Fence p) = Some p

@@ -1,5 +1,5 @@
 -- stands for (leadership): the state of leaderships and grants stands for the events of r.
-use Rattle.std.specs.Prelude.{Bool, List, None, Some, nat_lt, ℕ, ◌<◌, ◌≡◌}
+use Rattle.std.specs.Prelude.{List, None, Some, ℕ, ◌<◌, ◌≡◌}
 use Rattle.std.specs.declared.option.Option.{Option}
 use Rattle.std.specs.List.{slice_get}
 use Rattle.mu_model.specs.declared.event.Event.{Event}
@@ -8,7 +8,7 @@ use Rattle.mu_model.specs.declared.event.Verb.{Verb}
 use Rattle.mu_model.specs.Again.{foreign_row}
 use Rattle.mu_model.specs.Points.{last_ask}
 use Rattle.mu_model.specs.Entering.{any_min_read, last_opened, min_read, min_read_since, open_target}
-use Rattle.mu_model.specs.Histories.{all_below, greatest, newest, or_zero}
+use Rattle.mu_model.specs.Histories.{greatest, newest, or_zero}
 use Rattle.mu_model.specs.Leaderships.{fence_seen, grant_at_joining, has_begun, is_over, leadership, noted_grant, number_put, proposal_number}
 use Rattle.mu_leadership.specs.declared.region_notes.RegionNotes.{RegionNotes}
 use Rattle.mu_leadership.specs.declared.leadership.Leadership.{Leadership}
@@ -29,9 +29,8 @@ pub record StandsForRegionNotes (r p : ℕ) (mine : List Event) (notes : RegionN
   pub entered : notes.entered ≡ open_target r p mine
   pub opened : notes.opened ≡ last_opened r p mine
   pub minimum : notes.minimum ≡ or_zero (newest (λ e. min_read r p e.by e.verb e.answer) mine)
-  pub shown : notes.shown ≡ last_grant r p mine
-  pub has_read : notes.has_read ≡ min_read_since r p mine (last_grant r p mine)
   pub seen : notes.seen ≡ newest (λ e. fence_seen r p e.by e.verb e.answer) mine
+  pub has_read : notes.has_read ≡ min_read_since r p mine (last_grant r p mine)
   pub foreign : notes.foreign ≡ foreign_row r p mine
 
 -- the same of every region
@@ -39,10 +38,6 @@ abbrev pub StandForRegionNotes : ℕ → List Event → List RegionNotes → Typ
 StandForRegionNotes r mine all =
     (p : ℕ) (notes : RegionNotes) → slice_get all p ≡ Some notes
     → StandsForRegionNotes r p mine notes
-
--- no region was seen open to another as often as one that has gone astray
-abbrev pub are_rows_short : ℕ → List Event → Bool
-are_rows_short r mine = all_below 7 (λ p. nat_lt (foreign_row r p mine) 16)
 
 -- the state stands for the events of r
 pub record StandsForLeadership (r : ℕ) (mine : List Event) (state : Leadership) : Type 0 where
@@ -56,7 +51,6 @@ pub record StandsForLeadership (r : ℕ) (mine : List Event) (state : Leadership
       ≡ greatest (λ e. any_min_read r e.by e.verb e.answer) (leadership r mine)
   pub put : state.greatest_number ≡ greatest (λ e. number_put r e.by e.verb) mine
   pub notes : StandForRegionNotes r mine state.notes
-  pub rows_short : state.rows_short ≡ are_rows_short r mine
 
 -- the fence that the verb reads is of one of the first n regions
 abbrev pub ReadsWithin : ℕ → Verb → Type 0

@@ -1,5 +1,5 @@
 //! What the leaderships of a replica have come to.
-ghost use Rattle.std.specs.Prelude.{IsTrue, List, None, Some, [], ℕ, ◌%◌, ◌+◌, ◌<◌, ◌∷◌, ◌≡◌, ◌≤◌, ◌↔◌, ◌⊎◌};
+ghost use Rattle.std.specs.Prelude.{IsTrue, List, None, Some, [], false, ℕ, ◌%◌, ◌+◌, ◌<◌, ◌∷◌, ◌≡◌, ◌≤◌, ◌↔◌, ◌⊎◌};
 ghost use Rattle.std.specs.declared.option.Option.{Option};
 ghost use Rattle.mu_model.specs.declared.config.Config.{Config};
 ghost use Rattle.mu_model.specs.declared.event.Event.{Event};
@@ -11,14 +11,15 @@ ghost use Rattle.mu_model.specs.Entering.{any_min_read, has_confirmed_majority, 
 ghost use Rattle.mu_model.specs.Histories.{count_below, greatest, newest, or_zero};
 ghost use Rattle.mu_model.specs.Leaderships.{ends_leadership, fence_seen, grant_at_joining, has_begun, has_quorum, is_changed, is_member, is_over, leadership, noted_grant, number_put, proposal_number};
 ghost use Rattle.mu_model.specs.Parts.{IsPossible};
-ghost use Rattle.mu_leadership.specs.Leadership.{StandsForRegionNotes, StandsForLeadership, ReadsWithin, are_rows_short};
+ghost use Rattle.mu_leadership.specs.Bearing.{reads_fence};
+ghost use Rattle.mu_leadership.specs.Leadership.{StandsForRegionNotes, StandsForLeadership};
 
 use crate::after::{
     asked_after, begun_after, greatest_minimum_after, greatest_number_after, number_after,
 };
 use crate::bearing::changes_leadership;
 use crate::entering::{enter_at, is_lost, is_missed, target_named};
-use crate::region_notes::{RegionNotes, are_short, begins, no_notes, see_at, take_at_regions};
+use crate::region_notes::{RegionNotes, begins, no_notes, see_at, take_at_regions};
 use mu_model::{Answer, Config, Event, Fence, Target, Verb, majority, next_number};
 
 /// What the leaderships of a replica have come to.
@@ -32,9 +33,6 @@ pub struct Leadership {
     greatest_minimum: u64,
     greatest_number: u32,
     notes: [RegionNotes; 7],
-    /// Whether the rows of foreign fences are short at all regions: so no turn has to look for a
-    /// long one.
-    rows_short: bool,
 }
 
 /// Whether a fence isn't the one under which the region joined.
@@ -94,7 +92,6 @@ impl Leadership {
             greatest_minimum: 0,
             greatest_number: 0,
             notes: no_notes(),
-            rows_short: true,
         }
     }
 
@@ -118,9 +115,9 @@ impl Leadership {
         self.notes_of(p).joined
     }
 
-    /// Whether the event ends the leadership.
+    /// Whether the event, which reads no fence, ends the leadership.
     fn is_ended_by(&self, event: &Event) -> bool
-        ensures { (r : ℕ) → (mine : List Event) → ReadsWithin 7 event.now.verb
+        ensures { (r : ℕ) → (mine : List Event) → reads_fence event.now.verb ≡ false
             → StandsForLeadership r mine self.now
             → result ≡ ends_leadership r mine event.now.by event.now.verb event.now.answer }
     {
@@ -133,14 +130,13 @@ impl Leadership {
                     None => false,
                     Some(number) => u64::from(number) < x,
                 },
-                (Verb::Fence(p), Answer::Seen(fence)) => is_fence_changed(self.joined(p), fence),
                 _ => false,
             }
     }
 
-    /// Whether the leadership is over after the event.
+    /// Whether the leadership is over after the event, which reads no fence.
     fn over_after(&self, r: u8, event: &Event) -> bool
-        ensures { (mine : List Event) → ReadsWithin 7 event.now.verb
+        ensures { (mine : List Event) → reads_fence event.now.verb ≡ false
             → StandsForLeadership r mine self.now
             → result ≡ is_over r (event.now ∷ mine) }
     {
@@ -214,29 +210,26 @@ impl Leadership {
                 let numbered = self.number.is_some();
                 self.over |= is_fence_changed(self.joined(p), fence);
                 see_at(&mut self.notes, p, r, fence, numbered);
-                self.rows_short = are_short(&self.notes);
             }
-            _ => self.take_other(r, event),
+            // The answer to a read of a fence is that fence.
+            _ => {}
         }
     }
 
     /// Takes an event with any other verb.
     #[inline(never)]
     fn take_other(&mut self, r: u8, event: &Event)
-        ensures { (c : Config) → (mine : List Event) → c.replicas ≤ 7
-            → IsPossible c r (event.now ∷ mine)
+        ensures { (mine : List Event) → reads_fence event.now.verb ≡ false
             → StandsForLeadership r mine self.old
             → StandsForLeadership r (event.now ∷ mine) self.new }
     {
-        let numbered = self.number.is_some();
         self.over = self.over_after(r, event);
         self.begun = begun_after(self.begun, r, event);
         self.asked = asked_after(self.asked, r, event);
         self.number = number_after(self.number, r, event);
         self.greatest_minimum = greatest_minimum_after(self.greatest_minimum, r, event);
         self.greatest_number = greatest_number_after(self.greatest_number, r, event);
-        take_at_regions(&mut self.notes, r, event, numbered);
-        self.rows_short = are_short(&self.notes);
+        take_at_regions(&mut self.notes, r, event);
     }
 
     /// Whether the leadership is over.
@@ -316,20 +309,12 @@ impl Leadership {
         self.notes_of(p).seen
     }
 
-    /// How many times in a row, up to 16, `p` was seen open to another under the number.
+    /// How many times in a row, up to `LONG_ROW`, `p` was seen open to another under the number.
     pub fn foreign(&self, p: u8) -> u8
         ensures { (r : ℕ) → (mine : List Event) → p < 7 → StandsForLeadership r mine self.now
             → result ≡ foreign_row r p mine }
     {
         self.notes_of(p).foreign
-    }
-
-    /// Whether no region was seen open to another 16 times in a row under the number.
-    pub fn has_short_rows(&self) -> bool
-        ensures { (r : ℕ) → (mine : List Event) → StandsForLeadership r mine self.now
-            → result ≡ are_rows_short r mine }
-    {
-        self.rows_short
     }
 
     /// The target that `p` was entered with last.

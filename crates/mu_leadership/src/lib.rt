@@ -11,4 +11,4 @@ mod region_notes;
 
 pub use bearing::is_leader_verb;
 pub use leadership::Leadership;
-pub use region_notes::begins;
+pub use region_notes::{LONG_ROW, begins};

@@ -1,5 +1,5 @@
 //! What a replica has done at one region.
-ghost use Rattle.std.specs.Prelude.{List, Some, [], false, if◌then◌else◌, is_some, nat_lt, ℕ, ◌<◌, ◌∷◌, ◌≡◌, ◌≢◌};
+ghost use Rattle.std.specs.Prelude.{List, Some, [], false, if◌then◌else◌, is_some, ℕ, ◌<◌, ◌∷◌, ◌≡◌, ◌≢◌};
 ghost use Rattle.mu_model.specs.declared.config.Config.{Config};
 ghost use Rattle.mu_model.specs.declared.event.Answer.{Answer as SomeAnswer};
 ghost use Rattle.mu_model.specs.declared.event.Event.{Event};
@@ -9,11 +9,15 @@ ghost use Rattle.mu_model.specs.Entering.{has_read_min, last_opened, min_read, m
 ghost use Rattle.mu_model.specs.Histories.{newest, or_zero};
 ghost use Rattle.mu_model.specs.Leaderships.{begins_leadership, fence_seen, grant_at_joining, grant_for, noted_grant, proposal_number};
 ghost use Rattle.mu_model.specs.Parts.{IsPossible};
-ghost use Rattle.mu_leadership.specs.Leadership.{StandForRegionNotes, StandsForRegionNotes, are_rows_short, last_grant};
-ghost use Rattle.mu_leadership.specs.Bearing.{region_named};
+ghost use Rattle.mu_leadership.specs.Leadership.{StandForRegionNotes, StandsForRegionNotes, grant_of, last_grant};
+ghost use Rattle.mu_leadership.specs.Bearing.{reads_fence, region_named};
 
 use crate::bearing::region_of;
 use mu_model::{Answer, Event, Fence, Target, Verb};
+
+/// How many times in a row a region is seen open to another until it has gone astray. No row is
+/// counted further.
+pub const LONG_ROW: u8 = 16;
 
 /// What a replica has done at one region.
 #[derive(Clone, Copy)]
@@ -28,13 +32,12 @@ pub struct RegionNotes {
     pub opened: Option<Target>,
     /// The minimum that it read last.
     pub minimum: u64,
-    /// The grant that it saw last.
-    pub shown: Option<u32>,
-    /// Whether it has read the minimum since it first saw that grant.
-    pub has_read: bool,
     /// The fence that it saw last.
     pub seen: Option<Fence>,
-    /// How many times in a row, up to 16, it saw the region open to another, under its number.
+    /// Whether it has read the minimum since it first saw the grant of that fence.
+    pub has_read: bool,
+    /// How many times in a row, up to `LONG_ROW`, it saw the region open to another, under its
+    /// number.
     pub foreign: u8,
 }
 
@@ -59,20 +62,13 @@ fn grant_named(r: u8, fence: Fence) -> Option<u32>
     }
 }
 
-/// The noted grant of `p` after the event.
-fn noted_after(held: Option<u32>, r: u8, p: u8, event: &Event) -> Option<u32>
-    ensures { (mine : List Event) → held ≡ noted_grant r p mine
-        → result ≡ noted_grant r p (event.now ∷ mine) }
+/// The noted grant of `p` after the event, which reads no fence.
+fn noted_after(held: Option<u32>, r: u8, event: &Event) -> Option<u32>
+    ensures { (p : ℕ) → (mine : List Event) → reads_fence event.now.verb ≡ false
+        → held ≡ noted_grant r p mine → result ≡ noted_grant r p (event.now ∷ mine) }
 {
-    match (event.verb, event.answer) {
-        (Verb::Ask(q), _) => { if event.by == r && q == 0 { None } else { held } }
-        (Verb::Fence(q), Answer::Seen(fence)) => {
-            if event.by == r && q == p {
-                grant_named(r, fence)
-            } else {
-                held
-            }
-        }
+    match event.verb {
+        Verb::Ask(q) => { if event.by == r && q == 0 { None } else { held } }
         _ => held,
     }
 }
@@ -162,20 +158,13 @@ fn minimum_after(held: u64, r: u8, p: u8, event: &Event) -> u64
     }
 }
 
-/// The grant of `p` that `r` saw last, after the event.
-fn shown_after(held: Option<u32>, r: u8, p: u8, event: &Event) -> Option<u32>
-    ensures { (mine : List Event) → held ≡ last_grant r p mine
-        → result ≡ last_grant r p (event.now ∷ mine) }
+/// The grant of the fence, if there is one.
+fn grant_in(fence: Option<Fence>) -> Option<u32>
+    ensures { result ≡ grant_of fence }
 {
-    match (event.verb, event.answer) {
-        (Verb::Fence(q), Answer::Seen(fence)) => {
-            if event.by == r && q == p {
-                Some(fence.grant)
-            } else {
-                held
-            }
-        }
-        _ => held,
+    match fence {
+        None => None,
+        Some(fence) => Some(fence.grant),
     }
 }
 
@@ -194,41 +183,17 @@ fn has_read_under(held: bool, shown: Option<u32>, grant: u32) -> bool
 }
 
 /// Whether `r` has read the minimum of `p` since it first saw the grant that it saw last, after the
-/// event.
-fn has_read_after(held: bool, shown: Option<u32>, r: u8, p: u8, event: &Event) -> bool
-    ensures { (c : Config) → (mine : List Event) → IsPossible c r (event.now ∷ mine)
-        → shown ≡ last_grant r p mine → held ≡ min_read_since r p mine (last_grant r p mine)
+/// event, which reads no fence.
+fn has_read_after(held: bool, seen: Option<Fence>, r: u8, p: u8, event: &Event) -> bool
+    ensures { (mine : List Event) → reads_fence event.now.verb ≡ false
+        → seen ≡ newest (λ e. fence_seen r p e.by e.verb e.answer) mine
+        → held ≡ min_read_since r p mine (last_grant r p mine)
         → result ≡ min_read_since r p (event.now ∷ mine) (last_grant r p (event.now ∷ mine)) }
 {
     match (event.verb, event.answer) {
-        (Verb::Fence(q), Answer::Seen(fence)) => {
-            if event.by == r && q == p {
-                has_read_under(held, shown, fence.grant)
-            } else {
-                held
-            }
-        }
         (Verb::Min(q), Answer::Number(_)) => {
             if event.by == r && q == p {
-                held || shown.is_some()
-            } else {
-                held
-            }
-        }
-        _ => held,
-    }
-}
-
-/// The fence of `p` that `r` saw last, after the event.
-fn seen_after(held: Option<Fence>, r: u8, p: u8, event: &Event) -> Option<Fence>
-    ensures { (mine : List Event)
-        → held ≡ newest (λ e. fence_seen r p e.by e.verb e.answer) mine
-        → result ≡ newest (λ e. fence_seen r p e.by e.verb e.answer) (event.now ∷ mine) }
-{
-    match (event.verb, event.answer) {
-        (Verb::Fence(q), Answer::Seen(fence)) => {
-            if event.by == r && q == p {
-                Some(fence)
+                held || seen.is_some()
             } else {
                 held
             }
@@ -254,7 +219,7 @@ fn row_after(held: u8, r: u8, fence: Fence) -> u8
 {
     if !is_foreign(r, fence) {
         0
-    } else if held < 16 {
+    } else if held < LONG_ROW {
         held.saturating_add(1)
     } else {
         held
@@ -272,21 +237,14 @@ fn row_with(held: u8, numbered: bool, r: u8, fence: Fence) -> u8
     }
 }
 
-/// How many times in a row `r` saw the region `p` open to another, after the event.
-fn foreign_after(held: u8, numbered: bool, r: u8, p: u8, event: &Event) -> u8
-    ensures { (mine : List Event) → held ≡ foreign_row r p mine
-        → numbered ≡ is_some (proposal_number r mine)
-        → result ≡ foreign_row r p (event.now ∷ mine) }
+/// How many times in a row `r` saw the region `p` open to another, after the event, which reads no
+/// fence.
+fn foreign_after(held: u8, r: u8, event: &Event) -> u8
+    ensures { (p : ℕ) → (mine : List Event) → reads_fence event.now.verb ≡ false
+        → held ≡ foreign_row r p mine → result ≡ foreign_row r p (event.now ∷ mine) }
 {
-    match (event.verb, event.answer) {
-        (Verb::Ask(q), _) => { if event.by == r && q == 0 { 0 } else { held } }
-        (Verb::Fence(q), Answer::Seen(fence)) => {
-            if event.by == r && q == p && numbered {
-                row_after(held, r, fence)
-            } else {
-                held
-            }
-        }
+    match event.verb {
+        Verb::Ask(q) => { if event.by == r && q == 0 { 0 } else { held } }
         _ => held,
     }
 }
@@ -302,31 +260,27 @@ impl RegionNotes {
             entered: None,
             opened: None,
             minimum: 0,
-            shown: None,
-            has_read: false,
             seen: None,
+            has_read: false,
             foreign: 0,
         }
     }
 
-    /// What `r` has done at `p` after the event.
-    /// `numbered` says whether its leadership has its number.
-    pub fn after(self, r: u8, p: u8, event: &Event, numbered: bool) -> RegionNotes
-        ensures { (c : Config) → (mine : List Event) → IsPossible c r (event.now ∷ mine)
-            → numbered ≡ is_some (proposal_number r mine)
+    /// What `r` has done at `p` after the event, which reads no fence.
+    pub fn after(self, r: u8, p: u8, event: &Event) -> RegionNotes
+        ensures { (mine : List Event) → reads_fence event.now.verb ≡ false
             → StandsForRegionNotes r p mine self
             → StandsForRegionNotes r p (event.now ∷ mine) result }
     {
         RegionNotes {
-            noted: noted_after(self.noted, r, p, event),
+            noted: noted_after(self.noted, r, event),
             joined: joined_after(self.joined, self.noted, r, p, event),
             entered: entered_after(self.entered, r, p, event),
             opened: opened_after(self.opened, r, p, event),
             minimum: minimum_after(self.minimum, r, p, event),
-            shown: shown_after(self.shown, r, p, event),
-            has_read: has_read_after(self.has_read, self.shown, r, p, event),
-            seen: seen_after(self.seen, r, p, event),
-            foreign: foreign_after(self.foreign, numbered, r, p, event),
+            seen: self.seen,
+            has_read: has_read_after(self.has_read, self.seen, r, p, event),
+            foreign: foreign_after(self.foreign, r, event),
         }
     }
 
@@ -340,8 +294,7 @@ impl RegionNotes {
             → StandsForRegionNotes r p (e ∷ mine) self.new }
     {
         self.noted = grant_named(r, fence);
-        self.has_read = has_read_under(self.has_read, self.shown, fence.grant);
-        self.shown = Some(fence.grant);
+        self.has_read = has_read_under(self.has_read, grant_in(self.seen), fence.grant);
         self.seen = Some(fence);
         self.foreign = row_with(self.foreign, numbered, r, fence);
     }
@@ -363,31 +316,29 @@ pub(crate) fn no_notes() -> [RegionNotes; 7]
     [RegionNotes::new(); 7]
 }
 
-/// What was done at each region, with the event.
-fn take_at_each(notes: &mut [RegionNotes; 7], r: u8, event: &Event, numbered: bool)
-    ensures { (c : Config) → (mine : List Event) → IsPossible c r (event.now ∷ mine)
-        → numbered ≡ is_some (proposal_number r mine)
+/// What was done at each region, with the event, which reads no fence.
+fn take_at_each(notes: &mut [RegionNotes; 7], r: u8, event: &Event)
+    ensures { (mine : List Event) → reads_fence event.now.verb ≡ false
         → StandForRegionNotes r mine notes.old
         → StandForRegionNotes r (event.now ∷ mine) notes.new }
 {
     for p in 0..7u8 {
         let at = usize::from(p);
         let held = notes[at];
-        notes[at] = held.after(r, p, event, numbered);
+        notes[at] = held.after(r, p, event);
     }
 }
 
-/// What was done at the region that the event names, with the event.
-fn take_at(notes: &mut [RegionNotes; 7], p: u8, r: u8, event: &Event, numbered: bool)
-    ensures { (c : Config) → (mine : List Event) → IsPossible c r (event.now ∷ mine)
-        → numbered ≡ is_some (proposal_number r mine)
+/// What was done at the region that the event names, with the event, which reads no fence.
+fn take_at(notes: &mut [RegionNotes; 7], p: u8, r: u8, event: &Event)
+    ensures { (mine : List Event) → reads_fence event.now.verb ≡ false
         → region_named event.now.verb ≡ Some p → StandForRegionNotes r mine notes.old
         → StandForRegionNotes r (event.now ∷ mine) notes.new }
 {
     if p < 7 {
         let at = usize::from(p);
         let held = notes[at];
-        notes[at] = held.after(r, p, event, numbered);
+        notes[at] = held.after(r, p, event);
     }
 }
 
@@ -404,39 +355,18 @@ pub(crate) fn see_at(notes: &mut [RegionNotes; 7], p: u8, r: u8, fence: Fence, n
     }
 }
 
-/// What was done at the regions that the event bears on, with the event.
-pub(crate) fn take_at_regions(notes: &mut [RegionNotes; 7], r: u8, event: &Event, numbered: bool)
-    ensures { (c : Config) → (mine : List Event) → IsPossible c r (event.now ∷ mine)
-        → numbered ≡ is_some (proposal_number r mine)
+/// What was done at the regions that the event bears on, with the event, which reads no fence.
+pub(crate) fn take_at_regions(notes: &mut [RegionNotes; 7], r: u8, event: &Event)
+    ensures { (mine : List Event) → reads_fence event.now.verb ≡ false
         → StandForRegionNotes r mine notes.old
         → StandForRegionNotes r (event.now ∷ mine) notes.new }
 {
     match region_of(&event.verb) {
-        Some(p) => take_at(notes, p, r, event, numbered),
-        None => take_at_each(notes, r, event, numbered),
+        Some(p) => take_at(notes, p, r, event),
+        None => {
+            if begins(r, event) {
+                take_at_each(notes, r, event);
+            }
+        }
     }
-}
-
-/// Whether the region `p` was seen open to another less than 16 times in a row.
-fn is_short(notes: &[RegionNotes; 7], p: u8) -> bool
-    ensures { (r : ℕ) → (mine : List Event) → p < 7 → StandForRegionNotes r mine notes.now
-        → result ≡ nat_lt (foreign_row r p mine) 16 }
-{
-    if p < 7 {
-        notes[usize::from(p)].foreign < 16
-    } else {
-        true
-    }
-}
-
-/// Whether all regions were.
-pub(crate) fn are_short(notes: &[RegionNotes; 7]) -> bool
-    ensures { (r : ℕ) → (mine : List Event) → StandForRegionNotes r mine notes.now
-        → result ≡ are_rows_short r mine }
-{
-    let mut all = true;
-    for p in 0..7u8 {
-        all = is_short(notes, p) && all;
-    }
-    all
 }

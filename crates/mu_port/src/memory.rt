@@ -123,6 +123,7 @@ impl<M: Memory> Port for MemoryPort<M> {
         self.by
     }
 
+    #[inline(always)]
     fn step(&mut self, verb: Verb) -> Answer {
         self.memory.step(self.by, verb)
     }

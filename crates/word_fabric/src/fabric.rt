@@ -85,6 +85,7 @@ impl Memory for WordFabric {
         &self.config
     }
 
+    #[inline(always)]
     fn step(&mut self, by: u8, verb: Verb) -> Answer {
         match verb {
             Verb::Ask(p) => self.make(by, Verb::Ask(p)),

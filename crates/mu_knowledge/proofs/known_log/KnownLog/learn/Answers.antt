@@ -22,6 +22,6 @@ returns-in-Some-clause-values c = λ values good fits held.
       room = rw c.push_value.ensures.room room;
       marks = c.note_mark.ensures values held.marks;
       counts = subst (λ (counts : List ℕ). CountsCommands k (values ++ v ∷ []) counts) (sym back) counts;
-      held = c.held_after-self.ensures values good short held.held;
-      rows = held.rows;
+      rows = c.rows_after-self.ensures values good short held.rows;
+      by_client = held.by_client;
     })

@@ -7,7 +7,7 @@ use Rattle.mu_knowledge.proofs.known_log.KnownLog.next_batch.Goals as goal
 pub returns-clause-is : goal.returns-clause-is
 returns-clause-is c = λ values good low held.
     let k = c.args.config.now in
-    c.batch_after.ensures good low held.rows
+    c.batch_after.ensures good low held.by_client
     ∙ ap (λ (n : ℕ). first_in (begins_after k c.args.client n) 0 (row_count k)) (c.count_at.ensures k values low held)
 
 pub returns-clause-named : goal.returns-clause-named

@@ -20,7 +20,7 @@ returns c mine good possible accepted held =
     let back = take_at c.note_seen.new.seen (drop (length c.note_seen.new.seen) c.learn.new.self.seen.items) c.learn.new.self.seen.len (c.note_seen.auto.seen ∙ c.deref_mut.ensures.len) in
     let before = subst (λ (seen : List Bool). SeesEntries r mine seen) (sym same) held.seen in
     record {
-      values = record { are = values.are; room = values.room; marks = values.marks; counts = values.counts; held = values.held; rows = values.rows };
+      values = record { are = values.are; room = values.room; marks = values.marks; counts = values.counts; rows = values.rows; by_client = values.by_client };
       fuos = c.note_fuo.ensures mine (subst (λ fuos. ReadsFuos r mine fuos) (sym c.learn.ensures.fuos) held.fuos);
       positions = ap length back ∙ (long ∙ held.positions);
       seen = subst (λ (seen : List Bool). SeesEntries r (e ∷ mine) seen) (sym back) (c.note_seen.ensures k mine near (ap length same ∙ held.positions) before);

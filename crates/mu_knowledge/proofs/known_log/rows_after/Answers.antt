@@ -1,6 +1,6 @@
 use Rattle.std.proofs.Common.{arith}
 use Rattle.mu_knowledge.proofs.Learning.{few_after, rows_added}
-use Rattle.mu_knowledge.proofs.known_log.held_after.Goals as goal
+use Rattle.mu_knowledge.proofs.known_log.rows_after.Goals as goal
 
 pub returns : goal.returns
 returns c values good short is =
