@@ -17,16 +17,25 @@ import subprocess
 import sys
 
 from beginning import begin
-from measure_speed import ROWS, input_of
+from measure_speed import even, input_of, job
 from programs import BIN, NO_ANSWER
 
-# Of each run the words, the input (a row of tools/measure_speed.py, or none), and its bound in kB: about 4 %
-# above what it needed on 29 November 2026. A change that needs more for a reason measures anew.
+# Jobs with so few steps that their lists of events are short: then stores and books are much of their memory.
+FEW_STEPS = {
+    "7x1500, few steps": job(7, even(1500), budget=1000),
+    "1x1500, few steps": job(1, even(1500), budget=1000),
+}
+# Of each run the words, the input (a row of tools/measure_speed.py or one of few steps, or none), and its bound in
+# kB: less than 4 % above what it needed on 30 November 2026, so that stores of twice the size are above it. A book of
+# twice the size takes 2 % more of its run, so this bound is 1 % above. A change that needs more for a reason measures
+# anew, and so does one that needs less.
 RUNS = [
-    (["replay"], "7x1500", 87_000),
-    (["replay"], "3x1500", 40_000),
-    (["bulk", "1500"], None, 39_000),
-    (["trace"], "7x400", 81_000),
+    (["replay"], "7x1500", 49_900),
+    (["replay"], "3x1500", 24_100),
+    (["replay"], "7x1500, few steps", 12_900),
+    (["book"], "1x1500, few steps", 5_915),
+    (["bulk", "1500"], None, 22_900),
+    (["trace"], "7x400", 43_500),
     (["check"], "check", 77_500),
 ]
 # Two rows of which the first takes less time than the other, and how many times that it may take. If
@@ -76,7 +85,8 @@ def seconds(program, row):
 
 
 def given_to(row):
-    return input_of(row) if row else b""
+    """What the program reads for a row."""
+    return FEW_STEPS.get(row) or (input_of(row) if row else b"")
 
 
 def troubles(program):

@@ -21,7 +21,7 @@ TOP = os.path.dirname(os.path.dirname(os.path.abspath(__file__)))
 RING, BUDGET = 64, 131071
 
 
-def job(replicas, shares, version=1, batch=None, ring=RING, stops=()):
+def job(replicas, shares, version=1, batch=None, ring=RING, stops=(), budget=BUDGET):
     """A job of clients that send `put kK K`, with K counted over all commands as they come in turn.
 
     shares has the number of commands of each client, stops the replicas that stop and after how many steps.
@@ -33,7 +33,7 @@ def job(replicas, shares, version=1, batch=None, ring=RING, stops=()):
             if len(own) < share:
                 own.append(f"put k{count} {count}")
                 count += 1
-    lines = [f"mu {version}", f"replicas {replicas}", f"ring {ring}", f"budget {BUDGET}"]
+    lines = [f"mu {version}", f"replicas {replicas}", f"ring {ring}", f"budget {budget}"]
     lines += [f"batch {batch}"] if batch else []
     for client, own in enumerate(sent):
         lines += [f"client {client}", *own]

@@ -1,12 +1,12 @@
 //! The sending of commands, a branch for each client.
-ghost use Rattle.std.specs.Prelude.{◌+◌, ◌<◌, ◌≤◌, [], ◌∷◌, ◌++◌, length};
+ghost use Rattle.std.specs.Prelude.{◌≡◌, ◌+◌, ◌<◌, ◌≤◌, [], ◌∷◌, ◌++◌, length};
 ghost use Rattle.crossbeam_queue.specs.Passes.{view};
 ghost use Rattle.front_desk.specs.Arrivals.{commands_by};
 ghost use Rattle.front_desk.specs.Sendings.{sent_by, Sends, BothSend};
 
 use crate::line::{Line, LinePass, Sent};
 use kv_store::Command;
-use mu_gate::Gate;
+use mu_gate::{Gate, Passed};
 use mu_input::{MOST_COMMANDS, MOST_SENDERS};
 use std::sync::Wait;
 use std::thread;
@@ -21,9 +21,12 @@ pub struct Pair {
     pub high: LinePass,
 }
 
-/// Sends one command. The line has room for all commands, so it goes through at last.
-fn send_one<R: Wait>(rt: &R, line: &Line, pass: &mut LinePass, command: Command)
+/// Sends one command of a client that passed the gate before it. The line has room for all
+/// commands, so it goes through at last.
+fn send_one<R: Wait>(rt: &R, line: &Line, pass: &mut LinePass, command: Command, _passed: Passed)
     requires client { command.client < MOST_SENDERS }
+    requires thread { _passed.thread ≡ command.client }
+    requires step { _passed.step ≡ length (sent_by (view pass.old)) }
     requires hand { Sends line.now command.client (sent_by (view pass.old)) pass.old }
     ensures hand { Sends line.now command.client
         (sent_by (view pass.old) ++ command ∷ []) pass.new }
@@ -54,8 +57,8 @@ fn send<R: Wait, G: Gate>(
     let mut count: u32 = 0;
     for command in commands {
         if command.client == client {
-            gate.pass(client, count);
-            send_one(rt, line, &mut pass, *command);
+            let passed = Passed::through(gate, client, count);
+            send_one(rt, line, &mut pass, *command, passed);
             count += 1;
         }
     }

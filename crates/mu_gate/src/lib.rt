@@ -1,6 +1,8 @@
-//! Places where threads that run concurrently can be held.
+//! The threads of a run: one for each of some items, and places where they can be held.
 #![tactic(auto)]
 
 mod gate;
+mod threads;
 
-pub use gate::{Gate, OpenGate};
+pub use gate::{Gate, OpenGate, Passed};
+pub use threads::change_at_once;

@@ -1,7 +1,7 @@
 //! What a replica keeps of the words that it found.
 ghost use Rattle.std.specs.List.{slice_get};
 ghost use Rattle.std.specs.declared.option.Option.{Option};
-ghost use Rattle.std.specs.Prelude.{IfOk, List, Some, [], set, unwrap_or, ℕ, ◌+◌, ◌*◌, ◌<◌, ◌≡◌};
+ghost use Rattle.std.specs.Prelude.{IfOk, List, Some, [], length, set, unwrap_or, ℕ, ◌+◌, ◌*◌, ◌<◌, ◌≡◌};
 ghost use Rattle.mu_model.specs.Contents.{IsConfig};
 ghost use Rattle.mu_model.specs.Leaderships.{grant_for};
 ghost use Rattle.mu_model.specs.declared.config.Config.{Config};
@@ -78,11 +78,13 @@ fn word_at(words: &[u64], at: usize) -> u64
 }
 
 impl Found {
-    /// The state before anything was found, with room for the words of a configuration. Takes
+    /// The state before anything was found, with room for just the words of a configuration. Takes
     /// memory once.
     pub fn with_room(alloc: Global, config: &Config) -> Result<Found, NoMemory>
         requires { IsConfig config.now }
-        ensures { IfOk result (λ f. (r : ℕ) → FoundIs config.now r f [] []) }
+        ensures stands { IfOk result (λ f. (r : ℕ) → FoundIs config.now r f [] []) }
+        ensures places { IfOk result
+            (λ f. length f.places.items ≡ config.now.replicas * config.now.ring) }
     {
         let places = usize::from(config.replicas) * usize::from(config.ring);
         Ok(Found {

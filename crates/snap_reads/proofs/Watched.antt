@@ -1,11 +1,11 @@
 -- Readers alongside the writer: what their gets leave.
-use Rattle.std.proofs.Common.{◌≡◌, ℕ, suc, zero, ◌<◌, ◌==◌, Bool, false, List, [], ◌∷◌, length, map, refl, sym, ap, subst, ◌∙◌, arith, length-append, true≢false}
+use Rattle.std.proofs.Common.{◌≡◌, ℕ, suc, zero, ◌+◌, ◌<◌, ◌==◌, Bool, false, List, [], ◌∷◌, ◌++◌, length, map, refl, sym, ap, subst, ◌∙◌, arith, length-append, true≢false}
 use Rattle.std.specs.Prelude.{All, replicate, slice_index_or}
 use Rattle.std.proofs.lemmas.List.{get_or-map, get_or-replicate, length-map, length-replicate}
 use Rattle.snap_reads.specs.declared.sight.Sight.{Sight}
 use Rattle.snap_reads.specs.declared.watching.Watcher.{Watcher}
 use Rattle.snap_reads.specs.Keys.{gets_beside, key_at, round}
-use Rattle.snap_reads.specs.Lives.{HasWatched}
+use Rattle.snap_reads.specs.Lives.{AreNumbered, HasWatched}
 use Rattle.snap_reads.specs.Seats.{Reading}
 
 pub round_length : (keys : List (List ℕ)) (count : ℕ) → length (round keys count) ≡ count
@@ -37,3 +37,8 @@ pub all_watched : (first : Reading) (keys : List (List ℕ)) (count : ℕ) (befo
 all_watched first keys count before after long fresh each i d low =
     let inside : i < length before = omega (arith, low, long) in
     subst (λ (r : Reading). HasWatched r keys count (slice_index_or after i d)) (fresh i d inside) (each i d inside)
+
+-- one more reader, with the next number
+pub numbered_push : (first : ℕ) (watchers : List Watcher) (w : Watcher) → AreNumbered first watchers → w.number ≡ first + length watchers → AreNumbered first (watchers ++ w ∷ [])
+numbered_push first [] w numbered next = (omega (arith, next), tt)
+numbered_push first (watcher ∷ watchers) w numbered next = (numbered.0, numbered_push (first + 1) watchers w numbered.1 (omega (arith, next)))

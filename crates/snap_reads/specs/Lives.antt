@@ -1,5 +1,5 @@
 -- sights of readers: what each reader saw while the writer published, and what it saw at last.
-use Rattle.std.specs.Prelude.{ℕ, ◌+◌, ◌≡◌, ◌≤◌, List, [], length, map, drop, All, vec_capacity}
+use Rattle.std.specs.Prelude.{ℕ, ◌+◌, ◌≡◌, ◌≤◌, List, [], ◌∷◌, length, map, drop, All, vec_capacity, ⊤}
 use Rattle.kv_store.specs.Commands.{Request}
 use Rattle.mu_outcome.specs.declared.outcome.Outcome.{Outcome}
 use Rattle.mu_outcome.specs.Entries.{commands_in, longest}
@@ -34,10 +34,16 @@ pub record AreAllSights (o : Outcome) (readers : ℕ) (lists : List (List Sight)
   pub count : length lists ≡ readers
   pub each : All (AreSights (told_commands o) (keys_of (told_commands o))) lists
 
--- a reader that has noted nothing, and has room for what it will see
+-- a reader that has noted nothing, and has room for what it will see, and no more
 pub record IsReady (keys : ℕ) (w : Watcher) : Type 0 where
   pub none : w.sights.items ≡ []
-  pub room : 200 + keys ≤ vec_capacity w.sights
+  pub room : vec_capacity w.sights ≡ 200 + keys
+
+-- readers are numbered from this number on
+abbrev pub AreNumbered : ℕ → List Watcher → Type 0
+AreNumbered first [] = ⊤
+AreNumbered first (watcher ∷ watchers) =
+    (watcher.number ≡ first) × AreNumbered (first + 1) watchers
 
 -- a reader that was this one, and since then made `count` gets round the keys
 pub record HasWatched (first : Reading) (all : List (List ℕ)) (count : ℕ)

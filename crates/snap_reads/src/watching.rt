@@ -1,7 +1,7 @@
 //! Readers alongside the writer, each in a thread of its own.
-ghost use Rattle.std.specs.Prelude.{All, IfOk, length, map, slice_index_or, vec_len, ℕ, [], ◌<◌, ◌≡◌, ◌≤◌};
+ghost use Rattle.std.specs.Prelude.{All, IfOk, length, map, slice_index_or, vec_capacity, vec_len, ℕ, [], ◌<◌, ◌≡◌, ◌≤◌};
 ghost use Rattle.snap_reads.specs.Keys.{gets_beside};
-ghost use Rattle.snap_reads.specs.Lives.{HasWatched, IsReady};
+ghost use Rattle.snap_reads.specs.Lives.{AreNumbered, HasWatched, IsReady};
 ghost use Rattle.snap_reads.specs.declared.watching.Watcher.{Watcher as SomeWatcher};
 
 use crate::opening::SnapReaders;
@@ -9,7 +9,7 @@ use crate::reader::SnapReader;
 use crate::sight::{Sight, see};
 use crate::writer::SnapWriter;
 use kv_store::{Command, Key};
-use mu_gate::Gate;
+use mu_gate::{Gate, change_at_once};
 use mu_model::NoMemory;
 use std::alloc::Global;
 use std::thread;
@@ -26,7 +26,8 @@ pub(crate) struct Watcher {
     pub(crate) sights: Vec<Sight>,
 }
 
-/// Readers that have noted nothing, with room for what they will see of this many keys.
+/// Readers that have noted nothing, numbered from 1, with room for what they will see of this many
+/// keys.
 pub(crate) fn watchers(
     alloc: Global,
     readers: SnapReaders,
@@ -36,6 +37,8 @@ pub(crate) fn watchers(
     requires keys { keys ≤ 1500 }
     ensures ready { IfOk result (λ watchers. All (IsReady keys) watchers.items) }
     ensures readers { IfOk result (λ watchers. map (λ w. w.reader) watchers.items ≡ readers.items) }
+    ensures numbers { IfOk result (λ watchers. AreNumbered 1 watchers.items) }
+    ensures room { IfOk result (λ watchers. vec_capacity watchers ≡ vec_len readers) }
 {
     let mut watchers = Vec::with_capacity(alloc, readers.len())?;
     let mut number: u8 = 0;
@@ -82,16 +85,7 @@ fn watch_all<R: Threads + Sync, G: Gate + Sync>(
         → HasWatched (slice_index_or watchers.old i d).reader keys.now (gets_beside keys.now)
         (slice_index_or watchers.new i d) }
 {
-    let count = watchers.len();
-    if count == 0 {
-        return;
-    }
-    thread::for_each_mut(
-        rt,
-        watchers,
-        count,
-        &|_, watcher| { watch(gate, watcher, keys) },
-    );
+    change_at_once(rt, watchers, &|_, watcher| { watch(gate, watcher, keys) });
 }
 
 /// The readers after all their gets.

@@ -32,10 +32,12 @@ impl Model for SnapWriter {
 }
 
 impl SnapWriter {
-    /// Stores the row of a command, and appends the command to the writer's list. Twelve stores.
-    /// Takes no memory, and does not wait.
+    /// Stores the row of a command, and appends the command to the writer's list, of which all is
+    /// published: so readers wait for no more than one command. Twelve stores. Takes no memory, and
+    /// does not wait.
     pub fn apply(&mut self, command: &Command)
-        requires { length self.old.list < self.old.capacity }
+        requires published { self.old.published ≡ self.old.list }
+        requires room { length self.old.list < self.old.capacity }
         ensures { self.new ≡ record self.old { list = self.old.list ++ command.now ∷ [] } }
     {
         is_command(command);

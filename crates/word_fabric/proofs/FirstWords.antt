@@ -65,7 +65,7 @@ all_below l i (Name.Slot p s) e named = refl
 all_below l i (Name.Row r j k) e named = refl
 
 -- the fabric before any event
-pub kept_first : (c : Config) (events : List Event) (room : ℕ) (l : Layout) (ws : List ℕ) (fs : List Found) → IsConfig c → IsLayoutOf c l → events ≡ [] → c.replicas * c.budget ≤ room
+pub kept_first : (c : Config) (events : List Event) (room : ℕ) (l : Layout) (ws : List ℕ) (fs : List Found) → IsConfig c → IsLayoutOf c l → events ≡ [] → room ≡ c.replicas * c.budget
     → HoldsFirst l c.replicas ws → length fs ≡ c.replicas → HoldsFounds c [] fs → IsWordsKept c events room l ws fs
 kept_first c events room l ws fs given laid none enough first count holds = subst (λ es. IsWordsKept c es room l ws fs) (sym none) (record {
   given = given;

@@ -1,5 +1,5 @@
 -- kept words: what a fabric of words keeps.
-use Rattle.std.specs.Prelude.{List, Some, if◌then◌else◌, length, nat_lt, slice_index, slice_set, ℕ, ◌*◌, ◌+◌, ◌≡◌, ◌≤◌}
+use Rattle.std.specs.Prelude.{List, Some, if◌then◌else◌, length, nat_lt, slice_index, slice_set, ℕ, ◌*◌, ◌+◌, ◌≡◌}
 use Rattle.std.specs.List.{slice_get}
 use Rattle.mu_model.specs.declared.config.Config.{Config}
 use Rattle.mu_model.specs.declared.event.Answer.{Answer}
@@ -33,14 +33,14 @@ pub record HoldsFirst (l : Layout) (i : ℕ) (words : List ℕ) : Type 0 where
   pub all_words : length words ≡ word_count l
   pub each : (n : Name) → IsName l n → slice_index words (place_of l n) ≡ first_below i n
 
--- the list is legal, there is room for the budgets of all replicas, and the words and what is kept
--- of them stand for the list
+-- the list is legal, there is room for just the budgets of all replicas, and the words and what is
+-- kept of them stand for the list
 pub record IsWordsKept (config : Config) (events : List Event) (room : ℕ) (layout : Layout)
     (words : List ℕ) (founds : List Found) : Type 0 where
   pub given : IsConfig config
   pub laid_out : IsLayoutOf config layout
   pub legal : IsLegal config events
-  pub room_left : config.replicas * config.budget ≤ length events + room
+  pub room_left : length events + room ≡ config.replicas * config.budget
   pub all_words : length words ≡ word_count layout
   pub stands : Stands config layout events (slice_index words)
   pub all_founds : length founds ≡ config.replicas

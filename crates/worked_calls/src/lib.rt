@@ -11,6 +11,8 @@ mod calling;
 #[cfg(test)]
 mod calls;
 #[cfg(test)]
+mod command_lines;
+#[cfg(test)]
 mod desks;
 #[cfg(test)]
 mod library;

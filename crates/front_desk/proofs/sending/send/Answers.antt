@@ -1,4 +1,4 @@
-use Rattle.std.proofs.Common.{◌≡◌, ◌≢◌, ◌+◌, ◌++◌, [], ◌∷◌, arith, ap, sym, subst, ◌∙◌, append-nil, take}
+use Rattle.std.proofs.Common.{◌≡◌, ◌≢◌, ◌+◌, ◌++◌, [], ◌∷◌, arith, ap, sym, subst, ◌∙◌, append-nil, length, length-append, take}
 use Rattle.kv_store.specs.Commands.{Request}
 use Rattle.crossbeam_queue.specs.Passes.{view}
 use Rattle.front_desk.specs.Arrivals.{commands_by}
@@ -29,6 +29,7 @@ loop-command-preserved g c =
                   ∙ ap (sending_hand client) (ap (λ hand. sent_by hand ++ x ∷ []) l.invariant.hand.1 ∙ (ap (λ more. before ++ more) (sym (commands_by-own client x [] own)) ∙ sym next)))),
             );
             count = omega (arith, w.count-is, l.invariant.count);
+            sent = omega (arith, w.count-is, l.invariant.sent, ap length next, length-append before (commands_by client (x ∷ [])), ap length (commands_by-own client x [] own));
           }
       | else-command-client w ↦
           let other : x.client ≢ client = λ e. w.if-command-client.false (ap (λ (command : Request). command.client) c.command.view_is ∙ e) in
@@ -39,5 +40,6 @@ loop-command-preserved g c =
                   ∙ ap (sending_hand client) (sym (next ∙ (ap (λ more. before ++ more) (commands_by-other client x [] other) ∙ append-nil before))),
             );
             count = omega (arith, w.count-is, l.invariant.count);
+            sent = omega (arith, w.count-is, l.invariant.sent, ap length next, length-append before (commands_by client (x ∷ [])), ap length (commands_by-other client x [] other));
           }
     ]

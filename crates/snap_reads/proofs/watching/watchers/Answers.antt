@@ -3,7 +3,8 @@ use Rattle.std.specs.Prelude.{All}
 use Rattle.std.specs.Vec.Iter.{into_iter_items}
 use Rattle.std.proofs.lemmas.List.{map_push}
 use Rattle.snap_reads.specs.declared.watching.Watcher.{Watcher}
-use Rattle.snap_reads.specs.Lives.{IsReady}
+use Rattle.snap_reads.specs.Lives.{AreNumbered, IsReady}
+use Rattle.snap_reads.proofs.Watched.{numbered_push}
 use Rattle.std.proofs.lemmas.List.Elements.{All-push}
 use Rattle.snap_reads.proofs.watching.watchers.Goals as goal
 
@@ -28,4 +29,5 @@ loop-reader-preserved c =
       ap length c.push_reserved.ensures.items ∙ omega (arith, length-append at.watchers.items (w ∷ []), length-append at.yielded (x ∷ []), inv.6),
       omega (arith, c.push_reserved.ensures.capacity, inv.7),
       omega (arith, length-append at.yielded (x ∷ []), inv.8),
+      subst (AreNumbered 1) (sym c.push_reserved.ensures.items) (numbered_push 1 at.watchers.items w inv.9 (omega (arith, inv.6, inv.8))),
     )

@@ -1,7 +1,7 @@
-use Rattle.std.proofs.Common.{◌≡◌, ◌≤◌, ◌++◌, length, map}
+use Rattle.std.proofs.Common.{◌≡◌, ◌++◌, length, map}
 use Rattle.std.specs.Prelude.{All, vec_capacity, vec_len}
 use Rattle.std.specs.Vec.Iter.{into_iter_items, into_iter_len}
-use Rattle.snap_reads.specs.Lives.{IsReady}
+use Rattle.snap_reads.specs.Lives.{AreNumbered, IsReady}
 use Rattle.snap_reads.proofs.watching.watchers.Given as goal
 
 abbrev pub invariant-loop-reader : goal.invariant-loop-reader
@@ -12,5 +12,6 @@ invariant-loop-reader l =
     × All (IsReady l.keys) l.watchers.items
     × (map (λ w. w.reader) l.watchers.items ≡ l.yielded)
     × (length l.watchers.items ≡ length l.yielded)
-    × (vec_len l.fn.readers ≤ vec_capacity l.watchers)
+    × (vec_capacity l.watchers ≡ vec_len l.fn.readers)
     × (l.number ≡ length l.yielded)
+    × AreNumbered 1 l.watchers.items

@@ -25,7 +25,7 @@ pub store-requires-clause-inside : goal.store-requires-clause-inside
 store-requires-clause-inside c =
     let at = c.loop-k.invariant in
     let capacity = ap (λ (s : Shelf). s.capacity) c.deref.ensures ∙ (λ i. (arc_value (at.board i)).capacity) in
-    let asked = c.requires in
+    let asked = c.requires.room in
     let is = c.self.view_is in
     writes_inside _ _ (length c.self.inside.list.items) _ c.loop-k-test.true (omega (arith, c.row_place-place.ensures, c.len.ensures)) (subst (λ (w : Writing). length w.list < w.capacity) (sym is) asked) capacity
 
@@ -43,7 +43,7 @@ loop-k-preserved c =
 pub push_reserved-requires : goal.push_reserved-requires
 push_reserved-requires c =
     let its = c.self.invariant in
-    let asked : length c.self.inside.list.items < (arc_value c.self.inside.board).capacity = subst (λ (w : Writing). length w.list < w.capacity) (sym c.self.view_is) c.requires in
+    let asked : length c.self.inside.list.items < (arc_value c.self.inside.board).capacity = subst (λ (w : Writing). length w.list < w.capacity) (sym c.self.view_is) c.requires.room in
     let same = c.loop-k.invariant.list in
     let free : vec_len c.self.inside.list < vec_capacity c.self.inside.list = omega (arith, asked, its.room) in
     let long : vec_len c.loop-k.self-inside.list ≡ vec_len c.self.inside.list = λ i. vec_len (same i) in
@@ -52,7 +52,7 @@ push_reserved-requires c =
 
 pub invariant_of-self : goal.invariant_of-self
 invariant_of-self c = applied _ _ _ _ _ c.self.invariant c.is_command.ensures c.encode-row.ensures.words
-    (subst (λ (w : Writing). length w.list < w.capacity) (sym c.self.view_is) c.requires)
+    (subst (λ (w : Writing). length w.list < w.capacity) (sym c.self.view_is) c.requires.room)
     (subst (λ k. IsAt c.self.inside k c.encode-row.result.words c.loop-k.self-inside) (omega (arith, c.loop-k-test.false, c.loop-k.auto.k-end)) c.loop-k.invariant)
     refl refl refl c.push_reserved.ensures.items c.push_reserved.ensures.capacity
 
