@@ -1,9 +1,5 @@
-use Rattle.std.proofs.Common.{[], ◌∷◌, ℕ, List, ◌≡◌, length, subst}
-use Rattle.std.specs.declared.option.Option.{Option}
-use Rattle.mu_model.specs.declared.config.Config.{Config}
-use Rattle.mu_model.specs.declared.event.Event.{Event}
+use Rattle.std.proofs.Common.{[], ◌∷◌, subst}
 use Rattle.mu_model.specs.declared.reason.Reason.{Reason}
-use Rattle.mu_model.specs.Points.{bounds}
 use Rattle.mu_model.specs.Reasons.{Finds}
 use Rattle.mu_replicas.proofs.Points.{less_from}
 use Rattle.mu_replicas.proofs.replica.Replica.why_no_step.Goals as goal
