@@ -4,7 +4,7 @@ ghost use Rattle.mu_model.specs.declared.event.Event.{Event as Made};
 ghost use Rattle.mu_model.specs.Contents.{IsConfig};
 ghost use Rattle.mu_model.specs.Legal.{MayFollow};
 ghost use Rattle.mu_outcome.specs.Breaks.{IsFault};
-ghost use Rattle.mu_check.specs.Judges.{StandsForJudge, StaysOrTakes};
+ghost use Rattle.mu_check.specs.Judges.{StandsForJudge, StaysOrTakes, TakesIfAllowed};
 
 use mu_model::{Answer, Config, Event, NoMemory, Verb};
 use mu_outcome::Fault;
@@ -50,11 +50,25 @@ impl Judge {
         ensures { (past : List Made) → StandsForJudge config.now past self.old
             → StaysOrTakes config.now past event.now self.old self.new result }
     {
+        if self.takes(config, event) {
+            None
+        } else {
+            Some(self.fault(config, event))
+        }
+    }
+
+    /// Takes one more event if it may follow, and tells whether it did.
+    #[inline(always)]
+    fn takes(&mut self, config: &Config, event: &Event) -> bool
+        requires { IsConfig config.now }
+        ensures { (past : List Made) → StandsForJudge config.now past self.old
+            → TakesIfAllowed config.now past event.now self.old self.new result }
+    {
         let Event { by, verb, answer } = *event;
         match verb {
             // More than half of all events are beats. If the verb is named, the compiler leaves out
             // what other verbs want.
-            Verb::Beat => self.take_named(
+            Verb::Beat => self.takes_named(
                 config,
                 &Event {
                     by,
@@ -62,52 +76,52 @@ impl Judge {
                     answer,
                 },
             ),
-            _ => self.take_other(config, event),
+            _ => self.takes_other(config, event),
         }
     }
 
     /// The same, of any event.
     #[inline(never)]
-    fn take_other(&mut self, config: &Config, event: &Event) -> Option<Fault>
+    fn takes_other(&mut self, config: &Config, event: &Event) -> bool
         requires { IsConfig config.now }
         ensures { (past : List Made) → StandsForJudge config.now past self.old
-            → StaysOrTakes config.now past event.now self.old self.new result }
+            → TakesIfAllowed config.now past event.now self.old self.new result }
     {
-        self.take_named(config, event)
+        self.takes_named(config, event)
     }
 
     /// The same, inlined where the verb is named.
     #[inline(always)]
-    fn take_named(&mut self, config: &Config, event: &Event) -> Option<Fault>
+    fn takes_named(&mut self, config: &Config, event: &Event) -> bool
         requires { IsConfig config.now }
         ensures { (past : List Made) → StandsForJudge config.now past self.old
-            → StaysOrTakes config.now past event.now self.old self.new result }
+            → TakesIfAllowed config.now past event.now self.old self.new result }
     {
         if !self.may_follow(config, event) {
-            return Some(self.fault(config, event));
+            return false;
         }
         self.regions.take(event);
         self.replicas.take(config, event);
-        None
+        true
     }
 
-    /// Whether an event may come after those that were taken. No reason is made.
+    /// Whether an event may come after those that were taken.
     #[inline(always)]
     fn may_follow(&self, config: &Config, event: &Event) -> bool
         requires { IsConfig config.now }
         ensures { (past : List Made) → StandsForJudge config.now past self.now
             → (IsTrue result ↔ MayFollow config.now past event.now) }
     {
-        match self.replicas.why_not(config, event.by, &event.verb) {
-            Some(_) => false,
-            None => {
-                let defined = self.regions.answer(event.by, &event.verb);
-                is_same(event.answer, defined)
-            }
+        if self.replicas.is_allowed(config, event.by, &event.verb) {
+            let defined = self.regions.answer(event.by, &event.verb);
+            is_same(event.answer, defined)
+        } else {
+            false
         }
     }
 
-    /// What is wrong with an event that may not. Made once in a list, so it is kept out of the way.
+    /// What is wrong with an event that may not. It is looked at once more, with the reason; this
+    /// happens once in a list, so it is kept out of the way of the other events.
     #[inline(never)]
     fn fault(&self, config: &Config, event: &Event) -> Fault
         requires { IsConfig config.now }

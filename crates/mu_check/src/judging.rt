@@ -1,12 +1,29 @@
 //! Judging a list of events.
-ghost use Rattle.std.specs.Prelude.{IfOk};
+ghost use Rattle.std.specs.Prelude.{IfOk, List};
+ghost use Rattle.mu_model.specs.declared.config.Config.{Config as SomeConfig};
+ghost use Rattle.mu_model.specs.declared.event.Event.{Event as Made};
 ghost use Rattle.mu_model.specs.Contents.{IsConfig};
+ghost use Rattle.mu_outcome.specs.Breaks.{Explains};
 ghost use Rattle.mu_outcome.specs.Verdicts.{Judges};
 
-use crate::judge::Judge;
+use crate::explaining::explain;
 use mu_model::{Config, Event, NoMemory};
-use mu_outcome::Verdict;
+use mu_outcome::{Broken, Verdict};
 use std::alloc::Global;
+
+/// The verdict on a list that breaks here, if it does.
+fn verdict_of(found: Option<Broken>) -> Verdict
+    ensures { (c : SomeConfig) → (events : List Made) → Explains c events found
+        → Judges c events result }
+{
+    match found {
+        Some(broken) => Verdict::Illegal {
+            index: broken.index,
+            cause: broken.fault.cause(),
+        },
+        None => Verdict::Legal,
+    }
+}
 
 /// Judges a list of events. Takes all memory before it judges the first event, and about the same
 /// time for each event, however many there are.
@@ -18,14 +35,5 @@ pub fn check(alloc: Global, config: &Config, events: &[Event]) -> Result<Verdict
     requires config { IsConfig config.now }
     ensures { IfOk result (λ verdict. Judges config.now events.now verdict) }
 {
-    let mut judge = Judge::new(alloc, config)?;
-    for index in 0..events.len() {
-        if let Some(fault) = judge.take(config, &events[index]) {
-            return Ok(Verdict::Illegal {
-                index: index as u32,
-                cause: fault.cause(),
-            });
-        }
-    }
-    Ok(Verdict::Legal)
+    Ok(verdict_of(explain(alloc, config, events)?))
 }

@@ -1,3 +1,4 @@
+mod DigitAnswers
 mod EventLines
 mod EventWords
 mod Sides

@@ -1,5 +1,5 @@
 //! Lines of events: `BY VERB = ANSWER`.
-ghost use Rattle.std.specs.Prelude.{◌≡◌, [], ◌∷◌, codes, map};
+ghost use Rattle.std.specs.Prelude.{◌≡◌, [], ◌∷◌, IsTrue, MatchOption, Some, codes, get_or, map, true};
 ghost use Rattle.std.specs.Str.{bytes_eq};
 ghost use Rattle.mu_events.specs.Events.{event_of, sides};
 ghost use Rattle.mu_events.specs.Events.{target_of, verb_alone, verb_of_one, verb_of_two};
@@ -8,10 +8,17 @@ ghost use Rattle.mu_events.specs.Events.{answer_alone, answer_of, answer_of_many
 ghost use Rattle.mu_events.specs.Events.{fence_of, named_of, owner_of, state_of};
 ghost use Rattle.mu_events.specs.Steps.{both, step_after};
 ghost use Rattle.mu_text.specs.Lines.{words};
-ghost use Rattle.mu_text.specs.Numbers.{below, wide_number_of};
+ghost use Rattle.mu_text.specs.Numbers.{below, is_digit, wide_number_of};
 
+use crate::common_steps::{
+    after_look, after_readask, after_readbeat, after_readrow, after_writerow, look_step,
+    read_ask_step, read_beat_step, read_row_step, write_row_step,
+};
 use mu_model::{Answer, Event, Fence, Target, Verb};
-use mu_text::{MANY_WORDS, is_word, of_8, of_16, of_32, of_64, split_word, split_words, two_words};
+use mu_text::{
+    MANY_WORDS, NINE, SPACE, ZERO, is_word, of_8, of_16, of_32, of_64, split_word, split_words,
+    two_words,
+};
 
 /// The event that a line spells, if it spells an event of one of `replicas` replicas. Takes no
 /// memory.
@@ -19,10 +26,25 @@ use mu_text::{MANY_WORDS, is_word, of_8, of_16, of_32, of_64, split_word, split_
 pub fn event(replicas: u8, line: &[u8]) -> Option<Event>
     ensures { result ≡ event_of replicas (words line.now) }
 {
-    let (by, rest) = split_word(line);
+    let (by, rest) = split_first(line);
     let by = replica_of(replicas, by)?;
     let (verb, answer) = step_of(rest?)?;
     Some(Event { by, verb, answer })
+}
+
+/// The first word of a line and what stands behind it, as `split_word` tells them. Most often the
+/// first word is one digit, which is looked at in place.
+#[inline(always)]
+pub(crate) fn split_first(line: &[u8]) -> (&[u8], Option<&[u8]>)
+    ensures { MatchOption result.1 (words line.now ≡ result.0.now ∷ [])
+        (λ rest. words line.now ≡ result.0.now ∷ words rest.now) }
+{
+    if let [byte, SPACE, rest @ ..] = line {
+        if *byte != SPACE {
+            return (&line[..1], Some(rest));
+        }
+    }
+    split_word(line)
 }
 
 /// The replica that a word names, if it is one of `replicas`.
@@ -30,7 +52,25 @@ pub fn event(replicas: u8, line: &[u8]) -> Option<Event>
 fn replica_of(replicas: u8, word: &[u8]) -> Option<u8>
     ensures { result ≡ below replicas (wide_number_of word.now) }
 {
-    let replica = of_8(word)?;
+    match word {
+        [_] => below(replicas, of_8(word)?),
+        _ => replica_of_many(replicas, word),
+    }
+}
+
+/// The same of any word. Apart, since a replica has one digit in every line that is an event.
+#[inline(never)]
+fn replica_of_many(replicas: u8, word: &[u8]) -> Option<u8>
+    ensures { result ≡ below replicas (wide_number_of word.now) }
+{
+    below(replicas, of_8(word)?)
+}
+
+/// The replica, if it is one of `replicas`.
+#[inline(always)]
+fn below(replicas: u8, replica: u8) -> Option<u8>
+    ensures { result ≡ below replicas (Some replica) }
+{
     (replica < replicas).then_some(replica)
 }
 
@@ -53,13 +93,37 @@ fn step_of(text: &[u8]) -> Option<(Verb, Answer)>
     if is_beat(text) {
         Some((Verb::Beat, Answer::Done))
     } else {
-        let (name, rest) = split_word(text);
-        step_named(name, rest?)
+        step_of_other(text)
     }
 }
 
+/// The same of any text. Nine of ten lines that are no beats have one of five verbs, which are read
+/// by paths of their own.
+#[inline(always)]
+fn step_of_other(text: &[u8]) -> Option<(Verb, Answer)>
+    ensures { result ≡ step_after [] (sides (words text.now)) }
+{
+    if let Some(rest) = after_readrow(text) {
+        return read_row_step(rest);
+    }
+    if let Some(rest) = after_readask(text) {
+        return read_ask_step(rest);
+    }
+    if let Some(rest) = after_readbeat(text) {
+        return read_beat_step(rest);
+    }
+    if let Some(rest) = after_writerow(text) {
+        return write_row_step(rest);
+    }
+    if let Some(rest) = after_look(text) {
+        return look_step(rest);
+    }
+    let (name, rest) = split_word(text);
+    step_named(name, rest?)
+}
+
 /// Whether the word stands between a verb and its answer: a pattern is compared in place.
-fn is_equals(word: &[u8]) -> bool
+pub(crate) fn is_equals(word: &[u8]) -> bool
     ensures { result ≡ bytes_eq word.now (codes "=") }
 {
     match word {
@@ -69,7 +133,8 @@ fn is_equals(word: &[u8]) -> bool
 }
 
 /// A verb and what it found, if both are there.
-fn found(verb: Option<Verb>, text: &[u8]) -> Option<(Verb, Answer)>
+#[inline(always)]
+pub(crate) fn found(verb: Option<Verb>, text: &[u8]) -> Option<(Verb, Answer)>
     ensures { result ≡ both verb (answer_of (words text.now)) }
 {
     Some((verb?, answer_of(text)?))
@@ -78,7 +143,7 @@ fn found(verb: Option<Verb>, text: &[u8]) -> Option<(Verb, Answer)>
 /// The step of a verb with this name, from what follows the name. It isn't inlined, so that a beat
 /// is read without what other lines want.
 #[inline(never)]
-fn step_named(name: &[u8], text: &[u8]) -> Option<(Verb, Answer)>
+pub(crate) fn step_named(name: &[u8], text: &[u8]) -> Option<(Verb, Answer)>
     ensures { result ≡ step_after (name.now ∷ []) (sides (words text.now)) }
 {
     let (word, rest) = split_word(text);
@@ -244,8 +309,35 @@ fn target_of(words: &[&[u8]]) -> Option<Target>
     }
 }
 
-/// The answer that a text spells, if it spells one.
+/// The answer that a text spells, if it spells one: most often `done`, or a number, since nothing
+/// else begins with a digit.
+#[inline(always)]
 fn answer_of(text: &[u8]) -> Option<Answer>
+    ensures { result ≡ answer_of (words text.now) }
+{
+    if is_done(text) {
+        Some(Answer::Done)
+    } else if begins_with_digit(text) {
+        Some(Answer::Number(of_64(text)?))
+    } else {
+        answer_in_words(text)
+    }
+}
+
+/// Whether the first byte is a digit.
+#[inline(always)]
+fn begins_with_digit(text: &[u8]) -> bool
+    ensures { IsTrue result → is_digit (get_or text.now 0 0) ≡ true }
+{
+    match text {
+        [first, ..] => ZERO <= *first && *first <= NINE,
+        [] => false,
+    }
+}
+
+/// The answer that a text spells, whichever it is.
+#[inline(never)]
+fn answer_in_words(text: &[u8]) -> Option<Answer>
     ensures { result ≡ answer_of (words text.now) }
 {
     let (word, rest) = split_word(text);
@@ -255,7 +347,7 @@ fn answer_of(text: &[u8]) -> Option<Answer>
     }
 }
 
-/// Whether the word is `done`, as in most lines.
+/// Whether the word or text is `done`, as in most lines.
 fn is_done(word: &[u8]) -> bool
     ensures { result ≡ bytes_eq word.now (codes "done") }
 {

@@ -2,6 +2,7 @@
 #![tactic(auto)]
 
 mod answers;
+mod common_steps;
 mod event_lines;
 mod events;
 

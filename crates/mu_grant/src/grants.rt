@@ -442,18 +442,6 @@ impl Grants {
         }
     }
 
-    /// Whether the host may grant its region to `w`.
-    pub fn may_grant(&self, w: u8) -> bool
-        ensures { (c : Config) → (r : ℕ) → (mine : List Event)
-            → StandsFor c.replicas r mine self.now
-            → (IsTrue result ↔ Needs c r mine (Verb.Grant w)) }
-    {
-        match self.next_owner() {
-            Some(q) => q == w,
-            None => false,
-        }
-    }
-
     /// The verb of a place that the host may make next, if any: 0 is `Close`, 1 is `LookTarget`, 2
     /// is `Drain`, 3 is `Grant`. There are no other places.
     pub fn due(&self, place: u8) -> Option<Verb>

@@ -4,14 +4,14 @@ use Rattle.std.proofs.lemmas.Bool.{ne_eqb}
 use Rattle.mu_model.specs.declared.event.Verb.{Verb}
 use Rattle.mu_model.proofs.Basics.{none_some, same_some}
 use Rattle.mu_placing.specs.Looks.{is_at}
-use Rattle.mu_placing.specs.Naming.{named_region}
+use Rattle.mu_placing.specs.Naming.{region_of_step}
 
 -- another region is another number
 pub apart : (q f p : ℕ) → Some f ≡ Some p → q ≢ p → (f == q) ≡ false
 apart q f p names differs = ne_eqb f q (λ same. differs (sym same ∙ same_some f p names))
 
 -- a step at the region p changes nothing of what was looked at and put at q
-pub looks_apart : (q p : ℕ) (verb : Verb) → named_region verb ≡ Some p → q ≢ p → is_at q verb ≡ false
+pub looks_apart : (q p : ℕ) (verb : Verb) → region_of_step verb ≡ Some p → q ≢ p → is_at q verb ≡ false
 looks_apart q p (Verb.Fence f) names differs = refl
 looks_apart q p (Verb.Min f) names differs = refl
 looks_apart q p (Verb.Enter f t) names differs = apart q f p names differs

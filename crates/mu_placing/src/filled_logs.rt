@@ -10,13 +10,13 @@ ghost use Rattle.mu_model.specs.Knowledge.{is_filled, is_value, known, lands_ent
 ghost use Rattle.mu_model.specs.Leaderships.{begins_leadership, leadership};
 ghost use Rattle.mu_model.specs.Parts.{IsPossible};
 ghost use Rattle.mu_model.specs.Placing.{is_caught_up_at};
-ghost use Rattle.mu_placing.specs.Naming.{named_region};
+ghost use Rattle.mu_placing.specs.Naming.{region_of_step};
 ghost use Rattle.mu_placing.specs.FilledLogs.{HoldsCoverage, HoldsCoverages, StandsForFilledLogs, IsFirstBehind, has_known};
 ghost use Rattle.mu_knowledge.specs.FilledLog.{IsFilledTo, filled_spot};
 ghost use Rattle.mu_placing.specs.LandedPuts.{StandsForLandedPuts};
 
 use crate::landed_puts::LandedPuts;
-use crate::naming::named_region;
+use crate::naming::region_of_step;
 use mu_knowledge::{FilledLog, fuo_in, raised};
 use mu_leadership::{begins, is_leader_verb};
 use mu_model::{Answer, Config, Event, NoMemory, Verb};
@@ -233,11 +233,11 @@ fn take_at_each(
 fn region_alone(known_before: &[u16], known_after: &[u16], event: &Event) -> Option<u8>
     ensures { result
         ≡ (if length known_before.now == length known_after.now
-        then named_region event.now.verb
+        then region_of_step event.now.verb
         else None) }
 {
     if known_before.len() == known_after.len() {
-        named_region(&event.verb)
+        region_of_step(&event.verb)
     } else {
         None
     }
@@ -258,7 +258,7 @@ fn take_at(
         → known_before.now ≡ known c r mine → known_after.now ≡ known c r (event.now ∷ mine)
         → StandsForLandedPuts c r (event.now ∷ mine) landings.now
         → length (known c r mine) ≡ length (known c r (event.now ∷ mine))
-        → named_region event.now.verb ≡ Some p
+        → region_of_step event.now.verb ≡ Some p
         → HoldsCoverages c r mine regions.old → HoldsCoverages c r (event.now ∷ mine) regions.new }
 {
     let at = usize::from(p);

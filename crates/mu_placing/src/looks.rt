@@ -12,10 +12,10 @@ ghost use Rattle.mu_model.specs.Picks.{entry_of, first_value, highest_accepted, 
 ghost use Rattle.mu_model.specs.Placing.{fuo_read_or_raised, is_within_ring, looked_before_entering, reaches_head};
 ghost use Rattle.mu_model.specs.Room.{reserve};
 ghost use Rattle.mu_leadership.specs.Leadership.{StandsForLeadership};
-ghost use Rattle.mu_placing.specs.Naming.{named_region};
+ghost use Rattle.mu_placing.specs.Naming.{region_of_step};
 ghost use Rattle.mu_placing.specs.Looks.{HoldsEachRegion, HoldsFirst, HoldsFirsts, HoldsOwnReach, StandsForLooks, begun_time, joining_time};
 
-use crate::naming::named_region;
+use crate::naming::region_of_step;
 use crate::region_looks::{RegionLooks, farther};
 use mu_leadership::{Leadership, begins, is_leader_verb};
 use mu_model::{Answer, Config, Event, NoMemory, Verb, positions_in};
@@ -147,7 +147,7 @@ fn take_at_each(regions: &mut [RegionLooks], r: u8, now: u32, event: &Event)
 #[inline(always)]
 fn take_at(regions: &mut [RegionLooks], p: u8, r: u8, now: u32, event: &Event)
     ensures { (c : Config) → (mine : List Event) → 0 < c.ring → now ≡ length mine + 1
-        → named_region event.now.verb ≡ Some p → HoldsEachRegion c r mine regions.old
+        → region_of_step event.now.verb ≡ Some p → HoldsEachRegion c r mine regions.old
         → HoldsEachRegion c r (event.now ∷ mine) regions.new }
 {
     let at = usize::from(p);
@@ -163,7 +163,7 @@ fn take_at_regions(regions: &mut [RegionLooks], r: u8, now: u32, event: &Event)
         → HoldsEachRegion c r mine regions.old
         → HoldsEachRegion c r (event.now ∷ mine) regions.new }
 {
-    match named_region(&event.verb) {
+    match region_of_step(&event.verb) {
         Some(p) => take_at(regions, p, r, now, event),
         None => take_at_each(regions, r, now, event),
     }

@@ -1,13 +1,13 @@
-//! The region that a leader's verb names.
+//! The region at which a step of a leader is.
 ghost use Rattle.std.specs.Prelude.{◌≡◌};
-ghost use Rattle.mu_placing.specs.Naming.{named_region};
+ghost use Rattle.mu_placing.specs.Naming.{region_of_step};
 
 use mu_model::Verb;
 
 /// The region at which a leader's verb is a step, if it isn't an ask, which may begin a leadership.
 #[inline(always)]
-pub(crate) fn named_region(verb: &Verb) -> Option<u8>
-    ensures { result ≡ named_region verb.now }
+pub(crate) fn region_of_step(verb: &Verb) -> Option<u8>
+    ensures { result ≡ region_of_step verb.now }
 {
     match *verb {
         Verb::Fence(p)

@@ -1,8 +1,9 @@
 -- The number that is told in place of a wrong one.
-use Rattle.std.proofs.Common.{ℕ, ◌+◌, ◌*◌, ◌/◌, ◌%◌, ◌<◌, ◌≤◌, ◌≡◌, None, Some, Bool, true, false, refl, sym, ◌∙◌, subst, inl, inr, arith}
+use Rattle.std.proofs.Common.{List, ℕ, ◌+◌, ◌*◌, ◌/◌, ◌%◌, ◌<◌, ◌≤◌, ◌≡◌, None, Some, Bool, true, false, refl, sym, ap, ◌∙◌, subst, inl, inr, arith}
 use Rattle.std.specs.Prelude.{if◌then◌else◌, max, nat_lt, ◌&&◌, ◌^◌}
 use Rattle.std.specs.declared.option.Option.{Option}
 use Rattle.std.proofs.lemmas.Bool.{and_from, and_parts, cases_lt, false≢true, lt-ltb, ltb-true}
+use Rattle.mu_model.specs.declared.event.Event.{Event}
 use Rattle.mu_model.specs.Entering.{any_min_read, number_allowed}
 use Rattle.mu_model.specs.Histories.{greatest}
 use Rattle.mu_model.specs.Leaderships.{leadership, number_put, proposal_number}
@@ -40,14 +41,34 @@ of_32 n b is = go (nat_lt n (2 ^ 32)) is
     go true same = same_some n b same
     go false same = absurd (none_some b same)
 
+told_allowed : (r : ℕ) (past : List Event) (b : ℕ) (own : Option ℕ) → r < 8 → right_number r (greatest_used r past) own ≡ Some b → number_allowed r past b own
+told_allowed r past b (Some own) small same = sym (same_some own b same)
+told_allowed r past b None small same =
+    let read = greatest (λ e. any_min_read r e.by e.verb e.answer) (leadership r past) in
+    let put = greatest (λ e. number_put r e.by e.verb) past in
+    let least = subst (λ n. IsLeast r (greatest_used r past) n) (of_32 _ b same) (least_is r (greatest_used r past) small) in
+    let over : max read put < b = least.2 in
+    (least.0, least.1, omega (arith, over), omega (arith, over), λ n own first above also. least.3 n own first (omega (arith, above, also)))
+
+fits_32 : (n b : ℕ) → n ≡ b → b < 2 ^ 32 → of_32_bits n ≡ Some b
+fits_32 n b same small = ap of_32_bits same ∙ ap (λ t. if t then Some b else None) (lt-ltb b (2 ^ 32) small)
+
+-- two least numbers are the same
+allowed_told : (r : ℕ) (past : List Event) (b : ℕ) (own : Option ℕ) → r < 8 → b < 2 ^ 32 → number_allowed r past b own → right_number r (greatest_used r past) own ≡ Some b
+allowed_told r past b (Some own) small fits same = ap (λ n. Some n) (sym same)
+allowed_told r past b None small fits allowed =
+    let read = greatest (λ e. any_min_read r e.by e.verb e.answer) (leadership r past) in
+    let put = greatest (λ e. number_put r e.by e.verb) past in
+    let above = greatest_used r past in
+    let n = least_number r above in
+    let least = least_is r above small in
+    let over : max read put < n = least.2 in
+    let one : b ≤ n = allowed.4 n least.0 least.1 (omega (arith, over)) (omega (arith, over)) in
+    let read_below = allowed.2 in
+    let put_below = allowed.3 in
+    let high : max read put < b = omega (arith, read_below, put_below) in
+    let other : n ≤ b = least.3 b allowed.0 allowed.1 high in
+    fits_32 n b (omega (arith, one, other)) fits
+
 pub right_allowed : RightNumberAllowed
-right_allowed r past b small is = go (proposal_number r past) is
-  where
-    go : (o : Option ℕ) → right_number r (greatest_used r past) o ≡ Some b → number_allowed r past b o
-    go (Some own) same = sym (same_some own b same)
-    go None same =
-        let read = greatest (λ e. any_min_read r e.by e.verb e.answer) (leadership r past) in
-        let put = greatest (λ e. number_put r e.by e.verb) past in
-        let least = subst (λ n. IsLeast r (greatest_used r past) n) (of_32 _ b same) (least_is r (greatest_used r past) small) in
-        let over : max read put < b = least.2 in
-        (least.0, least.1, omega (arith, over), omega (arith, over), λ n own first above also. least.3 n own first (omega (arith, above, also)))
+right_allowed r past b small = (told_allowed r past b (proposal_number r past) small, allowed_told r past b (proposal_number r past) small)

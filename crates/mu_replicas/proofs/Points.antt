@@ -1,9 +1,9 @@
 -- Tests that tell whether a point is met.
 use Rattle.std.proofs.lemmas.List.{append-nil}
 use Rattle.std.proofs.Common.{suc, ◌+◌, ℕ, ◌<◌, ◌≤◌, ◌≡◌, Bool, true, false, None, Some, List, [], ◌∷◌, ◌++◌, refl, sym, ◌∙◌, ap, subst, arith, append_assoc}
-use Rattle.std.specs.Prelude.{IsTrue, max, nat_le, nat_lt, not, ◌==◌, ◌↔◌, ◌≢◌}
+use Rattle.std.specs.Prelude.{IsTrue, is_some, max, nat_le, nat_lt, not, ◌==◌, ◌↔◌, ◌≢◌}
 use Rattle.std.specs.declared.option.Option.{Option}
-use Rattle.std.proofs.lemmas.Bool.{and_parts, eq-eqb, eqb-true, eqb-false, le-leb, leb-true, lt-ltb, ltb-true, ne_eqb, not-true, not_from_false}
+use Rattle.std.proofs.lemmas.Bool.{and_parts, eq-eqb, eqb-true, eqb-false, false≢true, le-leb, leb-true, lt-ltb, ltb-true, ne_eqb, not-true, not_from_false}
 use Rattle.mu_model.specs.declared.config.Config.{Config}
 use Rattle.mu_model.specs.declared.event.Event.{Event}
 use Rattle.mu_model.specs.Entering.{any_min_read}
@@ -13,7 +13,7 @@ use Rattle.mu_model.specs.Serving.{has_unserved_ask, is_least_waiting}
 use Rattle.mu_model.specs.declared.reason.Reason.{Reason}
 use Rattle.mu_model.specs.Points.{AreMet, IsMet, each_below, first_below, greatest_used, right_number}
 use Rattle.mu_model.specs.Reasons.{Finds}
-use Rattle.mu_model.proofs.AllMet.{met_append, met_front}
+use Rattle.mu_model.proofs.AllMet.{met_append, met_front, met_rest}
 use Rattle.mu_model.proofs.Reasons.{found_on}
 use Rattle.mu_model.proofs.FirstBelow.{none_found, one_found}
 
@@ -82,6 +82,16 @@ elsewhere c r past xs more other (Some q) fails finds =
     let here = within c r past xs more finds.before finds.after q finds.order finds.met fails in
     record { before = finds.before; after = here.0 ++ other; order = ap (λ l. l ++ other) here.1 ∙ append_assoc finds.before (q ∷ here.0) other; met = finds.met; fails = finds.fails }
 
+-- no point is found exactly if all are met
+pub none_met : (c : Config) (r : ℕ) (past : List Event) (reasons : List Reason) (found : Option Reason) (none : Bool) → is_some found ≡ not none → Finds c r past reasons found → (IsTrue none ↔ AreMet c r past reasons)
+none_met c r past reasons None true is finds = (λ h. finds, λ m. refl)
+none_met c r past reasons None false is finds = absurd (false≢true is)
+none_met c r past reasons (Some q) true is finds = absurd (false≢true (sym is))
+none_met c r past reasons (Some q) false is finds = (
+  λ h. absurd (false≢true h),
+  λ m. absurd (finds.fails (met_rest c r past finds.before (q ∷ finds.after) (subst (AreMet c r past) finds.order m)).0),
+)
+
 -- a list of points of numbers, with those of one number more
 pub one_more : (c : Config) (r : ℕ) (past : List Event) (xs : List Reason) (n : ℕ) (of_each : ℕ → List Reason) (found : Option Reason) → Finds c r past ((xs ++ each_below n of_each) ++ of_each n) found → Finds c r past (xs ++ each_below (n + 1) of_each) found
 one_more c r past xs n of_each found finds =
@@ -107,6 +117,15 @@ waiting_is n r mine (Some w) one nobody =
     let first = one w refl in
     let least = and_parts (has_unserved_ask r mine w) (all_below w (λ q. not (has_unserved_ask r mine q))) first.1 in
     sym (one_found n w (has_unserved_ask r mine) first.0 least.0 least.1)
+
+-- the first that waits, if one was found, is this one exactly if it is the least that waits
+pub least_is_first : (n r w : ℕ) (mine : List Event) (found : Option ℕ) → w < n → ((q : ℕ) → found ≡ Some q → (q < n) × (is_least_waiting r mine q ≡ true)) → (found ≡ None → all_below n (λ q. not (has_unserved_ask r mine q)) ≡ true) → ((found ≡ Some w) ↔ (is_least_waiting r mine w ≡ true))
+least_is_first n r w mine found near one nobody = (
+  λ is. (one w is).1,
+  λ least.
+      let both = and_parts (has_unserved_ask r mine w) (all_below w (λ q. not (has_unserved_ask r mine q))) least in
+      waiting_is n r mine found one nobody ∙ one_found n w (has_unserved_ask r mine) near both.0 both.1,
+)
 
 -- the number that is told is that of the definitions
 pub number_told : (r : ℕ) (mine : List Event) (own : Option ℕ) (read put id above : ℕ) (right : Option ℕ) → own ≡ proposal_number r mine → read ≡ greatest (λ e. any_min_read r e.by e.verb e.answer) (leadership r mine) → put ≡ greatest (λ e. number_put r e.by e.verb) mine → id ≡ r → above ≡ max read put → right ≡ right_number id above own → right ≡ right_number r (greatest_used r mine) (proposal_number r mine)

@@ -1,5 +1,5 @@
 -- met where allowed, at most one reason, right number allowed: the laws of points and reasons.
-use Rattle.std.specs.Prelude.{List, Some, ℕ, ◌<◌, ◌↔◌, ◌≡◌}
+use Rattle.std.specs.Prelude.{List, Some, ℕ, ◌<◌, ◌^◌, ◌↔◌, ◌≡◌}
 use Rattle.mu_model.specs.declared.config.Config.{Config}
 use Rattle.mu_model.specs.declared.event.Event.{Event}
 use Rattle.mu_model.specs.declared.event.Verb.{Verb}
@@ -22,9 +22,12 @@ AtMostOneReason =
     (c : Config) (r : ℕ) (past : List Event) (verb : Verb) (a b : Reason)
     → IsReason c r past verb a → IsReason c r past verb b → a ≡ b
 
--- the number that is told in place of a wrong one is allowed
+-- the number that is told in place of a wrong one is allowed, and no other number of 32 bits is
 abbrev pub RightNumberAllowed : Type 0
 RightNumberAllowed =
     (r : ℕ) (past : List Event) (b : ℕ)
-    → r < 8 → right_number r (greatest_used r past) (proposal_number r past) ≡ Some b
-    → number_allowed r past b (proposal_number r past)
+    → r < 8
+    → (right_number r (greatest_used r past) (proposal_number r past) ≡ Some b
+    → number_allowed r past b (proposal_number r past))
+    × (b < 2 ^ 32 → number_allowed r past b (proposal_number r past)
+    → right_number r (greatest_used r past) (proposal_number r past) ≡ Some b)

@@ -27,6 +27,14 @@ pub(crate) fn is_entered_for(entered: Option<Target>, target: Target) -> bool
     entered == Some(target)
 }
 
+/// Whether the replica is the least that waits.
+#[inline(always)]
+fn is_least_waiting(least: Option<u8>, w: u8) -> bool
+    ensures { IsTrue result ↔ (least ≡ Some w) }
+{
+    least == Some(w)
+}
+
 /// The last position of a log.
 #[inline(always)]
 pub(crate) fn last_position(config: &Config) -> usize
@@ -190,7 +198,13 @@ impl Replica {
 
     /// What an `Enter` needs.
     #[inline(always)]
-    fn why_no_enter_for(&self, config: &Config, p: u8, target: Target, found: Found) -> Found
+    pub(crate) fn why_no_enter_for(
+        &self,
+        config: &Config,
+        p: u8,
+        target: Target,
+        found: Found,
+    ) -> Found
         requires { IsConfig config.now }
         ensures { (r : ℕ) → (mine : List Event) → StandsForReplica config.now r mine self.now
             → Finds config.now r mine (bounds r mine) found.reason
@@ -243,7 +257,7 @@ impl Replica {
 
     /// What a `Look` needs.
     #[inline(always)]
-    fn why_no_look(&self, config: &Config, p: u8, i: u16, found: Found) -> Found
+    pub(crate) fn why_no_look(&self, config: &Config, p: u8, i: u16, found: Found) -> Found
         requires { IsConfig config.now }
         ensures { (r : ℕ) → (mine : List Event) → StandsForReplica config.now r mine self.now
             → Finds config.now r mine (bounds r mine) found.reason
@@ -263,9 +277,9 @@ impl Replica {
             )
     }
 
-    /// That there is the region, which is all that some verbs need.
+    /// Looks whether there is the region, which is all that some verbs need.
     #[inline(always)]
-    fn why_no_region(&self, config: &Config, p: u8, found: Found) -> Found
+    pub(crate) fn why_no_region(&self, config: &Config, p: u8, found: Found) -> Found
         requires { IsConfig config.now }
         ensures { (r : ℕ) → (mine : List Event)
             → Finds config.now r mine (bounds r mine) found.reason
@@ -276,7 +290,7 @@ impl Replica {
 
     /// What a `ReadBeat` needs.
     #[inline(always)]
-    fn why_no_read_beat(&self, config: &Config, q: u8, found: Found) -> Found
+    pub(crate) fn why_no_read_beat(&self, config: &Config, q: u8, found: Found) -> Found
         requires { IsConfig config.now }
         ensures { (r : ℕ) → (mine : List Event) → StandsForReplica config.now r mine self.now
             → Finds config.now r mine (bounds r mine) found.reason
@@ -290,7 +304,7 @@ impl Replica {
 
     /// What a `RaiseFuo` needs.
     #[inline(always)]
-    fn why_no_raise_fuo(&self, config: &Config, p: u8, u: u16, found: Found) -> Found
+    pub(crate) fn why_no_raise_fuo(&self, config: &Config, p: u8, u: u16, found: Found) -> Found
         requires { IsConfig config.now }
         ensures { (r : ℕ) → (mine : List Event) → IsPossible config.now r mine
             → StandsForReplica config.now r mine self.now
@@ -377,14 +391,14 @@ impl Replica {
             .needs(grants.is_closing(), Reason::NotClosing)
             .needs(self.is_drained(), Reason::NotDrained)
             .needs(
-                grants.may_grant(w),
+                is_least_waiting(least, w),
                 Reason::NotLeastWaiting { replica: w, least },
             )
     }
 
     /// What the verb needs.
-    #[inline(always)]
-    fn why_no_verb(&self, config: &Config, verb: &Verb, found: Found) -> Found
+    #[inline(never)]
+    pub(crate) fn why_no_verb(&self, config: &Config, verb: &Verb, found: Found) -> Found
         requires { IsConfig config.now }
         ensures { (r : ℕ) → (mine : List Event) → IsPossible config.now r mine
             → StandsForReplica config.now r mine self.now
@@ -415,20 +429,30 @@ impl Replica {
         }
     }
 
+    /// What every verb needs: there is the replica, and it has a step left.
+    #[inline(always)]
+    pub(crate) fn why_no_step(&self, config: &Config) -> Found
+        requires { IsConfig config.now }
+        ensures { (r : ℕ) → (mine : List Event) → StandsForReplica config.now r mine self.now
+            → Finds config.now r mine (bounds r mine) result.reason }
+    {
+        let steps = self.steps;
+        let replica = self.replica;
+        Found::new()
+            .needs(replica < config.replicas, Reason::NoReplica { replica })
+            .needs(steps < config.budget, Reason::Budget { steps })
+    }
+
     /// The first point that keeps the replica from making the verb next, if any does. Takes no
     /// memory.
-    #[inline(always)]
+    #[inline(never)]
     pub fn why_not(&self, config: &Config, verb: &Verb) -> Option<Reason>
         requires { IsConfig config.now }
         ensures { (r : ℕ) → (mine : List Event) → IsPossible config.now r mine
             → StandsForReplica config.now r mine self.now
             → Finds config.now r mine (points config.now r mine verb.now) result }
     {
-        let steps = self.steps;
-        let replica = self.replica;
-        let found = Found::new()
-            .needs(replica < config.replicas, Reason::NoReplica { replica })
-            .needs(steps < config.budget, Reason::Budget { steps });
+        let found = self.why_no_step(config);
         self.why_no_verb(config, verb, found).reason()
     }
 }

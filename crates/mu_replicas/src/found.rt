@@ -1,5 +1,5 @@
 //! The walk over the points of what is allowed.
-ghost use Rattle.std.specs.Prelude.{IsTrue, List, [], ℕ, ◌++◌, ◌∷◌, ◌≡◌, ◌↔◌};
+ghost use Rattle.std.specs.Prelude.{IsTrue, List, None, [], ℕ, ◌++◌, ◌∷◌, ◌≡◌, ◌↔◌};
 ghost use Rattle.mu_model.specs.declared.config.Config.{Config};
 ghost use Rattle.mu_model.specs.declared.event.Event.{Event};
 ghost use Rattle.mu_model.specs.declared.reason.Reason.{Reason as SomeReason};
@@ -18,7 +18,9 @@ impl Found {
     /// The state in which no point was gone through yet.
     #[inline(always)]
     pub(crate) fn new() -> Found
-        ensures { (c : Config) → (r : ℕ) → (past : List Event) → Finds c r past [] result.reason }
+        ensures none { result.reason ≡ None }
+        ensures finds { (c : Config) → (r : ℕ) → (past : List Event)
+            → Finds c r past [] result.reason }
     {
         Found { reason: None }
     }
@@ -39,6 +41,15 @@ impl Found {
                 reason: if holds { None } else { Some(reason) },
             },
         }
+    }
+
+    /// Whether all points are met that were gone through.
+    #[inline(always)]
+    pub(crate) fn is_none(self) -> bool
+        ensures { (c : Config) → (r : ℕ) → (past : List Event) → (reasons : List SomeReason)
+            → Finds c r past reasons self.reason → (IsTrue result ↔ AreMet c r past reasons) }
+    {
+        self.reason.is_none()
     }
 
     /// The reason that was found, if any was.

@@ -13,7 +13,7 @@ pub fn at_most_one_reason()
     ensures { AtMostOneReason }
 {}
 
-/// The number that is told in place of a wrong one is allowed.
+/// The number that is told in place of a wrong one is allowed, and no other number of 32 bits is.
 #[inline(always)]
 pub fn right_number_is_allowed()
     ensures { RightNumberAllowed }

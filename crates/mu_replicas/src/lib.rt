@@ -4,6 +4,7 @@
 //! come from a running state, so that they cost about the same however many events there were.
 #![tactic(auto)]
 
+mod allowing;
 mod explaining;
 mod found;
 mod laws;

@@ -55,7 +55,7 @@ impl Replica {
         }
     }
 
-    /// That the heads leave room.
+    /// Looks whether the heads leave room.
     #[inline(always)]
     fn why_no_room(&self, config: &Config, i: u16, free: u8, found: Found) -> Found
         requires { IsConfig config.now }
@@ -81,7 +81,7 @@ impl Replica {
         found
     }
 
-    /// That the heads leave the reserve free, for a fresh batch.
+    /// Looks whether the heads leave the reserve free, for a fresh batch.
     #[inline(always)]
     fn why_no_reserve(&self, config: &Config, i: u16, v: u16, found: Found) -> Found
         requires { IsConfig config.now }
@@ -99,7 +99,7 @@ impl Replica {
         }
     }
 
-    /// That the words of a row of a value are written.
+    /// Looks whether the words of a row of a value are written.
     #[inline(always)]
     fn why_row_not_written(&self, config: &Config, v: u16, j: u16, found: Found) -> Found
         requires { IsConfig config.now }
@@ -124,7 +124,7 @@ impl Replica {
         found
     }
 
-    /// That the rows of a batch are written.
+    /// Looks whether the rows of a batch are written.
     #[inline(always)]
     fn why_not_written(&self, config: &Config, v: u16, found: Found) -> Found
         requires { IsConfig config.now }
@@ -147,7 +147,7 @@ impl Replica {
         found
     }
 
-    /// That the value is an offer.
+    /// Looks whether the value is an offer.
     #[inline(always)]
     fn why_no_offer(&self, config: &Config, v: u16, found: Found) -> Found
         requires { IsConfig config.now }
@@ -181,7 +181,7 @@ impl Replica {
         )
     }
 
-    /// That the looks at the position allow the value.
+    /// Looks whether the looks at the position allow the value.
     #[inline(always)]
     fn why_no_pick(&self, config: &Config, i: u16, v: u16, found: Found) -> Found
         requires { IsConfig config.now }
@@ -211,7 +211,7 @@ impl Replica {
         }
     }
 
-    /// That all members were looked at in the position.
+    /// Looks whether all members were looked at in the position.
     #[inline(always)]
     fn why_not_looked(&self, config: &Config, i: u16, found: Found) -> Found
         requires { IsConfig config.now }
@@ -238,7 +238,7 @@ impl Replica {
         found
     }
 
-    /// That the value is that of the first put, or may be.
+    /// Looks whether the value is that of the first put, or may be.
     #[inline(always)]
     fn why_no_proposal(&self, config: &Config, i: u16, v: u16, found: Found) -> Found
         requires { IsConfig config.now }
@@ -270,7 +270,7 @@ impl Replica {
         }
     }
 
-    /// That no member was seen past the position.
+    /// Looks whether no member was seen past the position.
     #[inline(always)]
     fn why_past_seen(&self, config: &Config, i: u16, found: Found) -> Found
         requires { IsConfig config.now }
@@ -294,7 +294,7 @@ impl Replica {
         found
     }
 
-    /// That the value may be put at a new position.
+    /// Looks whether the value may be put at a new position.
     #[inline(always)]
     fn why_not_new(&self, config: &Config, i: u16, v: u16, found: Found) -> Found
         requires { IsConfig config.now }
@@ -316,7 +316,7 @@ impl Replica {
         self.why_no_proposal(config, i, v, found)
     }
 
-    /// That the value is known at the position, or may be put there as new.
+    /// Looks whether the value is known at the position, or may be put there as new.
     #[inline(always)]
     fn why_no_value(&self, config: &Config, i: u16, v: u16, found: Found) -> Found
         requires { IsConfig config.now }
@@ -333,7 +333,7 @@ impl Replica {
         }
     }
 
-    /// That the region has what is known below the position.
+    /// Looks whether the region has what is known below the position.
     #[inline(always)]
     fn why_behind(&self, config: &Config, p: u8, i: u16, found: Found) -> Found
         requires { IsConfig config.now }
@@ -362,7 +362,8 @@ impl Replica {
         found
     }
 
-    /// That the replica leads under the number, and has entered the region for the position.
+    /// Looks whether the replica leads under the number, and has entered the region for the
+    /// position.
     #[inline(always)]
     fn why_not_leading(&self, config: &Config, p: u8, i: u16, b: u32, found: Found) -> Found
         requires { IsConfig config.now }

@@ -1,4 +1,5 @@
-//! What an entry that a replica would put comes to.
+//! What the points of a put of an entry ask: whether there is room, whether the value may be put,
+//! and whether its position is in reach.
 ghost use Rattle.std.specs.Prelude.{IsTrue, List, nat_lt, not, true, ℕ, ◌&&◌, ◌+◌, ◌<◌, ◌==◌, ◌||◌, ◌↔◌, ◌≡◌, ◌≤◌};
 ghost use Rattle.mu_model.specs.declared.config.Config.{Config};
 ghost use Rattle.mu_model.specs.declared.event.Event.{Event};

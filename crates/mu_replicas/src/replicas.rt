@@ -1,6 +1,7 @@
 //! All replicas.
-ghost use Rattle.std.specs.Prelude.{IfOk, List, [], vec_capacity, ◌∷◌, ◌≡◌};
+ghost use Rattle.std.specs.Prelude.{IfOk, IsTrue, List, [], vec_capacity, ◌∷◌, ◌≡◌, ◌↔◌};
 ghost use Rattle.mu_model.specs.declared.event.Event.{Event};
+ghost use Rattle.mu_model.specs.Allowed.{Allowed};
 ghost use Rattle.mu_model.specs.Contents.{IsConfig};
 ghost use Rattle.mu_model.specs.Histories.{part};
 ghost use Rattle.mu_model.specs.Legal.{IsLegalHistory};
@@ -36,7 +37,7 @@ impl Replicas {
 
     /// The first point that keeps `by` from making the verb after the legal history that the states
     /// stand for; none if it may make the verb. Takes no memory.
-    #[inline(always)]
+    #[inline(never)]
     pub fn why_not(&self, config: &Config, by: u8, verb: &Verb) -> Option<Reason>
         requires { IsConfig config.now }
         ensures { (past : List Event) → IsLegalHistory config.now past
@@ -47,6 +48,21 @@ impl Replicas {
         match self.replicas.get(usize::from(by)) {
             None => Some(Reason::NoReplica { replica: by }),
             Some(replica) => replica.why_not(config, verb),
+        }
+    }
+
+    /// Whether `by` may make the verb after the legal history that the states stand for. Takes no
+    /// memory.
+    #[inline(always)]
+    pub fn is_allowed(&self, config: &Config, by: u8, verb: &Verb) -> bool
+        requires { IsConfig config.now }
+        ensures { (past : List Event) → IsLegalHistory config.now past
+            → StandsForReplicas config.now past self.now
+            → (IsTrue result ↔ Allowed config.now by (part by past) verb.now) }
+    {
+        match self.replicas.get(usize::from(by)) {
+            None => false,
+            Some(replica) => replica.is_allowed(config, verb),
         }
     }
 

@@ -84,8 +84,8 @@ impl Replica {
             .needs(k < 12, Reason::NoWord { word: k })
     }
 
-    /// That the words of the row of a value are there. A head above the number of applied entries
-    /// needs them.
+    /// Looks whether the words of the row of a value are there. A head above the number of applied
+    /// entries needs them.
     #[inline(always)]
     fn why_row_not_there(
         &self,
@@ -118,7 +118,7 @@ impl Replica {
         found
     }
 
-    /// That the rows of an entry are there.
+    /// Looks whether the rows of an entry are there.
     #[inline(always)]
     fn why_entry_not_there(
         &self,
@@ -146,7 +146,7 @@ impl Replica {
         found
     }
 
-    /// That the rows of the entry at a position are there, if it is known.
+    /// Looks whether the rows of the entry at a position are there, if it is known.
     #[inline(always)]
     fn why_next_not_there(&self, config: &Config, h: u16, applied: usize, found: Found) -> Found
         requires { IsConfig config.now }
@@ -164,7 +164,7 @@ impl Replica {
         }
     }
 
-    /// That the entries below a head are applied.
+    /// Looks whether the entries below a head are applied.
     #[inline(always)]
     fn why_not_applied(&self, config: &Config, h: u16, found: Found) -> Found
         requires { IsConfig config.now }

@@ -1,5 +1,5 @@
 use Rattle.std.proofs.lemmas.List.{append-nil}
-use Rattle.std.proofs.Common.{[], ◌+◌, ◌++◌, ◌∷◌, ◌≡◌, ℕ, List, sym, subst, arith}
+use Rattle.std.proofs.Common.{[], ◌++◌, ◌∷◌, ◌≡◌, ℕ, List, sym, subst, arith}
 use Rattle.mu_model.specs.declared.reason.Reason.{Reason}
 use Rattle.mu_model.specs.Points.{each_below}
 use Rattle.mu_model.specs.Reasons.{Finds}

@@ -1,5 +1,5 @@
 use Rattle.std.proofs.lemmas.List.{append-nil}
-use Rattle.std.proofs.Common.{[], ◌%◌, ◌+◌, ◌/◌, ◌<◌, ◌++◌, ◌∷◌, ◌≡◌, ℕ, List, sym, subst, arith}
+use Rattle.std.proofs.Common.{[], ◌%◌, ◌/◌, ◌<◌, ◌++◌, ◌∷◌, ◌≡◌, ℕ, List, sym, subst, arith}
 use Rattle.mu_model.specs.Contents.{row_count}
 use Rattle.mu_model.specs.Knowledge.{has_word}
 use Rattle.mu_knowledge.specs.HeldRows.{HasWords}

@@ -1,4 +1,4 @@
-use Rattle.std.proofs.Common.{[], ◌+◌, ◌<◌, ◌++◌, ◌∷◌, ℕ, List}
+use Rattle.std.proofs.Common.{[], ◌<◌, ◌++◌, ◌∷◌, ℕ, List}
 use Rattle.mu_model.specs.declared.event.Event.{Event}
 use Rattle.mu_model.specs.Contents.{row_count}
 use Rattle.mu_model.specs.declared.reason.Reason.{Reason}

@@ -3,10 +3,10 @@ use Rattle.std.proofs.lemmas.Bool.{false≢true}
 use Rattle.mu_model.specs.Legal.{IsLegalHistory, MayFollow}
 use Rattle.mu_model.proofs.Budgets.{short_history}
 use Rattle.mu_regions.proofs.Range.{in_range}
-use Rattle.mu_check.proofs.judge.Judge.take_named.Goals as goal
+use Rattle.mu_check.proofs.judge.Judge.takes_named.Goals as goal
 
 pub returns-then-not-may_follow : goal.returns-then-not-may_follow
-returns-then-not-may_follow c = λ past held. (refl, c.fault.ensures past held (λ f. false≢true (sym c.if-not-may_follow.true ∙ (c.may_follow.ensures past held).1 f)))
+returns-then-not-may_follow c = λ past held. (refl, λ f. false≢true (sym c.if-not-may_follow.true ∙ (c.may_follow.ensures past held).1 f))
 
 pub returns : goal.returns
 returns c = λ past held.

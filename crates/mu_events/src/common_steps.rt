@@ -1,0 +1,239 @@
+//! The steps of the verbs that most lines have, each read by a path of its own.
+ghost use Rattle.std.specs.Prelude.{◌≡◌, [], ◌∷◌, IfSome, Some, codes, false};
+ghost use Rattle.std.specs.Option.{option_map};
+ghost use Rattle.std.specs.Str.{bytes_eq};
+ghost use Rattle.mu_model.specs.declared.event.Verb.{Verb as SomeVerb};
+ghost use Rattle.mu_events.specs.Events.{of_three, of_two, sides};
+ghost use Rattle.mu_events.specs.Steps.{step_after};
+ghost use Rattle.mu_text.specs.Lines.{words};
+ghost use Rattle.mu_text.specs.Numbers.{of_8, of_16, of_64};
+
+use crate::events::{found, is_equals, split_first, step_named};
+use mu_model::{Answer, Verb};
+use mu_text::{SPACE, of_8, of_16, of_64};
+
+/// What follows `readrow` in a text, if it begins so.
+#[inline(always)]
+pub(crate) fn after_readrow(text: &[u8]) -> Option<&[u8]>
+    ensures { IfSome result (λ rest. words text.now ≡ codes "readrow" ∷ words rest.now) }
+{
+    match text {
+        [b'r', b'e', b'a', b'd', b'r', b'o', b'w', SPACE, rest @ ..] => Some(rest),
+        _ => None,
+    }
+}
+
+/// What follows `readask` in a text, if it begins so.
+#[inline(always)]
+pub(crate) fn after_readask(text: &[u8]) -> Option<&[u8]>
+    ensures { IfSome result (λ rest. words text.now ≡ codes "readask" ∷ words rest.now) }
+{
+    match text {
+        [b'r', b'e', b'a', b'd', b'a', b's', b'k', SPACE, rest @ ..] => Some(rest),
+        _ => None,
+    }
+}
+
+/// What follows `readbeat` in a text, if it begins so.
+#[inline(always)]
+pub(crate) fn after_readbeat(text: &[u8]) -> Option<&[u8]>
+    ensures { IfSome result (λ rest. words text.now ≡ codes "readbeat" ∷ words rest.now) }
+{
+    match text {
+        [
+            b'r',
+            b'e',
+            b'a',
+            b'd',
+            b'b',
+            b'e',
+            b'a',
+            b't',
+            SPACE,
+            rest @ ..,
+        ] => Some(rest),
+        _ => None,
+    }
+}
+
+/// What follows `writerow` in a text, if it begins so.
+#[inline(always)]
+pub(crate) fn after_writerow(text: &[u8]) -> Option<&[u8]>
+    ensures { IfSome result (λ rest. words text.now ≡ codes "writerow" ∷ words rest.now) }
+{
+    match text {
+        [
+            b'w',
+            b'r',
+            b'i',
+            b't',
+            b'e',
+            b'r',
+            b'o',
+            b'w',
+            SPACE,
+            rest @ ..,
+        ] => Some(rest),
+        _ => None,
+    }
+}
+
+/// What follows `look` in a text, if it begins so.
+#[inline(always)]
+pub(crate) fn after_look(text: &[u8]) -> Option<&[u8]>
+    ensures { IfSome result (λ rest. words text.now ≡ codes "look" ∷ words rest.now) }
+{
+    match text {
+        [b'l', b'o', b'o', b'k', SPACE, rest @ ..] => Some(rest),
+        _ => None,
+    }
+}
+
+/// What follows the `=` of a text, if it begins with one.
+#[inline(always)]
+fn after_equals(text: &[u8]) -> Option<&[u8]>
+    ensures { IfSome result (λ rest. words text.now ≡ codes "=" ∷ words rest.now) }
+{
+    match text {
+        [b'=', SPACE, rest @ ..] => Some(rest),
+        _ => None,
+    }
+}
+
+/// The next word of a text and what stands behind it, if it is no `=` and not the last.
+#[inline(always)]
+fn next_word(text: &[u8]) -> Option<(&[u8], &[u8])>
+    ensures { IfSome result (λ r. (words text.now ≡ r.0.now ∷ words r.1.now)
+        × (bytes_eq r.0.now (codes "=") ≡ false)) }
+{
+    let (word, rest) = split_first(text);
+    let rest = rest?;
+    (!is_equals(word)).then_some((word, rest))
+}
+
+/// The one word before the `=` of a text and what stands behind it, if it is one.
+#[inline(always)]
+fn one_before(text: &[u8]) -> Option<(&[u8], &[u8])>
+    ensures { IfSome result (λ r. sides (words text.now)
+        ≡ Some (r.0.now ∷ [], words r.1.now)) }
+{
+    let (a, rest) = next_word(text)?;
+    Some((a, after_equals(rest)?))
+}
+
+/// The two words before the `=` of a text and what stands behind it, if they are two.
+#[inline(always)]
+fn two_before(text: &[u8]) -> Option<(&[u8], &[u8], &[u8])>
+    ensures { IfSome result (λ r. sides (words text.now)
+        ≡ Some (r.0.now ∷ r.1.now ∷ [], words r.2.now)) }
+{
+    let (a, rest) = next_word(text)?;
+    let (b, rest) = one_before(rest)?;
+    Some((a, b, rest))
+}
+
+/// The three words before the `=` of a text and what stands behind it, if they are three.
+#[inline(always)]
+fn three_before(text: &[u8]) -> Option<(&[u8], &[u8], &[u8], &[u8])>
+    ensures { IfSome result (λ r. sides (words text.now)
+        ≡ Some (r.0.now ∷ r.1.now ∷ r.2.now ∷ [], words r.3.now)) }
+{
+    let (a, rest) = next_word(text)?;
+    let (b, c, rest) = two_before(rest)?;
+    Some((a, b, c, rest))
+}
+
+/// The step of a `readrow`, from what follows the name.
+#[inline(never)]
+pub(crate) fn read_row_step(text: &[u8]) -> Option<(Verb, Answer)>
+    ensures { result ≡ step_after (codes "readrow" ∷ []) (sides (words text.now)) }
+{
+    match two_before(text) {
+        Some((v, k, answer)) => found(read_row_verb(v, k), answer),
+        None => step_named(b"readrow", text),
+    }
+}
+
+/// A `readrow` of these words.
+#[inline(always)]
+fn read_row_verb(v: &[u8], k: &[u8]) -> Option<Verb>
+    ensures { result ≡ of_two SomeVerb.ReadRow (of_16 v.now) (of_8 k.now) }
+{
+    Some(Verb::ReadRow(of_16(v)?, of_8(k)?))
+}
+
+/// The step of a `readask`, from what follows the name.
+#[inline(never)]
+pub(crate) fn read_ask_step(text: &[u8]) -> Option<(Verb, Answer)>
+    ensures { result ≡ step_after (codes "readask" ∷ []) (sides (words text.now)) }
+{
+    match one_before(text) {
+        Some((w, answer)) => found(read_ask_verb(w), answer),
+        None => step_named(b"readask", text),
+    }
+}
+
+/// A `readask` of this word.
+#[inline(always)]
+fn read_ask_verb(w: &[u8]) -> Option<Verb>
+    ensures { result ≡ option_map SomeVerb.ReadAsk (of_8 w.now) }
+{
+    Some(Verb::ReadAsk(of_8(w)?))
+}
+
+/// The step of a `readbeat`, from what follows the name.
+#[inline(never)]
+pub(crate) fn read_beat_step(text: &[u8]) -> Option<(Verb, Answer)>
+    ensures { result ≡ step_after (codes "readbeat" ∷ []) (sides (words text.now)) }
+{
+    match one_before(text) {
+        Some((q, answer)) => found(read_beat_verb(q), answer),
+        None => step_named(b"readbeat", text),
+    }
+}
+
+/// A `readbeat` of this word.
+#[inline(always)]
+fn read_beat_verb(q: &[u8]) -> Option<Verb>
+    ensures { result ≡ option_map SomeVerb.ReadBeat (of_8 q.now) }
+{
+    Some(Verb::ReadBeat(of_8(q)?))
+}
+
+/// The step of a `writerow`, from what follows the name.
+#[inline(never)]
+pub(crate) fn write_row_step(text: &[u8]) -> Option<(Verb, Answer)>
+    ensures { result ≡ step_after (codes "writerow" ∷ []) (sides (words text.now)) }
+{
+    match three_before(text) {
+        Some((j, k, x, answer)) => found(write_row_verb(j, k, x), answer),
+        None => step_named(b"writerow", text),
+    }
+}
+
+/// A `writerow` of these words.
+#[inline(always)]
+fn write_row_verb(j: &[u8], k: &[u8], x: &[u8]) -> Option<Verb>
+    ensures { result ≡ of_three SomeVerb.WriteRow (of_16 j.now) (of_8 k.now) (of_64 x.now) }
+{
+    Some(Verb::WriteRow(of_16(j)?, of_8(k)?, of_64(x)?))
+}
+
+/// The step of a `look`, from what follows the name.
+#[inline(never)]
+pub(crate) fn look_step(text: &[u8]) -> Option<(Verb, Answer)>
+    ensures { result ≡ step_after (codes "look" ∷ []) (sides (words text.now)) }
+{
+    match two_before(text) {
+        Some((p, i, answer)) => found(look_verb(p, i), answer),
+        None => step_named(b"look", text),
+    }
+}
+
+/// A `look` of these words.
+#[inline(always)]
+fn look_verb(p: &[u8], i: &[u8]) -> Option<Verb>
+    ensures { result ≡ of_two SomeVerb.Look (of_8 p.now) (of_16 i.now) }
+{
+    Some(Verb::Look(of_8(p)?, of_16(i)?))
+}
