@@ -47,7 +47,6 @@ impl Node {
 
     /// Tells the leader whom the scores name, which is the replica itself, and lets it leave its
     /// leadership. Its note names the region that has gone astray.
-    #[inline(never)]
     pub(crate) fn leave_leadership(&mut self) -> Note
         ghost mine: { List SomeEvent }
         requires stands { StandsForNode self.old.follow.config self.old.id mine self.old }
@@ -66,7 +65,6 @@ impl Node {
     }
 
     /// Takes the first ask, and tells the leader its answer, of which nothing is to be noted.
-    #[inline(never)]
     pub(crate) fn took_again(&mut self, id: u8, answer: Answer)
         ghost mine: { List SomeEvent }
         requires id { id ≡ self.old.id }
