@@ -47,9 +47,9 @@ left_node c script parts nodes events left has r low =
 left_nodes : (c : Config) (script : Script) (parts : List (List Event)) (nodes : List Node) (events : List Event) → AreLeft c script parts nodes → IsLegal c events → HasParts c events parts → ((r : ℕ) → r < c.replicas → IsDiligentBy true c r (part_of r events)) → AreRunNodes true c events
 left_nodes c script parts nodes events left legal has diligent = record {
   legal = legal;
-  made = λ r low. (left_node c script parts nodes events left has r low).1.made;
-  order = λ r low. (left_node c script parts nodes events left has r low).1.cycle;
-  led = λ r low. let node = left_node c script parts nodes events left has r low in subst (λ z. AtEachStep (LeaderKeepsBy (is_eager z) c r) (part_of r events)) node.2 node.1.led;
+  made = λ r low. (left_node c script parts nodes events left has r low).1.made refl;
+  order = λ r low. (left_node c script parts nodes events left has r low).1.cycle refl;
+  led = λ r low. let node = left_node c script parts nodes events left has r low in subst (λ z. AtEachStep (LeaderKeepsBy (is_eager z) c r) (part_of r events)) node.2 (node.1.led refl);
   diligent = diligent;
 }
 

@@ -176,7 +176,7 @@ kinds_of {kind} o order seats rounds parts played r low =
     let count = played.count in
     let found = item_below seats r (omega (arith, low, count)) in
     let sits = played.waits r found.0 found.1 (omega arith) in
-    subst (λ h. AtEachStep (IsListed kind c r) h) (sym (journal_is o order.events parts r low)) (subst (λ z. AtEachStep (IsListed z c r) (part_of r order.events)) sits.zeal sits.stands.listed)
+    subst (λ h. AtEachStep (IsListed kind c r) h) (sym (journal_is o order.events parts r low)) (subst (λ z. AtEachStep (IsListed z c r) (part_of r order.events)) sits.zeal (sits.stands.listed refl))
 
 -- what a replay leaves is a run of its job
 pub run_of : {kind : Zeal} (again : Bool) (o : Outcome) (order : Record) (lists : Lists) (seats : List Seat) (rounds : ℕ) → o.order ≡ Some order → IsLegal o.job.config order.events → o.logs ≡ lists.logs.items

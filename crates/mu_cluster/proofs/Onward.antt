@@ -280,8 +280,8 @@ journal_part o run r low = ap (λ l. history (or_empty l)) (run.parts.each r low
 pub nodes_of : (o : Outcome) (order : Record) (seats : List Seat) (rounds : ℕ) (run : IsRun o) → o.order ≡ Some order → Played o.job.config o.job.script order.events seats rounds 0 → AreDiligent o → AreNodes o.job.config run.order.events
 nodes_of o order seats rounds run given played diligent = record {
   reads = λ p low. subst (ReadsInTime o.job.config p) (journal_part o run p low) (diligent p low).heartbeat_pace;
-  order = λ p low. let found = item_below seats p (omega (arith, low, count)) in subst (λ (x : Record). InCycleOrder o.job.config p (part_of p x.events)) (same_some order run.order (sym given ∙ run.given)) (played.waits p found.0 found.1 (omega arith)).stands.cycle;
-  led = λ p low. let found = item_below seats p (omega (arith, low, count)) in subst (λ (x : Record). AtEachStep (LeaderKeeps o.job.config p) (part_of p x.events)) (same_some order run.order (sym given ∙ run.given)) (let sits = played.waits p found.0 found.1 (omega arith) in subst (λ z. AtEachStep (LeaderKeepsBy (is_eager z) o.job.config p) (part_of p order.events)) sits.zeal sits.stands.led);
+  order = λ p low. let found = item_below seats p (omega (arith, low, count)) in subst (λ (x : Record). InCycleOrder o.job.config p (part_of p x.events)) (same_some order run.order (sym given ∙ run.given)) ((played.waits p found.0 found.1 (omega arith)).stands.cycle refl);
+  led = λ p low. let found = item_below seats p (omega (arith, low, count)) in subst (λ (x : Record). AtEachStep (LeaderKeeps o.job.config p) (part_of p x.events)) (same_some order run.order (sym given ∙ run.given)) (let sits = played.waits p found.0 found.1 (omega arith) in subst (λ z. AtEachStep (LeaderKeepsBy (is_eager z) o.job.config p) (part_of p order.events)) sits.zeal (sits.stands.led refl));
 }
   where
     count : length seats ≡ o.job.config.replicas

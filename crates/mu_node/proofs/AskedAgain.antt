@@ -2,7 +2,7 @@
 use Rattle.std.proofs.Common.{◌*◌, ◌+◌, ◌||◌, ◌⊎◌, Bool, inl, List, None, Some, ap, arith, false, inr, length, refl, subst, sym, true, ℕ, ◌&&◌, ◌<◌, ◌==◌, ◌∙◌, ◌∷◌, ◌≡◌}
 use Rattle.std.specs.Prelude.{if◌then◌else◌, is_some, nat_lt, not}
 use Rattle.std.specs.declared.option.Option.{Option}
-use Rattle.std.proofs.lemmas.Bool.{and_parts, eqb-true, le-ltb, true≢false}
+use Rattle.std.proofs.lemmas.Bool.{and_parts, eqb-true, le-ltb, or_right, true≢false}
 use Rattle.mu_model.specs.declared.config.Config.{Config}
 use Rattle.mu_model.specs.declared.event.Answer.{Answer}
 use Rattle.mu_model.specs.declared.event.Event.{Event}
@@ -113,7 +113,7 @@ follows_asked c r mine node answer odd going stands asks = record {
     going = going;
     zeal = node.zeal;
     made = record { replication = listed; background = λ even. absurd (true≢false (sym odd ∙ even)) };
-    paces = subst (λ p. PacesAt c r mine (tables_at c r mine).written p) stands.paces.listed.place (subst (λ (t : Tables). PacesAt c r mine t.written node.lead.place) stands.paces.listed.tables stands.paces.paces);
+    paces = subst (λ p. PacesAt c r mine (tables_at c r mine).written p) (stands.paces refl).listed.place (subst (λ (t : Tables). PacesAt c r mine t.written node.lead.place) (stands.paces refl).listed.tables (stands.paces refl).paces);
     leads = λ even leads. absurd (true≢false (sym odd ∙ even));
   };
   listed = listed;
@@ -163,10 +163,6 @@ under_or_first c r mine lead at = go lead.under_way refl
     go true is = inl is
     go false is = inr (at.idle is)
 
-begun_or : (b : Bool) → (b || true) ≡ true
-begun_or true = refl
-begun_or false = refl
-
 pub moves_asked : (c : Config) (r : ℕ) (mine : List Event) (lead next : Lead) (note : Note) → is_odd (length mine) ≡ true → is_named c r mine ≡ true → IsWhere c r mine lead → next.under_way ≡ true → TellsAstray c r mine note → MovesGoing c r mine lead next note
 moves_asked c r mine lead next note odd named at going tells = record {
   background = λ even. absurd (true≢false (sym odd ∙ even));
@@ -175,7 +171,7 @@ moves_asked c r mine lead next note odd named at going tells = record {
     | inr first ↦ absurd (none_some (Verb.Ask 0) (sym none ∙ asked_due c r mine lead named first))
   ]);
   taken = λ verb on some. going ∙ sym (ap (going_after (begins_at lead.place || lead.under_way)) tells.told ∙ elim (under_or_first c r mine lead at) [
-    | inl under ↦ ap (λ t. begins_at lead.place || t) under ∙ begun_or (begins_at lead.place)
+    | inl under ↦ ap (λ t. begins_at lead.place || t) under ∙ or_right (begins_at lead.place) true refl
     | inr first ↦ ap (λ p. begins_at p || lead.under_way) first
   ]);
 }

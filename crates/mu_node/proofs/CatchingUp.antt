@@ -1,7 +1,7 @@
 -- A replica that reads on in a turn of its leader: which verbs these are, and what they leave of the
 -- counts of that leader.
 use Rattle.std.proofs.Common.{◌≡◌, ◌∙◌, ℕ, ◌+◌, ◌%◌, ◌≤◌, ◌||◌, ◌⊎◌, inl, inr, Bool, true, false, None, Some, List, ◌∷◌, ap, arith, length, refl, subst, sym}
-use Rattle.std.specs.Prelude.{if◌then◌else◌, nat_lt, not, ◌&&◌}
+use Rattle.std.specs.Prelude.{IfSome, if◌then◌else◌, nat_lt, not, ◌&&◌}
 use Rattle.std.specs.declared.option.Option.{Option}
 use Rattle.std.specs.List.{slice_get}
 use Rattle.std.proofs.lemmas.Bool.{true≢false}
@@ -36,7 +36,7 @@ use Rattle.mu_lead.proofs.Causes.{leaders_ask_with_cause}
 use Rattle.mu_lead.proofs.Elections.{elections_come_in_time}
 use Rattle.mu_lead.proofs.RoomsQuiet.{no_heads, quiet_milestone}
 use Rattle.mu_node.specs.declared.zeal.Zeal.{Zeal}
-use Rattle.mu_node.specs.Due.{AsksOutOfTurn, CatchesUp, FitsLead, idle_due, lead_due, turn_due, verb_or_beat}
+use Rattle.mu_node.specs.Due.{AsksOutOfTurn, CatchesUp, FitsLead, IsIdle, ReadsOn, idle_due, lead_due, turn_due, verb_or_beat}
 use Rattle.mu_node.specs.Paced.{PacesAt}
 use Rattle.mu_pace.proofs.Pasts.{and_false}
 use Rattle.mu_pace.proofs.Closing.{unnamed_turns}
@@ -136,15 +136,24 @@ idle_is Zeal.Eager c r mine due is = go (leads_at (place_after c r mine)) refl (
     go false led false named None caught is = inl is
     go false led false named (Some it) caught is = inr (it, (is, record { unled = led; unnamed = named; due = caught }))
 
-pub idle_fits : (zeal : Zeal) (c : Config) (r : ℕ) (mine : List Event) (lead : Lead) (due : Option Verb) → due ≡ idle_due zeal c r mine → lead_due c r mine lead ≡ None → (leads_at lead.place ≡ true → is_named c r mine ≡ true) → FitsLead c r mine lead false due
-idle_fits zeal c r mine lead due is none named = elim (idle_is zeal c r mine due is) [
-  | inl nothing ↦ subst (FitsLead c r mine lead false) (sym nothing) (refl, ((λ writes. absurd (true≢false (sym writes))), λ odd. (none, inl refl)))
-  | inr some ↦ subst (FitsLead c r mine lead false) (sym some.1.0) (reading_beside (leads_at lead.place) some.0 (unled some.1.1.unnamed (leads_at lead.place) named) (catches_reading c r mine some.0 some.1.1.due), ((λ writes. absurd (true≢false (sym writes ∙ reading_fails writes_row some.0 (catches_reading c r mine some.0 some.1.1.due) (λ p i. refl) (λ v k. refl)))), λ odd. (none, inr some.1.1)))
+pub idle_is_idle : (zeal : Zeal) (c : Config) (r : ℕ) (mine : List Event) (lead : Lead) (due : Option Verb) → due ≡ idle_due zeal c r mine → lead_due c r mine lead ≡ None → IsIdle c r mine lead (verb_or_beat due)
+idle_is_idle zeal c r mine lead due is none odd = elim (idle_is zeal c r mine due is) [
+  | inl nothing ↦ (none, inl (ap verb_or_beat nothing))
+  | inr some ↦ (none, inr (subst (λ d. CatchesUp c r mine (verb_or_beat d)) (sym some.1.0) some.1.1))
 ]
+
+-- what r reads on with is not of the leader
+pub idle_fits : (c : Config) (r : ℕ) (mine : List Event) (lead : Lead) (due : Option Verb) → IfSome due (λ verb. ReadsOn c r mine verb) → (leads_at lead.place ≡ true → is_named c r mine ≡ true) → FitsLead c r mine lead false due
+idle_fits c r mine lead None reads named = (refl, λ writes. absurd (true≢false (sym writes)))
+idle_fits c r mine lead (Some verb) reads named =
+    let is = catches_reading c r mine verb reads.due in (
+      reading_beside (leads_at lead.place) verb (unled (leads_at lead.place) named) is,
+      λ writes. absurd (true≢false (sym writes ∙ reading_fails writes_row verb is (λ p i. refl) (λ v k. refl))),
+    )
   where
-    unled : is_named c r mine ≡ false → (t : Bool) → (t ≡ true → is_named c r mine ≡ true) → t ≡ false
-    unled other true named = absurd (true≢false (sym (named refl) ∙ other))
-    unled other false named = refl
+    unled : (t : Bool) → (t ≡ true → is_named c r mine ≡ true) → t ≡ false
+    unled true named = absurd (true≢false (sym (named refl) ∙ reads.unnamed))
+    unled false named = refl
 
 -- a step that closes a count leaves what the moment allows
 pub closes_anew : (w : Watch) (n : ℕ) (past : List Event) (e : Event) → w.closes past e ≡ true → ((allowed : ℕ) → w.allows (e ∷ past) ≡ Some allowed → n ≤ allowed) → HasRoom w n (e ∷ past)

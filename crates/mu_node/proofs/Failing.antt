@@ -9,11 +9,13 @@ use Rattle.mu_model.specs.Contents.{config_word, is_batch, rest_of}
 use Rattle.mu_model.specs.Knowledge.{known}
 use Rattle.mu_knowledge.specs.Offers.{first_in}
 use Rattle.mu_follow.specs.CatchingUp.{or_else}
-use Rattle.mu_lead.specs.Ahead.{entry_before, word_after, word_from, word_of}
+use Rattle.mu_lead.specs.declared.lead.Lead.{Lead}
+use Rattle.mu_lead.specs.declared.place.Place.{Place}
+use Rattle.mu_lead.specs.Ahead.{ahead_at, entry_before, word_after, word_from, word_of}
 use Rattle.mu_lead.specs.Beside.{leads_at}
 use Rattle.mu_lead.specs.Journal.{place_after, tables_at}
 use Rattle.mu_node.specs.declared.zeal.Zeal.{Zeal}
-use Rattle.mu_node.specs.Due.{write_due, verb_or_beat}
+use Rattle.mu_node.specs.Due.{held_write_due, write_due, verb_or_beat}
 
 -- what is due, or else a beat, fails a test
 abbrev pub Fails : (Verb → Bool) → Option Verb → Type 0
@@ -23,14 +25,10 @@ pub either : (test : Verb → Bool) (t : Bool) (a b : Option Verb) → Fails tes
 either test true a b left right = left
 either test false a b left right = right
 
--- what is written ahead fails a test that no beat and no write passes
-pub ahead_fails : (test : Verb → Bool) → test Verb.Beat ≡ false → ((j k x : ℕ) → test (Verb.WriteRow j k x) ≡ false) → (zeal : Zeal) (c : Config) (r : ℕ) (mine : List Event) → Fails test (write_due zeal c r mine)
-ahead_fails test beat write Zeal.Plain c r mine = beat
-ahead_fails test beat write Zeal.Eager c r mine = either test (leads_at (place_after c r mine)) (word_after c r written (entry_before (known c r mine) (place_after c r mine))) None (after (entry_before (known c r mine) (place_after c r mine))) beat
+-- the word that is written ahead at a place fails a test that no beat and no write passes
+word_fails : (test : Verb → Bool) → test Verb.Beat ≡ false → ((j k x : ℕ) → test (Verb.WriteRow j k x) ≡ false) → (c : Config) (r : ℕ) (values written : List ℕ) (place : Place) → Fails test (ahead_at c r values written place)
+word_fails test beat write c r values written place = either test (leads_at place) (word_after c r written (entry_before values place)) None (after (entry_before values place)) beat
   where
-    written : List ℕ
-    written = (tables_at c r mine).written
-
     word : (o : Option ℕ) → Fails test (word_of c written o)
     word None = beat
     word (Some j) = write j (get_or written j 12) (config_word c j (get_or written j 12))
@@ -39,6 +37,15 @@ ahead_fails test beat write Zeal.Eager c r mine = either test (leads_at (place_a
     after None = beat
     after (Some v) = either test (is_batch c v && (v / 4096 == r)) (word_from c written (v % 4096 + rest_of c (v % 4096) + 1)) None
         (word (first_in (λ j. nat_lt (get_or written j 12) 12) (v % 4096 + rest_of c (v % 4096) + 1) (v % 4096 + rest_of c (v % 4096) + 1 + rest_of c (v % 4096 + rest_of c (v % 4096) + 1) + 1))) beat
+
+-- so does what a node writes ahead, by the journal and by what its leader holds
+pub ahead_fails : (test : Verb → Bool) → test Verb.Beat ≡ false → ((j k x : ℕ) → test (Verb.WriteRow j k x) ≡ false) → (zeal : Zeal) (c : Config) (r : ℕ) (mine : List Event) → Fails test (write_due zeal c r mine)
+ahead_fails test beat write Zeal.Plain c r mine = beat
+ahead_fails test beat write Zeal.Eager c r mine = word_fails test beat write c r (known c r mine) (tables_at c r mine).written (place_after c r mine)
+
+pub led_ahead_fails : (test : Verb → Bool) → test Verb.Beat ≡ false → ((j k x : ℕ) → test (Verb.WriteRow j k x) ≡ false) → (zeal : Zeal) (c : Config) (r : ℕ) (mine : List Event) (lead : Lead) → Fails test (held_write_due zeal c r mine lead)
+led_ahead_fails test beat write Zeal.Plain c r mine lead = beat
+led_ahead_fails test beat write Zeal.Eager c r mine lead = word_fails test beat write lead.config lead.id (known c r mine) lead.written.items lead.place
 
 -- what is due or else something other
 pub else_fails : (test : Verb → Bool) (due other : Option Verb) → Fails test due → Fails test other → Fails test (or_else due other)

@@ -39,7 +39,7 @@ use Rattle.mu_model.specs.Contents.{holds_all}
 use Rattle.mu_node.specs.Notes.{note_at}
 use Rattle.mu_node.specs.declared.node.Node.{Node}
 use Rattle.mu_node.specs.Cycle.{other_at, read_at}
-use Rattle.mu_node.specs.Due.{FitsLead, IsIdle, MayBeside, WritesAhead, lead_due, verb_or_beat}
+use Rattle.mu_node.specs.Due.{FitsLead, MayBeside, WritesAhead, lead_due, verb_or_beat}
 use Rattle.mu_node.specs.Node.{AwaitsBeside, HoldsBeside, HoldsWith, StandsForLead}
 use Rattle.mu_node.specs.Notes.{heed_note}
 use Rattle.mu_node.proofs.Moving.{event_by}
@@ -193,7 +193,7 @@ some_made (Some due) verb some made = ap (λ v. Some v) (sym made)
 
 -- in another turn the verb is not of the listing
 abbrev pub IsOther : Config → ℕ → List Event → Lead → Verb → Type 0
-IsOther c r mine lead verb = (is_beside (leads_at lead.place) verb ≡ true) × (WritesAhead lead verb × IsIdle c r mine lead verb)
+IsOther c r mine lead verb = (is_beside (leads_at lead.place) verb ≡ true) × WritesAhead lead verb
 
 pub fits_other : (c : Config) (r : ℕ) (mine : List Event) (lead : Lead) (leads : Bool) (due : Option Verb) (verb : Verb) → FitsLead c r mine lead leads due → leads ≡ false → verb ≡ verb_or_beat due → IsOther c r mine lead verb
 fits_other c r mine lead true due verb fits is made = absurd (true≢false is)

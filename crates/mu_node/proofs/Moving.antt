@@ -1,12 +1,12 @@
 -- A node that took the event of a step stands for the part that the port has after it.
-use Rattle.std.proofs.Common.{◌≡◌, ℕ, List, ◌∷◌, ◌∙◌, ap, sym, subst}
+use Rattle.std.proofs.Common.{◌≡◌, ℕ, Bool, List, ◌∷◌, ◌∙◌, ap, false, sym, subst, true, true≢false}
 use Rattle.mu_model.specs.declared.config.Config.{Config}
 use Rattle.mu_model.specs.declared.event.Answer.{Answer}
 use Rattle.mu_model.specs.declared.event.Event.{Event}
 use Rattle.mu_model.specs.declared.event.Verb.{Verb}
 use Rattle.mu_model.specs.Parts.{IsPossible}
 use Rattle.mu_node.specs.declared.node.Node.{Node}
-use Rattle.mu_node.specs.Node.{StandsForNode}
+use Rattle.mu_node.specs.Node.{LivesForNode, StandsAs}
 
 -- the event of a replica
 abbrev pub event_by : ℕ → Verb → Answer → Event
@@ -29,12 +29,32 @@ possible_own k0 k1 own n0 n1 id part mine now verb made answer same_k same_n sam
     to_own IsPossible k1 own n1 id now (event_by id made answer ∷ mine) (same_own ∙ sym same_k) (same_id ∙ sym same_n) whole possible
 
 -- what a node promises of its own configuration and id holds of those of the port
-pub moved : (k0 k1 own : Config) (n0 n1 id : ℕ) (part mine now : List Event) (verb made : Verb) (answer : Answer) (new : Node)
+pub moved : (k0 k1 own : Config) (n0 n1 id : ℕ) (part mine now : List Event) (verb made : Verb) (answer : Answer) (new : Node) (full : Bool)
     → k1 ≡ k0 → n1 ≡ n0 → own ≡ k0 → id ≡ n0 → part ≡ mine → verb ≡ made → now ≡ event_by n0 verb answer ∷ part → IsPossible k1 n1 now
-    → (IsPossible own id (event_by id made answer ∷ mine) → StandsForNode own id (event_by id made answer ∷ mine) new)
-    → StandsForNode k1 n1 now new
-moved k0 k1 own n0 n1 id part mine now verb made answer new same_k same_n same_own same_id same_part same_verb is possible step =
+    → (IsPossible own id (event_by id made answer ∷ mine) → StandsAs full own id (event_by id made answer ∷ mine) new)
+    → StandsAs full k1 n1 now new
+moved k0 k1 own n0 n1 id part mine now verb made answer new full same_k same_n same_own same_id same_part same_verb is possible step =
     let whole : now ≡ event_by id made answer ∷ mine =
     is ∙ (ap (λ v. event_by n0 v answer ∷ part) same_verb ∙ (ap (λ i. event_by i made answer ∷ part) (sym same_id) ∙ ap (λ l. event_by id made answer ∷ l) same_part)) in
-    to_port (λ c r l. StandsForNode c r l new) k1 own n1 id now (event_by id made answer ∷ mine) (same_own ∙ sym same_k) (same_id ∙ sym same_n) whole
+    to_port (λ c r l. StandsAs full c r l new) k1 own n1 id now (event_by id made answer ∷ mine) (same_own ∙ sym same_k) (same_id ∙ sym same_n) whole
     (step (possible_own k0 k1 own n0 n1 id part mine now verb made answer same_k same_n same_own same_id same_part same_verb is possible))
+
+-- what stands in full stands as far as nothing is said of how the events were made
+pub as_far : (full : Bool) (c : Config) (r : ℕ) (mine : List Event) (node : Node) → StandsAs full c r mine node → LivesForNode c r mine node
+as_far full c r mine node held = record {
+  beside = held.beside;
+  lead = held.lead;
+  handed = held.handed;
+  answers = held.answers;
+  reads = held.reads;
+  cycle = λ on. absurd (true≢false (sym on));
+  made = λ on. absurd (true≢false (sym on));
+  listed = λ on. absurd (true≢false (sym on));
+  leads = λ on. absurd (true≢false (sym on));
+  paces = λ on. absurd (true≢false (sym on));
+  led = λ on. absurd (true≢false (sym on));
+}
+
+-- and what is fully so is so in full
+pub in_full : (full : Bool) (c : Config) (r : ℕ) (mine : List Event) (node : Node) → full ≡ true → StandsAs full c r mine node → StandsAs true c r mine node
+in_full full c r mine node on held = subst (λ t. StandsAs t c r mine node) on held

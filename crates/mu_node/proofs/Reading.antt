@@ -1,6 +1,6 @@
 -- A node reads only rows of known batches, up to the first that it hasn't applied.
 use Rattle.std.proofs.Common.{◌≡◌, ◌∙◌, ℕ, ◌+◌, ◌-◌, ◌*◌, ◌/◌, ◌%◌, ◌<◌, ◌≤◌, ◌==◌, Bool, true, false, None, Some, List, [], ◌∷◌, ap, arith, inl, inr, length, refl, subst, suc, sym, take, true≢false, zero}
-use Rattle.std.specs.Prelude.{if◌then◌else◌, min, nat_lt}
+use Rattle.std.specs.Prelude.{IfSome, if◌then◌else◌, min, nat_lt}
 use Rattle.std.specs.declared.option.Option.{Option}
 use Rattle.std.specs.List.{slice_get}
 use Rattle.std.proofs.lemmas.Bool.{cases_lt, ltb-true}
@@ -24,16 +24,18 @@ use Rattle.mu_follow.proofs.Waiting.{row_of_known}
 use Rattle.mu_follow.specs.Due.{ahead_due, filled_known, fuo_due, head_due, next_due, other_head_due, other_of, own_fuo, first_word_of, look_due, next_word_of, raise_due, replay_due, row_read, row_under_way, rows_had, word_due}
 use Rattle.mu_lead.specs.declared.place.Place.{Place}
 use Rattle.mu_lead.specs.Beside.{leads_at}
-use Rattle.mu_lead.specs.Standing.{verb_at}
+use Rattle.mu_lead.specs.Standing.{verb_at, verb_of}
 use Rattle.mu_pace.specs.Counters.{AtEachStep}
 use Rattle.mu_node.specs.declared.zeal.Zeal.{Zeal}
-use Rattle.mu_node.specs.Due.{write_due, or_ahead}
-use Rattle.mu_node.proofs.Failing.{ahead_fails}
+use Rattle.mu_lead.specs.declared.lead.Lead.{Lead}
+use Rattle.mu_node.specs.Due.{ReadsOn, held_write_due, lead_due, write_due, or_ahead}
+use Rattle.mu_node.proofs.Failing.{ahead_fails, led_ahead_fails}
 use Rattle.mu_node.proofs.CatchingUp.{made_led}
 use Rattle.mu_follow.specs.CatchingUp.{catch_up_due, entry_due, lacked_word_due, lacked_word_of, or_else, words_had}
 use Rattle.mu_node.specs.Cycle.{IsBackgroundDue, handed, handed_before, hands_on, other_at, place_now, read_at}
 use Rattle.mu_node.specs.Due.{verb_or_beat}
 use Rattle.mu_node.specs.Journal.{WasMade}
+use Rattle.mu_node.specs.Reads.{IsNext, IsReadNext, ReadsNext}
 use Rattle.mu_lead.specs.Journal.{due_after, number_due, place_after, tables_at}
 use Rattle.mu_node.specs.Due.{listed_due}
 
@@ -42,11 +44,7 @@ grown_begins : (values : List ℕ) (o : Option ℕ) (i v : ℕ) → slice_get va
 grown_begins values None i v at = at
 grown_begins values (Some w) i v at = get_front values (w ∷ []) i v at
 
--- a row of a known batch up to the first that isn't applied; and if a verb reads a row, it is such
-record IsNext (c : Config) (r : ℕ) (mine : List Event) (w : ℕ) : Type 0 where
-  of : IsOfKnown c r mine w
-  low : of.position ≤ length (applied c r mine)
-
+-- and up to the first that isn't applied
 next_stays : (c : Config) (r : ℕ) (e : Event) (mine : List Event) (w : ℕ) → IsNext c r mine w → IsNext c r (e ∷ mine) w
 next_stays c r e mine w is = record {
   of = record {
@@ -60,14 +58,6 @@ next_stays c r e mine w is = record {
   };
   low = (let low = is.low in let more = applied_grows c r mine e in omega (arith, low, more));
 }
-
-abbrev IsReadNext : Config → ℕ → List Event → Verb → Type 0
-IsReadNext c r mine (Verb.ReadRow w k) = IsNext c r mine w
-IsReadNext c r mine _ = Unit {0}
-
-abbrev ReadsNext : Config → ℕ → List Event → Type 0
-ReadsNext c r [] = Unit {0}
-ReadsNext c r (e ∷ mine) = ReadsNext c r mine × IsReadNext c r mine e.verb
 
 -- no more was handed on than is applied
 handed_before_low : (c : Config) (r : ℕ) (mine : List Event) → handed_before c r mine ≤ length (applied c r mine)
@@ -102,7 +92,7 @@ under_way_known c r [] w reads is = cc
 under_way_known c r (e ∷ mine) w reads is = next_stays c r e mine w (under_way_after c r e.by e.verb e.answer mine w reads.1 (λ u under. under_way_known c r mine u reads.0 under) is)
 
 -- what is due, or else a beat, reads only such rows
-abbrev Reads : Config → ℕ → List Event → Option Verb → Type 0
+abbrev pub Reads : Config → ℕ → List Event → Option Verb → Type 0
 Reads c r mine due = IsReadNext c r mine (verb_or_beat due)
 
 either : (c : Config) (r : ℕ) (mine : List Event) (t : Bool) (a b : Option Verb) → (t ≡ true → Reads c r mine a) → Reads c r mine b → Reads c r mine (if t then a else b)
@@ -189,12 +179,20 @@ catch_reads c r mine reads =
     lacked (Some v) are = either c r mine (nat_lt (words_had r mine v) 12) (Some (Verb.ReadRow v (words_had r mine v))) None (λ low. are v refl) tt
 
 -- the leader
+listed_reads : (c : Config) (b : ℕ) (values up written : List ℕ) (place : Place) → is_row_read (verb_or_beat (verb_at c b values up written place)) ≡ false
+listed_reads c b values up written Place.Rest = refl
+listed_reads c b values up written place = refl
+
 led_reads : (c : Config) (r : ℕ) (mine : List Event) → is_row_read (verb_or_beat (due_after c r mine)) ≡ false
-led_reads c r mine = choose (leader c r mine == r) (listed_due c r mine) None (at c (number_due r mine) (known c r mine) (tables_at c r mine).up (tables_at c r mine).written (place_after c r mine)) refl
-  where
-    at : (c : Config) (b : ℕ) (values up written : List ℕ) (place : Place) → is_row_read (verb_or_beat (verb_at c b values up written place)) ≡ false
-    at c b values up written Place.Rest = refl
-    at c b values up written place = refl
+led_reads c r mine = choose (leader c r mine == r) (listed_due c r mine) None (listed_reads c (number_due r mine) (known c r mine) (tables_at c r mine).up (tables_at c r mine).written (place_after c r mine)) refl
+
+pub lead_reads : (c : Config) (r : ℕ) (mine : List Event) (lead : Lead) → IsReadNext c r mine (verb_or_beat (lead_due c r mine lead))
+lead_reads c r mine lead = reads_other c r mine (verb_or_beat (lead_due c r mine lead)) (choose (leader c r mine == r) (verb_of lead (known c r mine)) None (listed_reads lead.config lead.number (known c r mine) lead.up lead.written.items lead.place) refl)
+
+-- what an idle node reads on with
+pub idle_reads : (c : Config) (r : ℕ) (mine : List Event) (due : Option Verb) → ReadsNext c r mine → IfSome due (λ verb. ReadsOn c r mine verb) → IsReadNext c r mine (verb_or_beat due)
+idle_reads c r mine None reads on = tt
+idle_reads c r mine (Some verb) reads on = subst (Reads c r mine) on.due (catch_reads c r mine reads)
 
 -- the host
 host_reads : (d : ℕ) (verb : Verb) → is_of_place d verb ≡ true → is_row_read verb ≡ false
@@ -214,7 +212,7 @@ read_reads n r place = go (place == 0) (nat_lt place n)
     go false true = refl
     go false false = refl
 
-background_reads : (c : Config) (r : ℕ) (mine : List Event) (leading : Bool) (due : Option Verb) → ReadsNext c r mine → IsBackgroundDue c r mine leading due → Reads c r mine due
+pub background_reads : (c : Config) (r : ℕ) (mine : List Event) (leading : Bool) (due : Option Verb) → ReadsNext c r mine → IsBackgroundDue c r mine leading due → Reads c r mine due
 background_reads c r mine leading due reads is = elim (cases_lt place (host_place c 0)) [
   | inl low ↦ reads_other c r mine (verb_or_beat due) (ap (λ d. is_row_read (verb_or_beat d)) (is.read low) ∙ read_reads c.replicas r place)
   | inr high ↦ elim (cases_lt place (host_place c 4)) [
@@ -227,6 +225,10 @@ background_reads c r mine leading due reads is = elim (cases_lt place (host_plac
   where
     place : ℕ
     place = place_now c mine
+
+pub led_ahead_reads : (c : Config) (r : ℕ) (mine : List Event) (zeal : Zeal) (lead : Lead) (due : Option Verb) → Reads c r mine due → Reads c r mine (or_else due (held_write_due zeal c r mine lead))
+led_ahead_reads c r mine zeal lead (Some verb) is = is
+led_ahead_reads c r mine zeal lead None is = reads_other c r mine (verb_or_beat (held_write_due zeal c r mine lead)) (led_ahead_fails is_row_read refl (λ j k x. refl) zeal c r mine lead)
 
 ahead_reads : (c : Config) (r : ℕ) (mine : List Event) (zeal : Zeal) (due : Option Verb) → Reads c r mine due → IsReadNext c r mine (or_ahead zeal c r mine due)
 ahead_reads c r mine zeal (Some verb) is = is
@@ -254,7 +256,7 @@ known_of : (c : Config) (r : ℕ) (mine : List Event) (verb : Verb) → IsReadNe
 known_of c r mine (Verb.ReadRow w k) is = is.of
 known_of c r mine verb is = tt
 
-all_known : (c : Config) (r : ℕ) (mine : List Event) → ReadsNext c r mine → ReadsKnown c r mine
+pub all_known : (c : Config) (r : ℕ) (mine : List Event) → ReadsNext c r mine → ReadsKnown c r mine
 all_known c r [] reads = tt
 all_known c r (e ∷ mine) reads = (all_known c r mine reads.0, known_of c r mine e.verb reads.1)
 

@@ -170,17 +170,18 @@ made_follows zeal c r mine lead leading due answer led cycle replays = go (is_od
         ]
 
 -- in a turn of the leader nothing is handed on
-pub odd_planned : (c : Config) (r : ℕ) (mine : List Event) (node : Node) → is_odd (length mine) ≡ true → (leads_at node.lead.place ≡ true → is_named c r mine ≡ true) → HasHeard c r mine node → HasPlanned c r mine node
-odd_planned c r mine node odd named held = record {
+pub odd_planned : (full : Bool) (c : Config) (r : ℕ) (mine : List Event) (node : Node) → is_odd (length mine) ≡ true → (leads_at node.lead.place ≡ true → is_named c r mine ≡ true) → HasHeard full c r mine node → HasPlanned full c r mine node
+odd_planned full c r mine node odd named held = record {
   beside = held.beside;
   lead = held.lead;
   handed = held.handed ∙ sym (ap (λ t. if (not t && (place_now c mine == 2 * c.replicas + 20)) then length (applied c r mine) else handed_before c r mine) odd);
   answers = λ commands are. subst (λ n. HoldsAnswers c commands (take n (applied c r mine)) node.answers) (sym (ap (λ t. if (not t && (place_now c mine == 2 * c.replicas + 20)) then length (applied c r mine) else handed_before c r mine) odd)) (held.answers commands are);
+  reads = held.reads;
   cycle = held.cycle;
   made = held.made;
   listed = held.listed;
-  leads = odd_may c r mine odd (leads_at node.lead.place) named;
-  paces = paces_odd c r mine node.lead odd held.paces;
+  leads = λ on. odd_may c r mine odd (leads_at node.lead.place) named;
+  paces = λ on. paces_odd c r mine node.lead odd (held.paces on);
   led = held.led;
 }
 

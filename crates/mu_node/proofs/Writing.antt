@@ -17,7 +17,7 @@ use Rattle.mu_lead.specs.Journal.{IsWhere, tables_at}
 use Rattle.mu_lead.specs.Listing.{Tables}
 use Rattle.mu_lead.proofs.Ahead.{MayAhead, ahead_may}
 use Rattle.mu_node.specs.declared.zeal.Zeal.{Zeal}
-use Rattle.mu_node.specs.Due.{FitsLead, MayBeside, write_due, verb_or_beat, written_row}
+use Rattle.mu_node.specs.Due.{FitsLead, MayBeside, held_write_due, write_due, verb_or_beat, written_row}
 use Rattle.mu_node.specs.Node.{StandsForLead}
 
 -- the row of a verb that writes one, and of one that doesn't
@@ -30,7 +30,7 @@ is_written (Verb.WriteRow j k x) i is = refl
 is_written verb i is = cc
 
 -- what the leader writes ahead is what the journal has it write
-pub ahead_listed : (c : Config) (r : ℕ) (mine : List Event) (lead : Lead) → StandsForLead c r mine lead → IsWhere c r mine lead → ahead_at lead.config lead.id (known c r mine) lead.written.items lead.place ≡ write_due Zeal.Eager c r mine
+ahead_listed : (c : Config) (r : ℕ) (mine : List Event) (lead : Lead) → StandsForLead c r mine lead → IsWhere c r mine lead → ahead_at lead.config lead.id (known c r mine) lead.written.items lead.place ≡ write_due Zeal.Eager c r mine
 ahead_listed c r mine lead held listed =
     ap (λ k. ahead_at k lead.id (known c r mine) lead.written.items lead.place) held.config
     ∙ (ap (λ i. ahead_at c i (known c r mine) lead.written.items lead.place) held.id
@@ -42,26 +42,31 @@ pub record Fits (c : Config) (r : ℕ) (mine : List Event) (lead : Lead) (due : 
   pub allowed : Allowed c r mine (verb_or_beat due)
   pub fits : FitsLead c r mine lead false due
 
-pub cycle_fits : (zeal : Zeal) (c : Config) (r : ℕ) (mine : List Event) (lead : Lead) (first : Option Verb) → StandsForLead c r mine lead → IsWhere c r mine lead → length mine < c.budget → r < c.replicas → is_odd (length mine) ≡ false → IfSome first (λ verb. MayBeside c r mine lead verb)
-    → writes_row (verb_or_beat first) ≡ false → Fits c r mine lead (or_else first (write_due zeal c r mine))
-cycle_fits zeal c r mine lead (Some verb) held listed short inside even may none = record {
+pub cycle_fits : (zeal : Zeal) (c : Config) (r : ℕ) (mine : List Event) (lead : Lead) (first : Option Verb) → StandsForLead c r mine lead → length mine < c.budget → r < c.replicas → IfSome first (λ verb. MayBeside c r mine lead verb)
+    → writes_row (verb_or_beat first) ≡ false → Fits c r mine lead (or_else first (held_write_due zeal c r mine lead))
+cycle_fits zeal c r mine lead (Some verb) held short inside may none = record {
   allowed = may.allowed;
-  fits = (may.beside, ((λ writes. absurd (true≢false (sym writes ∙ none))), λ odd. absurd (true≢false (sym odd ∙ even))));
+  fits = (may.beside, λ writes. absurd (true≢false (sym writes ∙ none)));
 }
-cycle_fits Zeal.Plain c r mine lead None held listed short inside even may none = record {
+cycle_fits Zeal.Plain c r mine lead None held short inside may none = record {
   allowed = record { budget = short; replica = inside; may = tt };
-  fits = (refl, ((λ writes. absurd (true≢false (sym writes))), λ odd. absurd (true≢false (sym odd ∙ even))));
+  fits = (refl, λ writes. absurd (true≢false (sym writes)));
 }
-cycle_fits Zeal.Eager c r mine lead None held listed short inside even may none = go (write_due Zeal.Eager c r mine) refl
+cycle_fits Zeal.Eager c r mine lead None held short inside may none = go (held_write_due Zeal.Eager c r mine lead) refl
   where
-    go : (due : Option Verb) → write_due Zeal.Eager c r mine ≡ due → Fits c r mine lead due
+    go : (due : Option Verb) → held_write_due Zeal.Eager c r mine lead ≡ due → Fits c r mine lead due
     go None is = record {
       allowed = record { budget = short; replica = inside; may = tt };
-      fits = (refl, ((λ writes. absurd (true≢false (sym writes))), λ odd. absurd (true≢false (sym odd ∙ even))));
+      fits = (refl, λ writes. absurd (true≢false (sym writes)));
     }
     go (Some verb) is =
-        let a : MayAhead mine lead verb = ahead_may mine lead (known c r mine) verb held.stands (subst (λ (k : Config). length mine < k.budget) (sym held.config) short) (ahead_listed c r mine lead held listed ∙ is) in
+        let a : MayAhead mine lead verb = ahead_may mine lead (known c r mine) verb held.stands (subst (λ (k : Config). length mine < k.budget) (sym held.config) short) is in
         record {
           allowed = subst (λ i. Allowed c i mine verb) held.id (subst (λ k. Allowed k lead.id mine verb) held.config a.allowed);
-          fits = (subst (λ v. is_beside (leads_at lead.place) v ≡ true) (sym a.is) a.ahead.leads, ((λ writes. (a.row, (a.is, a.ahead))), λ odd. absurd (true≢false (sym odd ∙ even))));
+          fits = (subst (λ v. is_beside (leads_at lead.place) v ≡ true) (sym a.is) a.ahead.leads, λ writes. (a.row, (a.is, a.ahead)));
         }
+
+-- what such a node writes ahead by its leader is what the journal has it write
+pub ahead_is : (zeal : Zeal) (c : Config) (r : ℕ) (mine : List Event) (lead : Lead) → StandsForLead c r mine lead → IsWhere c r mine lead → held_write_due zeal c r mine lead ≡ write_due zeal c r mine
+ahead_is Zeal.Plain c r mine lead held listed = refl
+ahead_is Zeal.Eager c r mine lead held listed = ahead_listed c r mine lead held listed

@@ -52,6 +52,12 @@ write_due Zeal.Plain c r mine = None
 write_due Zeal.Eager c r mine =
     ahead_at c r (known c r mine) (tables_at c r mine).written (place_after c r mine)
 
+-- the same by what its leader holds
+abbrev pub held_write_due : Zeal → Config → ℕ → List Event → Lead → Option Verb
+held_write_due Zeal.Plain c r mine lead = None
+held_write_due Zeal.Eager c r mine lead =
+    ahead_at lead.config lead.id (known c r mine) lead.written.items lead.place
+
 -- the verb of a background turn in which this is due in the cycle
 abbrev pub or_ahead : Zeal → Config → ℕ → List Event → Option Verb → Verb
 or_ahead zeal c r mine due = verb_or_beat (or_else due (write_due zeal c r mine))
@@ -63,8 +69,7 @@ is_eager Zeal.Eager = true
 
 -- an eager node that is named asks again out of turn, if a region has gone astray
 abbrev pub asks_out_of_turn : Zeal → Config → ℕ → List Event → Bool
-asks_out_of_turn Zeal.Plain c r mine = false
-asks_out_of_turn Zeal.Eager c r mine = is_named c r mine && asks_again c r mine
+asks_out_of_turn zeal c r mine = is_eager zeal && (is_named c r mine && asks_again c r mine)
 
 -- what is due in a turn of the leader, by the journal only
 abbrev pub turn_due : Zeal → Config → ℕ → List Event → Option Verb
@@ -100,10 +105,15 @@ abbrev pub WritesAhead : Lead → Verb → Type 0
 WritesAhead lead verb =
     writes_row verb ≡ true → (row : ℕ) × ((verb ≡ ahead_verb lead row) × IsAhead lead row)
 
--- the leader's verb is what it has due, and it heeded the scores; any other is not of its listing, a
--- word is written ahead, and in a turn of the leader the verb is idle
+-- the leader's verb is what it has due, and it heeded the scores; any other is not of its listing,
+-- and a word is written ahead
 abbrev pub FitsLead : Config → ℕ → List Event → Lead → Bool → Option Verb → Type 0
 FitsLead c r mine lead true due = HasHeeded mine lead × (due ≡ lead_due c r mine lead)
 FitsLead c r mine lead false due =
     (is_beside (leads_at lead.place) (verb_or_beat due) ≡ true)
-    × (WritesAhead lead (verb_or_beat due) × IsIdle c r mine lead (verb_or_beat due))
+    × WritesAhead lead (verb_or_beat due)
+
+-- r isn't named, and the verb is what it reads on with
+pub record ReadsOn (c : Config) (r : ℕ) (mine : List Event) (verb : Verb) : Type 0 where
+  pub unnamed : is_named c r mine ≡ false
+  pub due : catch_up_due c r mine ≡ Some verb

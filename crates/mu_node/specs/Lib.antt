@@ -7,5 +7,6 @@ pub mod Node
 pub mod Notes
 pub mod Paced
 pub mod Plans
+pub mod Reads
 pub mod Turns
 pub mod Watch

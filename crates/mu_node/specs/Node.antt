@@ -1,5 +1,5 @@
 -- stands for (node): the state of a node stands for the events of replica r.
-use Rattle.std.specs.Prelude.{Bool, List, [], not, take, true, vec_capacity, ℕ, ◌+◌, ◌<◌, ◌∷◌, ◌≡◌}
+use Rattle.std.specs.Prelude.{Bool, List, [], false, not, take, true, vec_capacity, ℕ, ◌+◌, ◌<◌, ◌∷◌, ◌≡◌}
 use Rattle.kv_store.specs.Commands.{Request}
 use Rattle.mu_model.specs.declared.config.Config.{Config}
 use Rattle.mu_model.specs.declared.event.Event.{Event}
@@ -21,6 +21,7 @@ use Rattle.mu_node.specs.Answers.{HoldsAnswers}
 use Rattle.mu_node.specs.Cycle.{handed, handed_before}
 use Rattle.mu_node.specs.Journal.{IsListed, WasMade, may_lead, may_lead_before}
 use Rattle.mu_node.specs.Paced.{HasGone, HasPaces, HasPlannedPaces, PacesTold}
+use Rattle.mu_node.specs.Reads.{ReadsNext}
 use Rattle.mu_node.specs.Watch.{StandsForWatch}
 use Rattle.mu_pace.specs.Collecting.{LeaderKeepsBy}
 use Rattle.mu_pace.specs.Counters.{AtEachStep}
@@ -54,42 +55,53 @@ pub record StandsForLead (c : Config) (r : ℕ) (mine : List Event) (lead : Lead
   pub id : lead.id ≡ r
   pub stands : LeadStandsFor mine lead
 
--- the node stands for the events, with its leader, which leads only if it may, and with what is
--- said of its counts; it has handed on `count` entries, answered to their commands, called the
--- places of its cycle in their order, and made each event as it was due for such a node and in time
--- for all that a leader keeps
-pub record HoldsNode (Paces : Lead → Type 0) (c : Config) (r : ℕ) (mine : List Event) (count : ℕ)
-    (may : Bool) (node : Node) : Type 0 where
+-- the node stands for the events, with its leader; it has handed on `count` entries, answered to
+-- their commands, and read only rows of known batches. If all is said of it (`full`), it also
+-- called the places of its cycle in their order, made each event as it was due for such a node and
+-- in time for all that a leader keeps, leads only if it may, and has the counts of its place
+pub record HoldsNode (full : Bool) (Paces : Lead → Type 0) (c : Config) (r : ℕ) (mine : List Event)
+    (count : ℕ) (may : Bool) (node : Node) : Type 0 where
   pub beside : HoldsBeside c r mine node
   pub lead : StandsForLead c r mine node.lead
   pub handed : node.follow.progress.handed ≡ count
   pub answers :
       (commands : List Request) → AreSpelled c commands
       → HoldsAnswers c commands (take count (applied c r mine)) node.answers
-  pub cycle : InCycleOrder c r mine
-  pub made : AtEachStep (WasMade c r) mine
-  pub listed : AtEachStep (IsListed node.zeal c r) mine
-  pub leads : leads_at node.lead.place ≡ true → may ≡ true
-  pub paces : Paces node.lead
-  pub led : AtEachStep (LeaderKeepsBy (is_eager node.zeal) c r) mine
+  pub reads : ReadsNext c r mine
+  pub cycle : full ≡ true → InCycleOrder c r mine
+  pub made : full ≡ true → AtEachStep (WasMade c r) mine
+  pub listed : full ≡ true → AtEachStep (IsListed node.zeal c r) mine
+  pub leads : full ≡ true → leads_at node.lead.place ≡ true → may ≡ true
+  pub paces : full ≡ true → Paces node.lead
+  pub led : full ≡ true → AtEachStep (LeaderKeepsBy (is_eager node.zeal) c r) mine
+
+-- the node stands for the events, in full or as far as nothing is said of how they were made
+abbrev pub StandsAs : Bool → Config → ℕ → List Event → Node → Type 0
+StandsAs full c r mine node =
+    HoldsNode full (HasPaces c r mine) c r mine (handed_before c r mine) (may_lead_before c r mine)
+    node
 
 -- the node stands for the events
 abbrev pub StandsForNode : Config → ℕ → List Event → Node → Type 0
-StandsForNode c r mine node =
-    HoldsNode (HasPaces c r mine) c r mine (handed_before c r mine) (may_lead_before c r mine) node
+StandsForNode c r mine node = StandsAs true c r mine node
+
+-- the same if the configuration may have grown meanwhile: nothing is said of how they were made
+abbrev pub LivesForNode : Config → ℕ → List Event → Node → Type 0
+LivesForNode c r mine node = StandsAs false c r mine node
 
 -- the same once its leader was told which leader the scores name
-abbrev pub HasHeard : Config → ℕ → List Event → Node → Type 0
-HasHeard c r mine node =
-    HoldsNode (PacesTold (not (is_named c r mine)) c r mine) c r mine (handed_before c r mine)
+abbrev pub HasHeard : Bool → Config → ℕ → List Event → Node → Type 0
+HasHeard full c r mine node =
+    HoldsNode full (PacesTold (not (is_named c r mine)) c r mine) c r mine (handed_before c r mine)
     (may_lead_before c r mine) node
 
 -- the same once the next step is planned, before which what is there is handed on
-abbrev pub HasPlanned : Config → ℕ → List Event → Node → Type 0
-HasPlanned c r mine node =
-    HoldsNode (HasPlannedPaces c r mine) c r mine (handed c r mine) (may_lead c r mine) node
+abbrev pub HasPlanned : Bool → Config → ℕ → List Event → Node → Type 0
+HasPlanned full c r mine node =
+    HoldsNode full (HasPlannedPaces c r mine) c r mine (handed c r mine) (may_lead c r mine) node
 
 -- the same once its leader left its leadership, to ask again
-abbrev pub IsGone : Config → ℕ → List Event → Node → Type 0
-IsGone c r mine node =
-    HoldsNode (HasGone c r mine) c r mine (handed_before c r mine) (may_lead_before c r mine) node
+abbrev pub IsGone : Bool → Config → ℕ → List Event → Node → Type 0
+IsGone full c r mine node =
+    HoldsNode full (HasGone c r mine) c r mine (handed_before c r mine) (may_lead_before c r mine)
+    node

@@ -46,8 +46,8 @@ abbrev pub HasPlannedPaces : Config → ℕ → List Event → Lead → Type 0
 HasPlannedPaces c r mine lead =
     PacesTold (is_odd (length mine) && not (is_named c r mine)) c r mine lead
 
--- the leader left its leadership, to ask again: each count had the room of the place before, which
--- is that of the journal; and it begins again
+-- the leader left its leadership, to ask again: each count had the room of the place before, and it
+-- begins again
 pub record HasGone (c : Config) (r : ℕ) (mine : List Event) (lead : Lead) : Type 0 where
   pub before : Place
   pub number : ℕ

@@ -1,5 +1,5 @@
 -- turn, result: what a turn of a replica does, and what it leaves.
-use Rattle.std.specs.Prelude.{Bool, List, None, Some, map, ℕ, ◌∷◌, ◌≡◌}
+use Rattle.std.specs.Prelude.{Bool, List, None, Some, false, map, true, ℕ, ◌∷◌, ◌≡◌}
 use Rattle.std.specs.declared.option.Option.{Option}
 use Rattle.kv_store.specs.Commands.{Request}
 use Rattle.kv_store.specs.Tables.{replies}
@@ -43,6 +43,26 @@ IsTurn c script r mine now before after (Turn.Took note) =
     HasNoEnd c script r mine × IsOneStep c r mine now before after
 IsTurn c script r mine now before after (Turn.Ended end) =
     EndsBy c script r mine end × (now ≡ mine) × (after ≡ before)
+
+-- the end is another than that all is applied
+abbrev pub halts : End → Bool
+halts (End.Finished heads) = false
+halts end = true
+
+-- the end that is told is theirs and halts r, or they have none that does
+abbrev pub TellsHalt : Config → Script → ℕ → List Event → Option End → Type 0
+TellsHalt c script r mine None = (end : End) → EndsBy c script r mine end → halts end ≡ false
+TellsHalt c script r mine (Some end) = EndsBy c script r mine end × (halts end ≡ true)
+
+-- what a turn did that goes on though all is applied: one step if nothing halts r, and none at the
+-- end that it tells
+abbrev pub IsTurnOn :
+    Config → Script → ℕ → List Event → List Event → Option (List Event) → Option (List Event) → Turn
+    → Type 0
+IsTurnOn c script r mine now before after (Turn.Took note) =
+    TellsHalt c script r mine None × IsOneStep c r mine now before after
+IsTurnOn c script r mine now before after (Turn.Ended end) =
+    TellsHalt c script r mine (Some end) × (now ≡ mine) × (after ≡ before)
 
 -- what a replica leaves is what the definitions give of its events, which are diligent; its replies
 -- are those of the store to the commands that the rows of what it applied spell

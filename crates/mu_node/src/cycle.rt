@@ -1,5 +1,5 @@
 //! The background turns of a replica: what is due at each place of the cycle.
-ghost use Rattle.std.specs.Prelude.{IfSome, List, false, length, ◌%◌, ◌-◌, ◌<◌, ◌≡◌, ℕ};
+ghost use Rattle.std.specs.Prelude.{Bool, IfSome, List, false, length, ◌%◌, ◌-◌, ◌<◌, ◌≡◌, ℕ};
 ghost use Rattle.mu_model.specs.declared.config.Config.{Config};
 ghost use Rattle.mu_model.specs.declared.event.Event.{Event as SomeEvent};
 ghost use Rattle.mu_model.specs.Contents.{IsConfig};
@@ -8,7 +8,7 @@ ghost use Rattle.mu_model.specs.Stretches.{is_odd};
 ghost use Rattle.mu_lead.specs.Beside.{leads_at};
 ghost use Rattle.mu_node.specs.Cycle.{IsBackgroundDue, IsDueAt, other_at, place_now, read_at};
 ghost use Rattle.mu_node.specs.Due.{MayBeside};
-ghost use Rattle.mu_node.specs.Node.{HasPlanned, StandsForNode};
+ghost use Rattle.mu_node.specs.Node.{HasPlanned, LivesForNode, StandsAs};
 
 use crate::answers::apply_ready;
 use crate::node::Node;
@@ -47,9 +47,9 @@ impl Node {
     /// is applied to the replica's own store, and handed on.
     pub(crate) fn background(&mut self) -> Option<Verb>
         requires config { IsConfig self.old.follow.config }
-        ensures stands { (c : Config) → (r : ℕ) → (mine : List SomeEvent)
+        ensures stands { (full : Bool) → (c : Config) → (r : ℕ) → (mine : List SomeEvent)
             → is_odd (length mine) ≡ false → IsPossible c r mine
-            → StandsForNode c r mine self.old → HasPlanned c r mine self.new }
+            → StandsAs full c r mine self.old → HasPlanned full c r mine self.new }
         ensures lead { self.new.lead ≡ self.old.lead }
         ensures config { self.new.follow.config ≡ self.old.follow.config }
         ensures id { self.new.id ≡ self.old.id }
@@ -57,11 +57,11 @@ impl Node {
         ensures stops { self.new.stops ≡ self.old.stops }
         ensures due { (c : Config) → (r : ℕ) → (mine : List SomeEvent) → IsPossible c r mine
             → length mine < c.budget → is_odd (length mine) ≡ false
-            → StandsForNode c r mine self.old
+            → LivesForNode c r mine self.old
             → IsBackgroundDue c r mine (leads_at self.old.lead.place) result }
         ensures may { (c : Config) → (r : ℕ) → (mine : List SomeEvent) → IsPossible c r mine
             → length mine < c.budget → is_odd (length mine) ≡ false
-            → StandsForNode c r mine self.old
+            → LivesForNode c r mine self.old
             → IfSome result (λ verb. MayBeside c r mine self.old.lead verb) }
     {
         let place = self.place();
@@ -72,7 +72,7 @@ impl Node {
     /// The place of the cycle of a background turn.
     fn place(&self) -> u8
         requires config { IsConfig self.now.follow.config }
-        ensures { (c : Config) → (r : ℕ) → (mine : List SomeEvent) → StandsForNode c r mine self.now
+        ensures { (c : Config) → (r : ℕ) → (mine : List SomeEvent) → LivesForNode c r mine self.now
             → result ≡ place_now c mine }
     {
         let cycle = u32::from(self.replicas) * 2 + PLACES;
@@ -83,10 +83,10 @@ impl Node {
     /// raised.
     fn hand_on(&mut self, place: u8)
         requires config { IsConfig self.old.follow.config }
-        ensures stands { (c : Config) → (r : ℕ) → (mine : List SomeEvent)
+        ensures stands { (full : Bool) → (c : Config) → (r : ℕ) → (mine : List SomeEvent)
             → is_odd (length mine) ≡ false → IsPossible c r mine
-            → place ≡ place_now c mine → StandsForNode c r mine self.old
-            → HasPlanned c r mine self.new }
+            → place ≡ place_now c mine → StandsAs full c r mine self.old
+            → HasPlanned full c r mine self.new }
         ensures lead { self.new.lead ≡ self.old.lead }
         ensures config { self.new.follow.config ≡ self.old.follow.config }
         ensures id { self.new.id ≡ self.old.id }
@@ -102,10 +102,10 @@ impl Node {
     fn due_at(&self, place: u8) -> Option<Verb>
         requires config { IsConfig self.now.follow.config }
         ensures due { (c : Config) → (r : ℕ) → (mine : List SomeEvent) → IsPossible c r mine
-            → length mine < c.budget → HasPlanned c r mine self.now
+            → length mine < c.budget → HasPlanned false c r mine self.now
             → IsDueAt c r mine (leads_at self.now.lead.place) place result }
         ensures may { (c : Config) → (r : ℕ) → (mine : List SomeEvent) → IsPossible c r mine
-            → length mine < c.budget → HasPlanned c r mine self.now
+            → length mine < c.budget → HasPlanned false c r mine self.now
             → IfSome result (λ verb. MayBeside c r mine self.now.lead verb) }
     {
         let host = self.replicas.saturating_mul(2);

@@ -11,6 +11,7 @@ ghost use Rattle.mu_model.specs.Parts.{IsPossible};
 ghost use Rattle.mu_model.specs.Scores.{is_failed};
 ghost use Rattle.mu_follow.specs.Follow.{StandsForFollow};
 ghost use Rattle.mu_follow.specs.Published.{head_heard};
+ghost use Rattle.mu_node.specs.Turns.{halts};
 ghost use Rattle.mu_node.specs.Watch.{StandsForWatch};
 
 use crate::watch::Watch;
@@ -119,6 +120,20 @@ pub(crate) fn heads_known(follow: &Follow, r: u8) -> [u16; 7]
         heads[usize::from(q)] = head_known(follow, r, q);
     }
     heads
+}
+
+/// That the replica was outrun, if it was.
+pub(crate) fn end_of_outrun(follow: &Follow) -> Option<End>
+    ensures some { (c : Config) → (script : Script) → (r : ℕ) → (mine : List Event)
+        → (end : SomeEnd) → StandsForFollow c r mine follow.now → IsGoing c script r mine
+        → result ≡ Some end → EndsBy c script r mine end × (halts end ≡ true) }
+    ensures none { (c : Config) → (r : ℕ) → (mine : List Event)
+        → StandsForFollow c r mine follow.now → result ≡ None → outrun c r mine ≡ None }
+{
+    match follow.outrun() {
+        Some((replica, position)) => Some(End::Outrun { replica, position }),
+        None => None,
+    }
 }
 
 /// The end of a journal that neither the script nor the budget ends.

@@ -1,5 +1,5 @@
 //! One replica and its turns.
-ghost use Rattle.std.specs.Prelude.{IfOk, List, None, Some, [], false, length, vec_capacity, ℕ, ◌+◌, ◌<◌, ◌≡◌};
+ghost use Rattle.std.specs.Prelude.{Bool, IfOk, List, None, Some, [], false, length, vec_capacity, ℕ, ◌+◌, ◌<◌, ◌≡◌};
 ghost use Rattle.mu_model.specs.declared.config.Config.{Config};
 ghost use Rattle.mu_model.specs.declared.event.Event.{Event as SomeEvent};
 ghost use Rattle.mu_model.specs.declared.script.Script.{Script};
@@ -10,15 +10,15 @@ ghost use Rattle.mu_model.specs.Parts.{IsPossible};
 ghost use Rattle.mu_model.specs.Room.{reserve};
 ghost use Rattle.mu_node.specs.Due.{asks_out_of_turn, is_eager};
 ghost use Rattle.mu_node.specs.Journal.{IsListed};
-ghost use Rattle.mu_node.specs.Node.{StandsForNode};
+ghost use Rattle.mu_node.specs.Node.{LivesForNode, StandsAs, StandsForNode};
 ghost use Rattle.mu_node.specs.Notes.{HasMade, MovesGoing, MovesTurn, TellsTurn};
-ghost use Rattle.mu_node.specs.Turns.{IsOneStep, IsResult, IsTurn, TellsEnd};
+ghost use Rattle.mu_node.specs.Turns.{IsOneStep, IsResult, IsTurn, IsTurnOn, TellsEnd, TellsHalt};
 ghost use Rattle.mu_pace.specs.Blocking.{AdvancesInTime};
 ghost use Rattle.mu_pace.specs.Counters.{AtEachStep};
 ghost use Rattle.mu_pace.specs.Cycles.{KeepsBeside};
 
 use crate::answers::{Answers, apply_ready};
-use crate::ending::{end_of_going, is_stop};
+use crate::ending::{end_of_going, end_of_outrun, is_stop};
 use crate::result::NodeResult;
 use crate::turn::Turn;
 use crate::watch::Watch;
@@ -127,6 +127,47 @@ impl Node {
         }
     }
 
+    /// What halts it, if anything does: the script, the budget, or that it was outrun. It goes on
+    /// though all is applied.
+    #[inline(always)]
+    pub fn halt(&self) -> Option<End>
+        ensures { (c : Config) → (script : Script) → (r : ℕ) → (mine : List SomeEvent)
+            → script.stops ≡ self.now.stops.items → IsConfig c → IsPossible c r mine
+            → LivesForNode c r mine self.now → TellsHalt c script r mine result }
+    {
+        let steps = self.follow.steps();
+        if is_stop(self.stops.as_slice(), self.id, steps) {
+            Some(End::Stopped)
+        } else if steps == self.budget {
+            Some(End::Budget)
+        } else {
+            end_of_outrun(&self.follow)
+        }
+    }
+
+    /// One turn of a replica that goes on though all is applied, so that the others see it alive:
+    /// one step through the port, or none if something halts it. Takes no memory.
+    pub fn turn_on<P: Port>(&mut self, port: &mut P) -> Turn
+        requires config { IsConfig (P.config port.old) }
+        requires lives { LivesForNode (P.config port.old) (P.number port.old)
+            (P.part port.old) self.old }
+        ensures lives { LivesForNode (P.config port.new) (P.number port.new)
+            (P.part port.new) self.new }
+        ensures same { P.same port.old port.new }
+        ensures zeal { self.new.zeal ≡ self.old.zeal }
+        ensures stops { self.new.stops ≡ self.old.stops }
+        ensures possible { IsPossible (P.config port.new) (P.number port.new) (P.part port.new) }
+        ensures turn { (script : Script) → script.stops ≡ self.old.stops.items
+            → IsTurnOn (P.config port.old) script (P.number port.old) (P.part port.old)
+            (P.part port.new) (P.whole port.old) (P.whole port.new) result }
+    {
+        let id = port.id();
+        match self.halt() {
+            Some(end) => Turn::Ended(end),
+            None => Turn::Took(self.step(port, id)),
+        }
+    }
+
     /// One turn: one step through the port, or none if its events have an end. Takes no memory.
     pub fn turn<P: Port>(&mut self, port: &mut P) -> Turn
         requires config { IsConfig (P.config port.old) }
@@ -173,11 +214,12 @@ impl Node {
         requires config { IsConfig (P.config port.old) }
         requires possible { IsPossible (P.config port.old) (P.number port.old) (P.part port.old) }
         requires left { length (P.part port.old) < (P.config port.old).budget }
-        requires stands { StandsForNode (P.config port.old) (P.number port.old)
+        requires stands { LivesForNode (P.config port.old) (P.number port.old)
             (P.part port.old) self.old }
         requires going { outrun (P.config port.old) (P.number port.old) (P.part port.old) ≡ None }
-        ensures stands { StandsForNode (P.config port.new) (P.number port.new)
-            (P.part port.new) self.new }
+        ensures stands { (full : Bool)
+            → StandsAs full (P.config port.old) (P.number port.old) (P.part port.old) self.old
+            → StandsAs full (P.config port.new) (P.number port.new) (P.part port.new) self.new }
         ensures same { P.same port.old port.new }
         ensures zeal { self.new.zeal ≡ self.old.zeal }
         ensures stops { self.new.stops ≡ self.old.stops }
@@ -185,9 +227,11 @@ impl Node {
         ensures step { IsOneStep (P.config port.old) (P.number port.old) (P.part port.old)
             (P.part port.new)
             (P.whole port.old) (P.whole port.new) }
-        ensures made { HasMade self.old.zeal (P.config port.old) (P.number port.old)
+        ensures made { StandsForNode (P.config port.old) (P.number port.old) (P.part port.old)
+            self.old → HasMade self.old.zeal (P.config port.old) (P.number port.old)
             (P.part port.old) (P.part port.new) self.old.lead result }
-        ensures going { MovesGoing (P.config port.old) (P.number port.old) (P.part port.old)
+        ensures going { StandsForNode (P.config port.old) (P.number port.old) (P.part port.old)
+            self.old → MovesGoing (P.config port.old) (P.number port.old) (P.part port.old)
             self.old.lead self.new.lead result }
     {
         if self.asks_out_of_turn() {

@@ -1,5 +1,5 @@
 //! What a replica plans for a turn, and how its parts take the event that the step is.
-ghost use Rattle.std.specs.Prelude.{IfSome, List, None, Some, false, is_some, length, true, ℕ, ◌&&◌, ◌<◌, ◌==◌, ◌∷◌, ◌≡◌};
+ghost use Rattle.std.specs.Prelude.{Bool, IfSome, List, None, Some, false, is_some, length, true, ℕ, ◌&&◌, ◌<◌, ◌==◌, ◌∷◌, ◌≡◌};
 ghost use Rattle.mu_model.specs.declared.config.Config.{Config};
 ghost use Rattle.mu_model.specs.declared.event.Event.{Event as SomeEvent};
 ghost use Rattle.mu_model.specs.Allowed.{Allowed};
@@ -18,10 +18,11 @@ ghost use Rattle.mu_lead.specs.Notes.{value_committed};
 ghost use Rattle.mu_lead.specs.Standing.{HasHeeded};
 ghost use Rattle.mu_node.specs.Cycle.{IsCycleDue};
 ghost use Rattle.mu_node.specs.Plans.{due_of};
-ghost use Rattle.mu_node.specs.Due.{FitsLead, IsIdle, WritesAhead, write_due, idle_due, lead_due, verb_or_beat, written_row};
+ghost use Rattle.mu_node.specs.Due.{FitsLead, IsIdle, ReadsOn, WritesAhead, held_write_due, idle_due, lead_due, verb_or_beat, written_row};
 ghost use Rattle.mu_node.specs.Journal.{FollowsTurn};
-ghost use Rattle.mu_node.specs.Node.{AwaitsBeside, HasHeard, HasPlanned, HoldsBeside, StandsForNode};
+ghost use Rattle.mu_node.specs.Node.{AwaitsBeside, HasHeard, HasPlanned, HoldsBeside, LivesForNode, StandsAs, StandsForNode};
 ghost use Rattle.mu_node.specs.Notes.{HasTold, SaysTook, TellsTook, heed_note, note_before};
+ghost use Rattle.mu_node.specs.Reads.{IsReadNext};
 
 use crate::ending::as_head;
 use crate::node::Node;
@@ -118,8 +119,10 @@ impl Node {
         requires config { IsConfig self.old.follow.config }
         requires possible { IsPossible self.old.follow.config self.old.id mine }
         requires short { length mine < self.old.follow.config.budget }
-        requires stands { StandsForNode self.old.follow.config self.old.id mine self.old }
-        ensures planned { HasPlanned self.old.follow.config self.old.id mine self.new }
+        requires stands { LivesForNode self.old.follow.config self.old.id mine self.old }
+        ensures planned { (full : Bool)
+            → StandsAs full self.old.follow.config self.old.id mine self.old
+            → HasPlanned full self.old.follow.config self.old.id mine self.new }
         ensures config { self.new.follow.config ≡ self.old.follow.config }
         ensures id { self.new.id ≡ self.old.id }
         ensures zeal { self.new.zeal ≡ self.old.zeal }
@@ -132,11 +135,19 @@ impl Node {
             (due_of result) }
         ensures leads { result.leads ≡ (is_odd (length mine)
             && is_some (lead_due self.old.follow.config self.old.id mine self.old.lead)) }
-        ensures led { is_odd (length mine) ≡ true
+        ensures reads { IsReadNext self.old.follow.config self.old.id mine
+            (verb_or_beat (due_of result)) }
+        ensures idles { StandsForNode self.old.follow.config self.old.id mine self.old
+            → result.leads ≡ false
+            → IsIdle self.old.follow.config self.old.id mine self.new.lead
+            (verb_or_beat (due_of result)) }
+        ensures led { StandsForNode self.old.follow.config self.old.id mine self.old
+            → is_odd (length mine) ≡ true
             → due_of result
             ≡ or_else (lead_due self.old.follow.config self.old.id mine self.old.lead)
             (idle_due self.old.zeal self.old.follow.config self.old.id mine) }
-        ensures cycle { is_odd (length mine) ≡ false
+        ensures cycle { StandsForNode self.old.follow.config self.old.id mine self.old
+            → is_odd (length mine) ≡ false
             → IsCycleDue self.old.zeal self.old.follow.config self.old.id mine
             (leads_at self.old.lead.place) (due_of result) }
         ensures heeded { result.heeded
@@ -159,8 +170,10 @@ impl Node {
         requires config { IsConfig self.old.follow.config }
         requires possible { IsPossible self.old.follow.config self.old.id mine }
         requires short { length mine < self.old.follow.config.budget }
-        requires stands { StandsForNode self.old.follow.config self.old.id mine self.old }
-        ensures stands { HasHeard self.old.follow.config self.old.id mine self.new }
+        requires stands { LivesForNode self.old.follow.config self.old.id mine self.old }
+        ensures stands { (full : Bool)
+            → StandsAs full self.old.follow.config self.old.id mine self.old
+            → HasHeard full self.old.follow.config self.old.id mine self.new }
         ensures config { self.new.follow.config ≡ self.old.follow.config }
         ensures id { self.new.id ≡ self.old.id }
         ensures zeal { self.new.zeal ≡ self.old.zeal }
@@ -175,7 +188,14 @@ impl Node {
             ≡ is_some (lead_due self.old.follow.config self.old.id mine self.old.lead) }
         ensures named { leads_at self.new.lead.place ≡ true
             → is_named self.old.follow.config self.old.id mine ≡ true }
-        ensures led { due_of result
+        ensures reads { IsReadNext self.old.follow.config self.old.id mine
+            (verb_or_beat (due_of result)) }
+        ensures idles { StandsForNode self.old.follow.config self.old.id mine self.old
+            → result.leads ≡ false
+            → IsIdle self.old.follow.config self.old.id mine self.new.lead
+            (verb_or_beat (due_of result)) }
+        ensures led { StandsForNode self.old.follow.config self.old.id mine self.old
+            → due_of result
             ≡ or_else (lead_due self.old.follow.config self.old.id mine self.old.lead)
             (idle_due self.old.zeal self.old.follow.config self.old.id mine) }
         ensures heeded { result.heeded
@@ -203,11 +223,12 @@ impl Node {
         requires config { IsConfig self.now.follow.config }
         requires possible { IsPossible self.now.follow.config self.now.id mine }
         requires short { length mine < self.now.follow.config.budget }
-        requires leading { leading
-            ≡ leads_at (place_after self.now.follow.config self.now.id mine) }
         requires named { self.now.lead.named ≡ is_named self.now.follow.config self.now.id mine }
         requires stands { StandsForFollow self.now.follow.config self.now.id mine self.now.follow }
-        ensures exact { result ≡ idle_due self.now.zeal self.now.follow.config self.now.id mine }
+        ensures exact { leading ≡ leads_at (place_after self.now.follow.config self.now.id mine)
+            → result ≡ idle_due self.now.zeal self.now.follow.config self.now.id mine }
+        ensures reads { IfSome result
+            (λ verb. ReadsOn self.now.follow.config self.now.id mine verb) }
         ensures allowed { IfSome result
             (λ verb. Allowed self.now.follow.config self.now.id mine verb × IsReplay false verb) }
     {
@@ -231,8 +252,10 @@ impl Node {
         requires possible { IsPossible self.old.follow.config self.old.id mine }
         requires short { length mine < self.old.follow.config.budget }
         requires even { is_odd (length mine) ≡ false }
-        requires stands { StandsForNode self.old.follow.config self.old.id mine self.old }
-        ensures planned { HasPlanned self.old.follow.config self.old.id mine self.new }
+        requires stands { LivesForNode self.old.follow.config self.old.id mine self.old }
+        ensures planned { (full : Bool)
+            → StandsAs full self.old.follow.config self.old.id mine self.old
+            → HasPlanned full self.old.follow.config self.old.id mine self.new }
         ensures config { self.new.follow.config ≡ self.old.follow.config }
         ensures id { self.new.id ≡ self.old.id }
         ensures zeal { self.new.zeal ≡ self.old.zeal }
@@ -244,7 +267,10 @@ impl Node {
         ensures fits { FitsLead self.old.follow.config self.old.id mine self.new.lead false
             (due_of result) }
         ensures leads { result.leads ≡ false }
-        ensures cycle { IsCycleDue self.old.zeal self.old.follow.config self.old.id mine
+        ensures reads { IsReadNext self.old.follow.config self.old.id mine
+            (verb_or_beat (due_of result)) }
+        ensures cycle { StandsForNode self.old.follow.config self.old.id mine self.old
+            → IsCycleDue self.old.zeal self.old.follow.config self.old.id mine
             (leads_at self.old.lead.place) (due_of result) }
         ensures heeded { result.heeded ≡ SomeNote.Working }
         ensures lead { self.new.lead ≡ self.old.lead }
@@ -257,8 +283,8 @@ impl Node {
     #[inline(always)]
     fn or_ahead(&self, due: Option<Verb>) -> Option<Verb>
         ensures { (c : Config) → (r : ℕ) → (mine : List SomeEvent) → IsConfig c
-            → IsPossible c r mine → HasPlanned c r mine self.now → is_odd (length mine) ≡ false
-            → result ≡ or_else due (write_due self.now.zeal c r mine) }
+            → IsPossible c r mine → HasPlanned false c r mine self.now
+            → result ≡ or_else due (held_write_due self.now.zeal c r mine self.now.lead) }
     {
         match due {
             Some(verb) => Some(verb),
@@ -272,8 +298,11 @@ impl Node {
     /// Tells the leader which leader the scores name, before a step of its own.
     pub(crate) fn heed(&mut self) -> Note
         ghost mine: { List SomeEvent }
-        requires stands { StandsForNode self.old.follow.config self.old.id mine self.old }
-        ensures stands { HasHeard self.old.follow.config self.old.id mine self.new }
+        requires stands { LivesForNode self.old.follow.config self.old.id mine self.old }
+        ensures heard { HasHeard false self.old.follow.config self.old.id mine self.new }
+        ensures stands { (full : Bool)
+            → StandsAs full self.old.follow.config self.old.id mine self.old
+            → HasHeard full self.old.follow.config self.old.id mine self.new }
         ensures follow { self.new.follow ≡ self.old.follow }
         ensures id { self.new.id ≡ self.old.id }
         ensures zeal { self.new.zeal ≡ self.old.zeal }
@@ -401,14 +430,19 @@ impl Node {
         requires fits { FitsLead self.old.follow.config self.old.id mine self.old.lead plan.leads
             (due_of plan) }
         requires turn { plan.leads ≡ true → is_odd (length mine) ≡ true }
-        requires planned { HasPlanned self.old.follow.config self.old.id mine self.old }
+        requires planned { HasPlanned false self.old.follow.config self.old.id mine self.old }
         requires made { plan.verb ≡ verb_or_beat (due_of plan) }
         requires some { plan.leads ≡ true → is_some (due_of plan) ≡ true }
-        ensures stands { FollowsTurn self.old.zeal self.old.follow.config id mine
-            (record { by = id; verb = verb_or_beat (due_of plan); answer = answer })
+        ensures stands { (full : Bool)
+            → HasPlanned full self.old.follow.config self.old.id mine self.old
+            → (full ≡ true → plan.leads ≡ false
+            → IsIdle self.old.follow.config id mine self.old.lead (verb_or_beat (due_of plan)))
+            → (full ≡ true → FollowsTurn self.old.zeal self.old.follow.config id mine
+            (record { by = id; verb = verb_or_beat (due_of plan); answer = answer }))
+            → IsReadNext self.old.follow.config id mine (verb_or_beat (due_of plan))
             → IsPossible self.old.follow.config id
             (record { by = id; verb = verb_or_beat (due_of plan); answer = answer } ∷ mine)
-            → StandsForNode self.old.follow.config id
+            → StandsAs full self.old.follow.config id
             (record { by = id; verb = verb_or_beat (due_of plan); answer = answer } ∷ mine)
             self.new }
         ensures zeal { self.new.zeal ≡ self.old.zeal }
@@ -430,16 +464,17 @@ impl Node {
     #[inline(always)]
     fn note_other(&mut self, by: u8, verb: Verb, answer: Answer)
         requires config { IsConfig self.old.follow.config }
-        ensures stands { (mine : List SomeEvent)
+        ensures stands { (full : Bool) → (mine : List SomeEvent)
             → is_beside (leads_at self.old.lead.place) verb ≡ true
             → WritesAhead self.old.lead verb
-            → IsIdle self.old.follow.config by mine self.old.lead verb
-            → FollowsTurn self.old.zeal self.old.follow.config by mine
-            (record { by = by; verb = verb; answer = answer })
+            → (full ≡ true → IsIdle self.old.follow.config by mine self.old.lead verb)
+            → (full ≡ true → FollowsTurn self.old.zeal self.old.follow.config by mine
+            (record { by = by; verb = verb; answer = answer }))
+            → IsReadNext self.old.follow.config by mine verb
             → IsPossible self.old.follow.config by
             (record { by = by; verb = verb; answer = answer } ∷ mine)
-            → HasPlanned self.old.follow.config by mine self.old
-            → StandsForNode self.old.follow.config by
+            → HasPlanned full self.old.follow.config by mine self.old
+            → StandsAs full self.old.follow.config by
             (record { by = by; verb = verb; answer = answer } ∷ mine) self.new }
         ensures zeal { self.new.zeal ≡ self.old.zeal }
         ensures stops { self.new.stops ≡ self.old.stops }
@@ -460,12 +495,14 @@ impl Node {
         requires heeded { HasHeeded mine self.old.lead }
         requires due { lead_due self.old.follow.config by mine self.old.lead ≡ Some verb }
         requires turn { is_odd (length mine) ≡ true }
-        requires planned { HasPlanned self.old.follow.config by mine self.old }
-        ensures stands { FollowsTurn self.old.zeal self.old.follow.config by mine
-            (record { by = by; verb = verb; answer = answer })
+        requires planned { HasPlanned false self.old.follow.config by mine self.old }
+        ensures stands { (full : Bool) → HasPlanned full self.old.follow.config by mine self.old
+            → (full ≡ true → FollowsTurn self.old.zeal self.old.follow.config by mine
+            (record { by = by; verb = verb; answer = answer }))
+            → IsReadNext self.old.follow.config by mine verb
             → IsPossible self.old.follow.config by
             (record { by = by; verb = verb; answer = answer } ∷ mine)
-            → StandsForNode self.old.follow.config by
+            → StandsAs full self.old.follow.config by
             (record { by = by; verb = verb; answer = answer } ∷ mine) self.new }
         ensures zeal { self.new.zeal ≡ self.old.zeal }
         ensures stops { self.new.stops ≡ self.old.stops }

@@ -1,4 +1,4 @@
-use Rattle.std.proofs.Common.{◌≡◌, ◌∙◌, ◌==◌, ◌&&◌, ap, refl, sym}
+use Rattle.std.proofs.Common.{◌≡◌, ◌∙◌, ◌==◌, ◌&&◌, ap, false, refl, sym}
 use Rattle.std.specs.Prelude.{if◌then◌else◌, nat_lt, not}
 use Rattle.std.proofs.lemmas.Bool.{and_parts}
 use Rattle.mu_model.specs.Scores.{leader}
@@ -13,22 +13,25 @@ use Rattle.mu_node.proofs.Pacing.{paces_told}
 use Rattle.mu_node.proofs.node.Node.heed.Goals as goal
 
 pub returns-clause-stands : goal.returns-clause-stands
-returns-clause-stands g c =
+returns-clause-stands g c full held =
     let node = c.args.self.now in
-    let held = c.requires in
     let named = c.leader-leader.ensures node.follow.config node.id g.mine held.beside.watch in
     record {
       beside = beside_lead (StandsForFollow node.follow.config node.id g.mine) node.follow.config node.id g.mine node c.heed.new.self held.beside;
       lead = record { config = c.heed.ensures.config ∙ held.lead.config; id = c.heed.ensures.id ∙ held.lead.id; stands = c.heed.ensures.stands };
       handed = held.handed;
       answers = held.answers;
+      reads = held.reads;
       cycle = held.cycle;
       made = held.made;
       listed = held.listed;
-      leads = λ leads. held.leads (and_parts (leads_at node.lead.place) (not (nat_lt c.leader-leader.result node.lead.id)) (sym c.heed.ensures.rests ∙ leads)).0;
-      paces = paces_told node.follow.config node.id g.mine node.lead c.heed.new.self c.leader-leader.result held.beside.follow.inside named held.lead.id c.heed.ensures.told c.heed.ensures.going held.paces;
+      leads = λ on leads. held.leads on (and_parts (leads_at node.lead.place) (not (nat_lt c.leader-leader.result node.lead.id)) (sym c.heed.ensures.rests ∙ leads)).0;
+      paces = λ on. paces_told node.follow.config node.id g.mine node.lead c.heed.new.self c.leader-leader.result held.beside.follow.inside named held.lead.id c.heed.ensures.told c.heed.ensures.going (held.paces on);
       led = held.led;
     }
+
+pub returns-clause-heard : goal.returns-clause-heard
+returns-clause-heard g c = returns-clause-stands g c false c.requires
 
 pub returns-clause-named : goal.returns-clause-named
 returns-clause-named g c =

@@ -6,7 +6,7 @@ use Rattle.mu_knowledge.proofs.Fetched.{front_fits}
 use Rattle.mu_knowledge.specs.Commits.{pair_of}
 use Rattle.mu_follow.proofs.Kept.{applied_is, few_commits}
 use Rattle.mu_node.specs.Answers.{HoldsAnswers}
-use Rattle.mu_node.proofs.Reading.{reads_known}
+use Rattle.mu_node.proofs.Reading.{all_known}
 use Rattle.mu_node.proofs.Diligent.{journal_is_diligent}
 use Rattle.mu_node.proofs.node.Node.into_result.Goals as goal
 
@@ -63,6 +63,6 @@ returns-clause-is c k r mine good possible held =
       commits = ap (map pair_of) (c.from_vec-2.ensures ∙ list) ∙ listed;
       replies = λ commands are.
           let before = subst (λ n. HoldsAnswers k commands (take n (applied k r mine)) c.args.self.answers) (sym held.handed) (held.answers commands are) in
-          c.into_replies.ensures ∙ (c.apply_ready.ensures.answers k r mine commands good possible (reads_known k r mine held.made) are held.beside.follow before).replies;
+          c.into_replies.ensures ∙ (c.apply_ready.ensures.answers k r mine commands good possible (all_known k r mine held.reads) are held.beside.follow before).replies;
       diligent = journal_is_diligent k r mine c.args.self possible held;
     }

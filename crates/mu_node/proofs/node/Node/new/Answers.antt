@@ -21,11 +21,12 @@ returns-clause-stands c = record {
   lead = record { config = c.in_ok-new.ensures.config; id = c.in_ok-new.ensures.id; stands = c.in_ok-new.ensures.stands };
   handed = c.in_ok-new-2.ensures.handed;
   answers = λ commands are. first_answers c.args.job.now.config commands c.in_ok-with_room.field-0 c.in_ok-with_room.ensures.table c.in_ok-with_room.ensures.replies (c.in_ok-with_room.ensures.left ∙ c.len.ensures);
-  cycle = tt;
-  made = tt;
-  listed = tt;
-  leads = λ leads. absurd (true≢false (sym leads ∙ c.in_ok-new.ensures.rests));
-  paces = paces_first c.args.job.now.config c.args.id c.in_ok-new.field-0 c.in_ok-new.ensures.config c.in_ok-new.ensures.id (record {
+  reads = tt;
+  cycle = λ on. tt;
+  made = λ on. tt;
+  listed = λ on. tt;
+  leads = λ on leads. absurd (true≢false (sym leads ∙ c.in_ok-new.ensures.rests));
+  paces = λ on. paces_first c.args.job.now.config c.args.id c.in_ok-new.field-0 c.in_ok-new.ensures.config c.in_ok-new.ensures.id (record {
     paces = record {
       counts = record {
         rooms = c.in_ok-new.ensures.rooms;
@@ -39,5 +40,5 @@ returns-clause-stands c = record {
     };
     listed = c.in_ok-new.ensures.placed;
   });
-  led = tt;
+  led = λ on. tt;
 }

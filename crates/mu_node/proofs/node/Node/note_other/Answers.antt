@@ -26,28 +26,29 @@ use Rattle.mu_node.proofs.Pacing.{even_paces, kept_other, paces_ahead, paces_oth
 use Rattle.mu_node.proofs.node.Node.note_other.Goals as goal
 
 pub returns-in-None-clause-stands : goal.returns-in-None-clause-stands
-returns-in-None-clause-stands c mine beside ahead idle follows possible held =
+returns-in-None-clause-stands c full mine beside ahead idle follows reads possible held =
     let k = c.args.self.now.follow.config in
     let r = c.args.by in
     let lead = c.args.self.now.lead in
     let none = unwritten c.args.verb (sym c.row_written.ensures ∙ c.in-None.is) in
     let stays = lead_stays k r mine lead c.args.verb c.args.answer none beside possible held.lead in
-    let paces = paces_other k r mine lead c.args.verb c.args.answer c.requires.config follows.made.going none beside idle held.lead held.paces in
+    let paces : full ≡ true → HasPaces k r (event_by r c.args.verb c.args.answer ∷ mine) lead = λ on. paces_other k r mine lead c.args.verb c.args.answer c.requires.config (follows on).made.going none beside (idle on) held.lead (held.paces on) in
     record {
       beside = c.note.ensures.stands mine possible held.beside (beside_commits_none k r mine (leads_at lead.place) c.args.verb c.args.answer beside);
       lead = subst (λ l. StandsForLead k r (event_by r c.args.verb c.args.answer ∷ mine) l) (sym c.note.ensures.lead) stays;
       handed = c.note.ensures.handed ∙ held.handed;
       answers = answers_stay k r (handed k r mine) (event_by r c.args.verb c.args.answer) mine c.args.self.now.answers c.note.new.self.answers c.note.ensures.answers c.args.self.now.follow.progress.handed held.beside.follow.progress.handed held.handed held.answers;
-      cycle = (held.cycle, follows.cycle);
-      made = (held.made, follows.made);
-      listed = subst (λ z. AtEachStep (IsListed z k r) (event_by r c.args.verb c.args.answer ∷ mine)) (sym c.note.ensures.zeal) (held.listed, follows.listed);
-      leads = λ leads. leads_on k r mine (event_by r c.args.verb c.args.answer) (held.leads (subst (λ l. leads_at l.place ≡ true) c.note.ensures.lead leads));
-      paces = subst (λ l. HasPaces k r (event_by r c.args.verb c.args.answer ∷ mine) l) (sym c.note.ensures.lead) paces;
-      led = subst (λ z. AtEachStep (LeaderKeepsBy (is_eager z) k r) (event_by r c.args.verb c.args.answer ∷ mine)) (sym c.note.ensures.zeal) (held.led, kept_other (is_eager c.args.self.now.zeal) k r mine lead c.args.verb c.args.answer beside stays paces);
+      reads = (held.reads, reads);
+      cycle = λ on. (held.cycle on, (follows on).cycle);
+      made = λ on. (held.made on, (follows on).made);
+      listed = λ on. subst (λ z. AtEachStep (IsListed z k r) (event_by r c.args.verb c.args.answer ∷ mine)) (sym c.note.ensures.zeal) (held.listed on, (follows on).listed);
+      leads = λ on leads. leads_on k r mine (event_by r c.args.verb c.args.answer) (held.leads on (subst (λ l. leads_at l.place ≡ true) c.note.ensures.lead leads));
+      paces = λ on. subst (λ l. HasPaces k r (event_by r c.args.verb c.args.answer ∷ mine) l) (sym c.note.ensures.lead) (paces on);
+      led = λ on. subst (λ z. AtEachStep (LeaderKeepsBy (is_eager z) k r) (event_by r c.args.verb c.args.answer ∷ mine)) (sym c.note.ensures.zeal) (held.led on, kept_other (is_eager c.args.self.now.zeal) k r mine lead c.args.verb c.args.answer beside stays (paces on));
     }
 
 pub returns-in-Some-clause-stands : goal.returns-in-Some-clause-stands
-returns-in-Some-clause-stands c mine beside ahead idle follows possible held =
+returns-in-Some-clause-stands c full mine beside ahead idle follows reads possible held =
     let k = c.args.self.now.follow.config in
     let r = c.args.by in
     let lead = c.args.self.now.lead in
@@ -58,7 +59,6 @@ returns-in-Some-clause-stands c mine beside ahead idle follows possible held =
     let same : x.0 ≡ c.in-Some.row = same_some x.0 c.in-Some.row (sym (ap written_row x.1.0) ∙ (sym c.row_written.ensures ∙ c.in-Some.is)) in
     let made : verb ≡ ahead_verb lead c.in-Some.row = x.1.0 ∙ ap (ahead_verb lead) same in
     let may = subst (IsAhead lead) same x.1.1 in
-    let even = writes_even k r mine lead verb idle writes in
     let happens = subst (λ v. IsPossible k r (event_by r v c.args.answer ∷ mine)) made possible in
     let took : StandsForLead k r (event_by r (ahead_verb lead c.in-Some.row) c.args.answer ∷ mine) next =
     lead_ahead k r c.in-Some.row mine lead next c.args.answer (c.wrote_ahead.ensures.config ∙ ap (λ (l : Lead). l.config) c.note.ensures.lead) (c.wrote_ahead.ensures.id ∙ ap (λ (l : Lead). l.id) c.note.ensures.lead) happens held.lead
@@ -71,17 +71,20 @@ returns-in-Some-clause-stands c mine beside ahead idle follows possible held =
     let going = c.wrote_ahead.ensures.going ∙ ap (λ (l : Lead). l.under_way) c.note.ensures.lead in
     let counts = subst (λ (l : Lead). CountsAt k r (event_by r verb c.args.answer ∷ mine) l.written.items l.place → CountsAt k r (event_by r verb c.args.answer ∷ mine) next.written.items next.place) c.note.ensures.lead
     (c.wrote_ahead.ensures.counts k r (event_by r verb c.args.answer ∷ mine) (subst (λ l. IsAhead l c.in-Some.row) (sym c.note.ensures.lead) may)) in
-    let paces = paces_ahead k r mine lead next verb c.args.answer even beside place going tables counts held.lead (even_paces k r mine lead even held.paces) in
+    let paces : full ≡ true → HasPaces k r (event_by r verb c.args.answer ∷ mine) next = λ on.
+    let even = writes_even k r mine lead verb (idle on) writes in
+    paces_ahead k r mine lead next verb c.args.answer even beside place going tables counts held.lead (even_paces k r mine lead even (held.paces on)) in
     let other = c.note.ensures.stands mine possible held.beside (beside_commits_none k r mine (leads_at lead.place) verb c.args.answer beside) in
     record {
       beside = beside_lead (StandsForFollow k r (event_by r verb c.args.answer ∷ mine)) k r (event_by r verb c.args.answer ∷ mine) c.note.new.self next other;
       lead = stays;
       handed = c.note.ensures.handed ∙ held.handed;
       answers = answers_stay k r (handed k r mine) (event_by r verb c.args.answer) mine c.args.self.now.answers c.note.new.self.answers c.note.ensures.answers c.args.self.now.follow.progress.handed held.beside.follow.progress.handed held.handed held.answers;
-      cycle = (held.cycle, follows.cycle);
-      made = (held.made, follows.made);
-      listed = subst (λ z. AtEachStep (IsListed z k r) (event_by r verb c.args.answer ∷ mine)) (sym c.note.ensures.zeal) (held.listed, follows.listed);
-      leads = λ leads. leads_on k r mine (event_by r verb c.args.answer) (held.leads (sym (ap leads_at place) ∙ leads));
+      reads = (held.reads, reads);
+      cycle = λ on. (held.cycle on, (follows on).cycle);
+      made = λ on. (held.made on, (follows on).made);
+      listed = λ on. subst (λ z. AtEachStep (IsListed z k r) (event_by r verb c.args.answer ∷ mine)) (sym c.note.ensures.zeal) (held.listed on, (follows on).listed);
+      leads = λ on leads. leads_on k r mine (event_by r verb c.args.answer) (held.leads on (sym (ap leads_at place) ∙ leads));
       paces = paces;
-      led = subst (λ z. AtEachStep (LeaderKeepsBy (is_eager z) k r) (event_by r verb c.args.answer ∷ mine)) (sym c.note.ensures.zeal) (held.led, kept_other (is_eager c.args.self.now.zeal) k r mine next verb c.args.answer (subst (λ p. is_beside (leads_at p) verb ≡ true) (sym place) beside) stays paces);
+      led = λ on. subst (λ z. AtEachStep (LeaderKeepsBy (is_eager z) k r) (event_by r verb c.args.answer ∷ mine)) (sym c.note.ensures.zeal) (held.led on, kept_other (is_eager c.args.self.now.zeal) k r mine next verb c.args.answer (subst (λ p. is_beside (leads_at p) verb ≡ true) (sym place) beside) stays (paces on));
     }

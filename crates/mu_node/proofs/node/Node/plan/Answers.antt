@@ -18,12 +18,12 @@ plan_cycle-requires g c =
     (c.requires.0, (c.requires.1.0, (c.requires.1.1.0, (even, held))))
 
 pub returns-then-is_turn_of_leader-clause-planned : goal.returns-then-is_turn_of_leader-clause-planned
-returns-then-is_turn_of_leader-clause-planned g c =
+returns-then-is_turn_of_leader-clause-planned g c full stands =
     let node = c.args.self.now in
     let held = c.requires.1.1.1 in
     let steps = c.steps.ensures node.follow.config node.id g.mine held.beside.follow in
     let odd : is_odd (length g.mine) ≡ true = sym (ap is_odd steps) ∙ (sym c.is_turn_of_leader.ensures ∙ c.if-is_turn_of_leader.true) in
-    odd_planned node.follow.config node.id g.mine c.plan_led.new.self odd c.plan_led.ensures.named c.plan_led.ensures.stands
+    odd_planned full node.follow.config node.id g.mine c.plan_led.new.self odd c.plan_led.ensures.named (c.plan_led.ensures.stands full stands)
 
 pub returns-then-is_turn_of_leader-clause-fits : goal.returns-then-is_turn_of_leader-clause-fits
 returns-then-is_turn_of_leader-clause-fits g c = c.plan_led.ensures.fits
@@ -37,10 +37,10 @@ returns-then-is_turn_of_leader-clause-leads g c =
     c.plan_led.ensures.leads ∙ sym (ap (λ t. t && is_some (lead_due node.follow.config node.id g.mine node.lead)) odd)
 
 pub returns-then-is_turn_of_leader-clause-led : goal.returns-then-is_turn_of_leader-clause-led
-returns-then-is_turn_of_leader-clause-led g c odd = c.plan_led.ensures.led
+returns-then-is_turn_of_leader-clause-led g c stands odd = c.plan_led.ensures.led stands
 
 pub returns-then-is_turn_of_leader-clause-cycle : goal.returns-then-is_turn_of_leader-clause-cycle
-returns-then-is_turn_of_leader-clause-cycle g c even =
+returns-then-is_turn_of_leader-clause-cycle g c stands even =
     let node = c.args.self.now in
     let held = c.requires.1.1.1 in
     let steps = c.steps.ensures node.follow.config node.id g.mine held.beside.follow in
@@ -69,7 +69,7 @@ returns-else-is_turn_of_leader-clause-leads g c =
     c.plan_cycle.ensures.leads ∙ sym (ap (λ t. t && is_some (lead_due node.follow.config node.id g.mine node.lead)) even)
 
 pub returns-else-is_turn_of_leader-clause-led : goal.returns-else-is_turn_of_leader-clause-led
-returns-else-is_turn_of_leader-clause-led g c odd =
+returns-else-is_turn_of_leader-clause-led g c stands odd =
     let node = c.args.self.now in
     let held = c.requires.1.1.1 in
     let steps = c.steps.ensures node.follow.config node.id g.mine held.beside.follow in
@@ -77,7 +77,7 @@ returns-else-is_turn_of_leader-clause-led g c odd =
     absurd (true≢false (sym odd ∙ even))
 
 pub returns-else-is_turn_of_leader-clause-cycle : goal.returns-else-is_turn_of_leader-clause-cycle
-returns-else-is_turn_of_leader-clause-cycle g c even = c.plan_cycle.ensures.cycle
+returns-else-is_turn_of_leader-clause-cycle g c stands even = c.plan_cycle.ensures.cycle stands
 
 pub returns-else-is_turn_of_leader-clause-heeded : goal.returns-else-is_turn_of_leader-clause-heeded
 returns-else-is_turn_of_leader-clause-heeded g c =
@@ -108,3 +108,23 @@ returns-else-is_turn_of_leader-clause-told g c odd =
 
 pub returns-else-is_turn_of_leader-clause-lead : goal.returns-else-is_turn_of_leader-clause-lead
 returns-else-is_turn_of_leader-clause-lead g c even = c.plan_cycle.ensures.lead
+
+pub returns-else-is_turn_of_leader-clause-planned : goal.returns-else-is_turn_of_leader-clause-planned
+returns-else-is_turn_of_leader-clause-planned g c = c.plan_cycle.ensures.planned
+
+pub returns-then-is_turn_of_leader-clause-reads : goal.returns-then-is_turn_of_leader-clause-reads
+returns-then-is_turn_of_leader-clause-reads g c = c.plan_led.ensures.reads
+
+pub returns-else-is_turn_of_leader-clause-reads : goal.returns-else-is_turn_of_leader-clause-reads
+returns-else-is_turn_of_leader-clause-reads g c = c.plan_cycle.ensures.reads
+
+pub returns-then-is_turn_of_leader-clause-idles : goal.returns-then-is_turn_of_leader-clause-idles
+returns-then-is_turn_of_leader-clause-idles g c = c.plan_led.ensures.idles
+
+pub returns-else-is_turn_of_leader-clause-idles : goal.returns-else-is_turn_of_leader-clause-idles
+returns-else-is_turn_of_leader-clause-idles g c stands off odd =
+    let node = c.args.self.now in
+    let held = c.requires.1.1.1 in
+    let steps = c.steps.ensures node.follow.config node.id g.mine held.beside.follow in
+    let even : is_odd (length g.mine) ≡ false = sym (ap is_odd steps) ∙ (sym c.is_turn_of_leader.ensures ∙ c.if-is_turn_of_leader.false) in
+    absurd (true≢false (sym odd ∙ even))

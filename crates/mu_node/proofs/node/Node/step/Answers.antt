@@ -6,13 +6,14 @@ use Rattle.mu_model.specs.Ends.{outrun}
 use Rattle.mu_model.specs.Parts.{IsPossible}
 use Rattle.mu_model.specs.Steps.{is_named}
 use Rattle.mu_follow.specs.declared.follow.Follow.{Follow}
-use Rattle.mu_node.specs.Due.{FitsLead, asks_out_of_turn, idle_due, is_eager, lead_due, turn_due, verb_or_beat}
+use Rattle.mu_node.specs.Due.{FitsLead, IsIdle, asks_out_of_turn, idle_due, is_eager, lead_due, turn_due, verb_or_beat}
 use Rattle.mu_node.specs.Journal.{FollowsTurn}
-use Rattle.mu_node.specs.Node.{HasPlanned, IsGone, StandsForNode}
+use Rattle.mu_node.specs.Node.{HasPlanned, IsGone, LivesForNode, StandsAs, StandsForNode}
+use Rattle.mu_node.specs.Reads.{IsReadNext}
 use Rattle.mu_node.specs.Cycle.{IsBackgroundDue, IsCycleDue, IsMade}
 use Rattle.mu_node.specs.Notes.{MovesGoing, SaysTook, TellsNote, TellsTook}
 use Rattle.mu_node.proofs.AskedAgain.{asks_parts, follows_asked, made_asked, moves_asked, tells_asked}
-use Rattle.mu_node.proofs.Moving.{event_by, moved, possible_own, to_own, to_port}
+use Rattle.mu_node.proofs.Moving.{as_far, event_by, in_full, moved, possible_own, to_own, to_port}
 use Rattle.std.specs.Prelude.{if◌then◌else◌, is_some}
 use Rattle.std.specs.declared.option.Option.{Option}
 use Rattle.std.proofs.lemmas.Bool.{and_parts}
@@ -37,7 +38,7 @@ pub asks_out_of_turn-requires : goal.asks_out_of_turn-requires
 asks_out_of_turn-requires g c =
     let node = c.args.self.now in
     let held = c.requires.1.1.1.1.1.1.0 in
-    to_own (λ x i l. StandsForNode x i l node) (g.P.Port.config c.args.port.now) node.follow.config (g.P.Port.number c.args.port.now) node.id (g.P.Port.part c.args.port.now) g.mine held.beside.follow.config held.beside.id c.requires.1.0 held
+    to_own (λ x i l. LivesForNode x i l node) (g.P.Port.config c.args.port.now) node.follow.config (g.P.Port.number c.args.port.now) node.id (g.P.Port.part c.args.port.now) g.mine held.beside.follow.config held.beside.id c.requires.1.0 held
 
 left_false : (x y : Bool) → (x && y) ≡ false → y ≡ true → x ≡ false
 left_false true y none on = absurd (true≢false (sym on ∙ none))
@@ -53,7 +54,7 @@ leave_leadership-note-requires g c =
     let id = held.beside.id in
     let asks = (and_parts (asks_out_of_turn node.zeal node.follow.config node.id g.mine) (is_odd (length g.mine)) (sym c.asks_out_of_turn.ensures ∙ c.if-asks_out_of_turn.true)).0 in
     let parts = asks_parts node.zeal node.follow.config node.id g.mine asks in
-    (to_own (λ x i l. StandsForNode x i l node) k node.follow.config r node.id (g.P.Port.part c.args.port.now) g.mine own id c.requires.1.0 held, (parts.1.0, parts.1.1))
+    (to_own (λ x i l. LivesForNode x i l node) k node.follow.config r node.id (g.P.Port.part c.args.port.now) g.mine own id c.requires.1.0 held, (parts.1.0, parts.1.1))
 
 pub step-answer-requires : goal.step-answer-requires
 step-answer-requires g c =
@@ -77,14 +78,17 @@ took_again-requires g c =
       (
         subst (λ x. IsConfig x) (sym (config ∙ own)) c.requires.1.1.1.0,
         (
-          to_own (λ x i l. IsGone x i l new) node.follow.config new.follow.config node.id new.id g.mine g.mine config same refl c.leave_leadership-note.ensures.gone,
+          to_own (λ x i l. IsGone false x i l new) node.follow.config new.follow.config node.id new.id g.mine g.mine config same refl (c.leave_leadership-note.ensures.gone false (to_own (λ x i l. LivesForNode x i l node) (g.P.Port.config c.args.port.now) node.follow.config (g.P.Port.number c.args.port.now) node.id (g.P.Port.part c.args.port.now) g.mine own id c.requires.1.0 held)),
           (
-            c.leave_leadership-note.ensures.heeded,
+            c.leave_leadership-note.ensures.begins,
             (
-              (and_parts (asks_out_of_turn node.zeal node.follow.config node.id g.mine) (is_odd (length g.mine)) (sym c.asks_out_of_turn.ensures ∙ c.if-asks_out_of_turn.true)).1,
+              c.leave_leadership-note.ensures.heeded,
               (
-                to_own (λ x i l. is_named x i l ≡ true) node.follow.config new.follow.config node.id new.id g.mine g.mine config same refl asks.1.0,
-                (to_own (λ x i l. asks_again x i l ≡ true) node.follow.config new.follow.config node.id new.id g.mine g.mine config same refl asks.1.1, ap is_eager c.leave_leadership-note.ensures.zeal ∙ asks.0),
+                (and_parts (asks_out_of_turn node.zeal node.follow.config node.id g.mine) (is_odd (length g.mine)) (sym c.asks_out_of_turn.ensures ∙ c.if-asks_out_of_turn.true)).1,
+                (
+                  to_own (λ x i l. is_named x i l ≡ true) node.follow.config new.follow.config node.id new.id g.mine g.mine config same refl asks.1.0,
+                  (to_own (λ x i l. asks_again x i l ≡ true) node.follow.config new.follow.config node.id new.id g.mine g.mine config same refl asks.1.1, ap is_eager c.leave_leadership-note.ensures.zeal ∙ asks.0),
+                ),
               ),
             ),
           ),
@@ -93,7 +97,7 @@ took_again-requires g c =
     )
 
 pub returns-then-asks_out_of_turn-clause-stands : goal.returns-then-asks_out_of_turn-clause-stands
-returns-then-asks_out_of_turn-clause-stands g c =
+returns-then-asks_out_of_turn-clause-stands g c full was =
     let old = c.args.port.now in
     let now = c.step-answer.new.self in
     let k = g.P.Port.config old in
@@ -106,16 +110,18 @@ returns-then-asks_out_of_turn-clause-stands g c =
     let config = ap (λ (f : Follow). f.config) c.leave_leadership-note.ensures.follow in
     let answer = c.step-answer.result in
     let going = to_own (λ x i l. outrun x i l ≡ None) k node.follow.config r node.id (g.P.Port.part old) g.mine own id c.requires.1.0 c.requires.1.1.1.1.1.1.1 in
-    let stands = to_own (λ x i l. StandsForNode x i l node) k node.follow.config r node.id (g.P.Port.part old) g.mine own id c.requires.1.0 held in
+    let stands = to_own (λ x i l. StandsAs full x i l node) k node.follow.config r node.id (g.P.Port.part old) g.mine own id c.requires.1.0 was in
     let asks = (and_parts (asks_out_of_turn node.zeal node.follow.config node.id g.mine) (is_odd (length g.mine)) (sym c.asks_out_of_turn.ensures ∙ c.if-asks_out_of_turn.true)).0 in
-    let follows = to_own (λ x i l. FollowsTurn new.zeal x i l (event_by i (Verb.Ask 0) answer)) node.follow.config new.follow.config node.id c.args.id g.mine g.mine config (c.requires.1.1.0 ∙ sym id) refl
-    (subst (λ z. FollowsTurn z node.follow.config node.id g.mine (event_by node.id (Verb.Ask 0) answer)) (sym c.leave_leadership-note.ensures.zeal) (follows_asked node.follow.config node.id g.mine node answer (and_parts (asks_out_of_turn node.zeal node.follow.config node.id g.mine) (is_odd (length g.mine)) (sym c.asks_out_of_turn.ensures ∙ c.if-asks_out_of_turn.true)).1 going stands asks)) in
-    moved k (g.P.Port.config now) new.follow.config r (g.P.Port.number now) c.args.id (g.P.Port.part old) g.mine (g.P.Port.part now) (Verb.Ask 0) (Verb.Ask 0) answer c.took_again.new.self
+    let same = c.leave_leadership-note.ensures.id in
+    let gone = to_own (λ x i l. IsGone full x i l new) node.follow.config new.follow.config node.id new.id g.mine g.mine config same refl (c.leave_leadership-note.ensures.gone full stands) in
+    let follows : full ≡ true → FollowsTurn new.zeal new.follow.config c.args.id g.mine (event_by c.args.id (Verb.Ask 0) answer) = λ on. to_own (λ x i l. FollowsTurn new.zeal x i l (event_by i (Verb.Ask 0) answer)) node.follow.config new.follow.config node.id c.args.id g.mine g.mine config (c.requires.1.1.0 ∙ sym id) refl
+    (subst (λ z. FollowsTurn z node.follow.config node.id g.mine (event_by node.id (Verb.Ask 0) answer)) (sym c.leave_leadership-note.ensures.zeal) (follows_asked node.follow.config node.id g.mine node answer (and_parts (asks_out_of_turn node.zeal node.follow.config node.id g.mine) (is_odd (length g.mine)) (sym c.asks_out_of_turn.ensures ∙ c.if-asks_out_of_turn.true)).1 going (in_full full node.follow.config node.id g.mine node on stands) asks)) in
+    moved k (g.P.Port.config now) new.follow.config r (g.P.Port.number now) c.args.id (g.P.Port.part old) g.mine (g.P.Port.part now) (Verb.Ask 0) (Verb.Ask 0) answer c.took_again.new.self full
     (g.met.P.Port.same_config old now c.step-answer.ensures.same) (g.met.P.Port.same_number old now c.step-answer.ensures.same)
-    (config ∙ own) c.requires.1.1.0 c.requires.1.0 refl c.step-answer.ensures.part c.step-answer.ensures.possible (c.took_again.ensures.stands follows)
+    (config ∙ own) c.requires.1.1.0 c.requires.1.0 refl c.step-answer.ensures.part c.step-answer.ensures.possible (c.took_again.ensures.stands full gone follows)
 
 pub returns-then-asks_out_of_turn-clause-made : goal.returns-then-asks_out_of_turn-clause-made
-returns-then-asks_out_of_turn-clause-made g c =
+returns-then-asks_out_of_turn-clause-made g c was =
     let old = c.args.port.now in
     let now = c.step-answer.new.self in
     let k = g.P.Port.config old in
@@ -137,7 +143,7 @@ returns-then-asks_out_of_turn-clause-made g c =
     }
 
 pub returns-then-asks_out_of_turn-clause-going : goal.returns-then-asks_out_of_turn-clause-going
-returns-then-asks_out_of_turn-clause-going g c =
+returns-then-asks_out_of_turn-clause-going g c was =
     let old = c.args.port.now in
     let now = c.step-answer.new.self in
     let k = g.P.Port.config old in
@@ -154,13 +160,13 @@ returns-then-asks_out_of_turn-clause-going g c =
     let answer = c.step-answer.result in
     let odd = (and_parts (asks_out_of_turn node.zeal node.follow.config node.id g.mine) (is_odd (length g.mine)) (sym c.asks_out_of_turn.ensures ∙ c.if-asks_out_of_turn.true)).1 in
     let asks = asks_parts node.zeal node.follow.config node.id g.mine (and_parts (asks_out_of_turn node.zeal node.follow.config node.id g.mine) (is_odd (length g.mine)) (sym c.asks_out_of_turn.ensures ∙ c.if-asks_out_of_turn.true)).0 in
-    let stands = to_own (λ x i l. StandsForNode x i l node) k node.follow.config r node.id mine g.mine own id c.requires.1.0 held in
+    let stands = to_own (λ x i l. StandsForNode x i l node) k node.follow.config r node.id mine g.mine own id c.requires.1.0 was in
     let possible = possible_own k (g.P.Port.config now) node.follow.config r (g.P.Port.number now) node.id mine g.mine (g.P.Port.part now) (Verb.Ask 0) (Verb.Ask 0) answer
     (g.met.P.Port.same_config old now c.step-answer.ensures.same) (g.met.P.Port.same_number old now c.step-answer.ensures.same)
     own id c.requires.1.0 refl c.step-answer.ensures.part c.step-answer.ensures.possible in
     let goes = to_own (λ x i l. IsPossible x i (event_by i (Verb.Ask 0) answer ∷ l) → next.under_way ≡ true) new.follow.config node.follow.config c.args.id node.id g.mine g.mine (sym config) (sym same) refl c.took_again.ensures.going in
     to_port (λ x i l. MovesGoing x i l node.lead next c.leave_leadership-note.result) k node.follow.config r node.id mine g.mine own id c.requires.1.0
-    (moves_asked node.follow.config node.id g.mine node.lead next c.leave_leadership-note.result odd asks.1.0 stands.paces.listed (goes possible) c.leave_leadership-note.ensures.told)
+    (moves_asked node.follow.config node.id g.mine node.lead next c.leave_leadership-note.result odd asks.1.0 (stands.paces refl).listed (goes possible) c.leave_leadership-note.ensures.told)
 
 pub plan-plan-requires : goal.plan-plan-requires
 plan-plan-requires g c =
@@ -176,7 +182,7 @@ plan-plan-requires g c =
         to_own IsPossible k node.follow.config r node.id mine g.mine own id c.requires.1.0 c.requires.1.1.1.1.0,
         (
           to_own (λ x i l. length l < x.budget) k node.follow.config r node.id mine g.mine own id c.requires.1.0 c.requires.1.1.1.1.1.0,
-          to_own (λ x i l. StandsForNode x i l node) k node.follow.config r node.id mine g.mine own id c.requires.1.0 held,
+          to_own (λ x i l. LivesForNode x i l node) k node.follow.config r node.id mine g.mine own id c.requires.1.0 held,
         ),
       ),
     )
@@ -197,13 +203,14 @@ took-requires g c =
     let new = c.plan-plan.new.self in
     let plan = c.plan-plan.ensures in
     let held = c.requires.1.1.1.1.1.1.0 in
+    let lives = to_own (λ x i l. LivesForNode x i l node) (g.P.Port.config c.args.port.now) node.follow.config (g.P.Port.number c.args.port.now) node.id (g.P.Port.part c.args.port.now) g.mine held.beside.follow.config held.beside.id c.requires.1.0 held in
     let own = plan.config ∙ held.beside.follow.config in (
       c.requires.1.1.0 ∙ sym (plan.id ∙ held.beside.id),
       (
         subst (λ x. IsConfig x) (sym own) c.requires.1.1.1.0,
         (
           to_own (λ x i l. FitsLead x i l new.lead c.plan-plan.result.leads (due_of c.plan-plan.result)) node.follow.config new.follow.config node.id new.id g.mine g.mine plan.config plan.id refl plan.fits,
-          (λ on. (and_parts (is_odd (length g.mine)) (is_some (lead_due node.follow.config node.id g.mine node.lead)) (sym plan.leads ∙ on)).0, (to_own (λ x i l. HasPlanned x i l new) node.follow.config new.follow.config node.id new.id g.mine g.mine plan.config plan.id refl plan.planned, (plan.made, plan.some))),
+          (λ on. (and_parts (is_odd (length g.mine)) (is_some (lead_due node.follow.config node.id g.mine node.lead)) (sym plan.leads ∙ on)).0, (to_own (λ x i l. HasPlanned false x i l new) node.follow.config new.follow.config node.id new.id g.mine g.mine plan.config plan.id refl (plan.planned false lives), (plan.made, plan.some))),
         ),
       ),
     )
@@ -211,11 +218,11 @@ took-requires g c =
 -- in a turn of the leader it is what the journal has due
 turn_listed : (c : Config) (r : ℕ) (mine : List Event) (old : Node) (due : Option Verb) → StandsForNode c r mine old → IsTurnDue old.zeal c r mine old.lead due → (is_odd (length mine) ≡ true → asks_out_of_turn old.zeal c r mine ≡ false) → is_odd (length mine) ≡ true → due ≡ turn_due old.zeal c r mine
 turn_listed c r mine old due stands led calm odd =
-    led odd ∙ ap (λ o. or_else o (idle_due old.zeal c r mine)) (due_listed c r mine old.lead stands.lead stands.paces.listed)
+    led odd ∙ ap (λ o. or_else o (idle_due old.zeal c r mine)) (due_listed c r mine old.lead stands.lead (stands.paces refl).listed)
     ∙ sym (ap (λ t. if t then Some (Verb.Ask 0) else or_else (due_after c r mine) (idle_due old.zeal c r mine)) (calm odd))
 
 -- what is due follows the turn
-follows_of : (c : Config) (r : ℕ) (mine : List Event) (old planned : Node) (due : Option Verb) (answer : Answer) → IsConfig c → IsPossible c r mine → length mine < c.budget → outrun c r mine ≡ None → StandsForNode c r mine old → HasPlanned c r mine planned
+follows_of : (c : Config) (r : ℕ) (mine : List Event) (old planned : Node) (due : Option Verb) (answer : Answer) → IsConfig c → IsPossible c r mine → length mine < c.budget → outrun c r mine ≡ None → StandsForNode c r mine old → HasPlanned false c r mine planned
     → IsTurnDue old.zeal c r mine old.lead due → (is_odd (length mine) ≡ false → IsCycleDue old.zeal c r mine (leads_at old.lead.place) due)
     → (is_odd (length mine) ≡ true → asks_out_of_turn old.zeal c r mine ≡ false) → FollowsTurn old.zeal c r mine (event_by r (verb_or_beat due) answer)
 follows_of c r mine old planned due answer good possible short going stands held led cycle calm = record {
@@ -226,10 +233,10 @@ follows_of c r mine old planned due answer good possible short going stands held
     zeal = old.zeal;
     made = record {
       replication = listed;
-      background = λ even. ((cycle even).first, subst (λ l. IsBackgroundDue c r mine l (cycle even).first) (ap leads_at stands.paces.listed.place) (cycle even).background, ap verb_or_beat (cycle even).whole);
+      background = λ even. ((cycle even).first, subst (λ l. IsBackgroundDue c r mine l (cycle even).first) (ap leads_at (stands.paces refl).listed.place) (cycle even).background, ap verb_or_beat (cycle even).whole);
     };
-    paces = subst (λ p. PacesAt c r mine (tables_at c r mine).written p) stands.paces.listed.place (subst (λ (t : Tables). PacesAt c r mine t.written old.lead.place) stands.paces.listed.tables stands.paces.paces);
-    leads = λ even leads. even_may c r mine even (stands.leads (ap leads_at stands.paces.listed.place ∙ leads));
+    paces = subst (λ p. PacesAt c r mine (tables_at c r mine).written p) (stands.paces refl).listed.place (subst (λ (t : Tables). PacesAt c r mine t.written old.lead.place) (stands.paces refl).listed.tables (stands.paces refl).paces);
+    leads = λ even leads. even_may c r mine even (stands.leads refl (ap leads_at (stands.paces refl).listed.place ∙ leads));
   };
   listed = listed;
 }
@@ -238,7 +245,7 @@ follows_of c r mine old planned due answer good possible short going stands held
     listed odd = ap verb_or_beat (turn_listed c r mine old due stands led calm odd)
 
 pub returns-else-asks_out_of_turn-clause-stands : goal.returns-else-asks_out_of_turn-clause-stands
-returns-else-asks_out_of_turn-clause-stands g c =
+returns-else-asks_out_of_turn-clause-stands g c full was =
     let old = c.args.port.now in
     let now = c.step-answer-else-asks_out_of_turn.new.self in
     let plan = c.plan-plan.ensures in
@@ -254,15 +261,21 @@ returns-else-asks_out_of_turn-clause-stands g c =
     let due = due_of c.plan-plan.result in
     let answer = c.step-answer-else-asks_out_of_turn.result in
     let going = to_own (λ x i l. outrun x i l ≡ None) (g.P.Port.config old) node.follow.config (g.P.Port.number old) node.id (g.P.Port.part old) g.mine own id c.requires.1.0 c.requires.1.1.1.1.1.1.1 in
-    let stands = to_own (λ x i l. StandsForNode x i l node) (g.P.Port.config old) node.follow.config (g.P.Port.number old) node.id (g.P.Port.part old) g.mine own id c.requires.1.0 held in
-    let follows = to_own (λ x i l. FollowsTurn new.zeal x i l (event_by i (verb_or_beat due) answer)) node.follow.config new.follow.config node.id c.args.id g.mine g.mine plan.config (c.requires.1.1.0 ∙ sym id) refl
-    (subst (λ z. FollowsTurn z node.follow.config node.id g.mine (event_by node.id (verb_or_beat due) answer)) (sym plan.zeal) (follows_of node.follow.config node.id g.mine node new due answer good possible short going stands plan.planned plan.led plan.cycle calm)) in
-    moved (g.P.Port.config old) (g.P.Port.config now) new.follow.config (g.P.Port.number old) (g.P.Port.number now) c.args.id (g.P.Port.part old) g.mine (g.P.Port.part now) c.plan-plan.result.verb (verb_or_beat due) answer c.took.new.self
+    let stands = to_own (λ x i l. StandsAs full x i l node) (g.P.Port.config old) node.follow.config (g.P.Port.number old) node.id (g.P.Port.part old) g.mine own id c.requires.1.0 was in
+    let lives = as_far full node.follow.config node.id g.mine node stands in
+    let planned = to_own (λ x i l. HasPlanned full x i l new) node.follow.config new.follow.config node.id new.id g.mine g.mine plan.config plan.id refl (plan.planned full stands) in
+    let idles : full ≡ true → c.plan-plan.result.leads ≡ false → IsIdle new.follow.config c.args.id g.mine new.lead (verb_or_beat due) = λ on off. to_own (λ x i l. IsIdle x i l new.lead (verb_or_beat due)) node.follow.config new.follow.config node.id c.args.id g.mine g.mine plan.config (c.requires.1.1.0 ∙ sym id) refl (plan.idles (in_full full node.follow.config node.id g.mine node on stands) off) in
+    let reads = to_own (λ x i l. IsReadNext x i l (verb_or_beat due)) node.follow.config new.follow.config node.id c.args.id g.mine g.mine plan.config (c.requires.1.1.0 ∙ sym id) refl plan.reads in
+    let follows : full ≡ true → FollowsTurn new.zeal new.follow.config c.args.id g.mine (event_by c.args.id (verb_or_beat due) answer) = λ on.
+    let whole = in_full full node.follow.config node.id g.mine node on stands in
+    to_own (λ x i l. FollowsTurn new.zeal x i l (event_by i (verb_or_beat due) answer)) node.follow.config new.follow.config node.id c.args.id g.mine g.mine plan.config (c.requires.1.1.0 ∙ sym id) refl
+    (subst (λ z. FollowsTurn z node.follow.config node.id g.mine (event_by node.id (verb_or_beat due) answer)) (sym plan.zeal) (follows_of node.follow.config node.id g.mine node new due answer good possible short going whole (plan.planned false lives) (plan.led whole) (plan.cycle whole) calm)) in
+    moved (g.P.Port.config old) (g.P.Port.config now) new.follow.config (g.P.Port.number old) (g.P.Port.number now) c.args.id (g.P.Port.part old) g.mine (g.P.Port.part now) c.plan-plan.result.verb (verb_or_beat due) answer c.took.new.self full
     (g.met.P.Port.same_config old now c.step-answer-else-asks_out_of_turn.ensures.same) (g.met.P.Port.same_number old now c.step-answer-else-asks_out_of_turn.ensures.same)
-    (plan.config ∙ own) c.requires.1.1.0 c.requires.1.0 c.plan-plan.ensures.made c.step-answer-else-asks_out_of_turn.ensures.part c.step-answer-else-asks_out_of_turn.ensures.possible (c.took.ensures.stands follows)
+    (plan.config ∙ own) c.requires.1.1.0 c.requires.1.0 c.plan-plan.ensures.made c.step-answer-else-asks_out_of_turn.ensures.part c.step-answer-else-asks_out_of_turn.ensures.possible (c.took.ensures.stands full planned idles follows reads)
 
 pub returns-else-asks_out_of_turn-clause-made : goal.returns-else-asks_out_of_turn-clause-made
-returns-else-asks_out_of_turn-clause-made g c =
+returns-else-asks_out_of_turn-clause-made g c was =
     let old = c.args.port.now in
     let now = c.step-answer-else-asks_out_of_turn.new.self in
     let k = g.P.Port.config old in
@@ -281,21 +294,21 @@ returns-else-asks_out_of_turn-clause-made g c =
     own id c.requires.1.0 c.plan-plan.ensures.made c.step-answer-else-asks_out_of_turn.ensures.part c.step-answer-else-asks_out_of_turn.ensures.possible in
     let took = to_own (λ x i l. TellsTook x i l c.plan-plan.result.leads due c.plan-plan.result.heeded answer c.took.result) new.follow.config node.follow.config c.args.id node.id g.mine g.mine (sym plan.config) (id ∙ sym c.requires.1.1.0) refl c.took.ensures.note in
     let says = to_own (λ x i l. SaysTook x i l c.plan-plan.result.leads due c.plan-plan.result.heeded new.lead c.took.new.self.lead answer c.took.result) new.follow.config node.follow.config c.args.id node.id g.mine g.mine (sym plan.config) (id ∙ sym c.requires.1.1.0) refl c.took.ensures.says in
-    let stands = to_own (λ x i l. StandsForNode x i l node) k node.follow.config r node.id mine g.mine own id c.requires.1.0 held in
+    let stands = to_own (λ x i l. StandsForNode x i l node) k node.follow.config r node.id mine g.mine own id c.requires.1.0 was in
     let calm : is_odd (length g.mine) ≡ true → asks_out_of_turn node.zeal node.follow.config node.id g.mine ≡ false = left_false (asks_out_of_turn node.zeal node.follow.config node.id g.mine) (is_odd (length g.mine)) (sym c.asks_out_of_turn.ensures ∙ c.if-asks_out_of_turn.false) in
-    let listed = stands.paces.listed in
+    let listed = (stands.paces refl).listed in
     record {
       verb = c.plan-plan.result.verb;
       answer = answer;
       part = c.step-answer-else-asks_out_of_turn.ensures.part;
       made = to_port (λ x i l. IsMade node.zeal x i l c.plan-plan.result.verb) k node.follow.config r node.id mine g.mine own id c.requires.1.0
-          (subst (λ v. IsMade node.zeal node.follow.config node.id g.mine v) (sym c.plan-plan.ensures.made) (record { replication = λ odd. ap verb_or_beat (turn_listed node.follow.config node.id g.mine node due stands plan.led calm odd); background = λ even. ((plan.cycle even).first, subst (λ l. IsBackgroundDue node.follow.config node.id g.mine l (plan.cycle even).first) (ap leads_at listed.place) (plan.cycle even).background, ap verb_or_beat (plan.cycle even).whole) }));
+          (subst (λ v. IsMade node.zeal node.follow.config node.id g.mine v) (sym c.plan-plan.ensures.made) (record { replication = λ odd. ap verb_or_beat (turn_listed node.follow.config node.id g.mine node due stands (plan.led stands) calm odd); background = λ even. ((plan.cycle stands even).first, subst (λ l. IsBackgroundDue node.follow.config node.id g.mine l (plan.cycle stands even).first) (ap leads_at listed.place) (plan.cycle stands even).background, ap verb_or_beat (plan.cycle stands even).whole) }));
       tells = to_port (λ x i l. TellsNote node.zeal x i l node.lead answer c.took.result) k node.follow.config r node.id mine g.mine own id c.requires.1.0
-          (note_told node.zeal node.follow.config node.id g.mine node.lead new.lead c.took.new.self.lead c.plan-plan.result.leads due c.plan-plan.result.heeded answer c.took.result plan.leads plan.led plan.heeded possible took plan.told says stands.lead listed calm);
+          (note_told node.zeal node.follow.config node.id g.mine node.lead new.lead c.took.new.self.lead c.plan-plan.result.leads due c.plan-plan.result.heeded answer c.took.result plan.leads (plan.led stands) plan.heeded possible took plan.told says stands.lead listed calm);
     }
 
 pub returns-else-asks_out_of_turn-clause-going : goal.returns-else-asks_out_of_turn-clause-going
-returns-else-asks_out_of_turn-clause-going g c =
+returns-else-asks_out_of_turn-clause-going g c was =
     let old = c.args.port.now in
     let plan = c.plan-plan.ensures in
     let node = c.args.self.now in
@@ -306,6 +319,7 @@ returns-else-asks_out_of_turn-clause-going g c =
     let due = due_of c.plan-plan.result in
     let answer = c.step-answer-else-asks_out_of_turn.result in
     let next = c.took.new.self.lead in
+    let stands = to_own (λ x i l. StandsForNode x i l node) (g.P.Port.config old) node.follow.config (g.P.Port.number old) node.id (g.P.Port.part old) g.mine own id c.requires.1.0 was in
     let says = to_own (λ x i l. SaysTook x i l c.plan-plan.result.leads due c.plan-plan.result.heeded new.lead next answer c.took.result) new.follow.config node.follow.config c.args.id node.id g.mine g.mine (sym plan.config) (id ∙ sym c.requires.1.1.0) refl c.took.ensures.says in
     to_port (λ x i l. MovesGoing x i l node.lead next c.took.result) (g.P.Port.config old) node.follow.config (g.P.Port.number old) node.id (g.P.Port.part old) g.mine own id c.requires.1.0
-    (going_moves node.zeal node.follow.config node.id g.mine node.lead new.lead next c.plan-plan.result.leads due c.plan-plan.result.heeded answer c.took.result plan.leads plan.led plan.heeded plan.told plan.lead says)
+    (going_moves node.zeal node.follow.config node.id g.mine node.lead new.lead next c.plan-plan.result.leads due c.plan-plan.result.heeded answer c.took.result plan.leads (plan.led stands) plan.heeded plan.told plan.lead says)

@@ -1,4 +1,4 @@
-use Rattle.std.proofs.Common.{ap, arith, refl, subst, sym, true, ◌<◌, ◌||◌, ◌∙◌, ◌∷◌, ◌≡◌}
+use Rattle.std.proofs.Common.{ap, arith, false, refl, subst, sym, true, ◌<◌, ◌||◌, ◌∙◌, ◌∷◌, ◌≡◌}
 use Rattle.mu_model.specs.declared.event.Verb.{Verb}
 use Rattle.mu_model.specs.Knowledge.{applied, known}
 use Rattle.mu_knowledge.specs.KnownLog.{HoldsValues}
@@ -28,39 +28,41 @@ use Rattle.mu_node.proofs.Moving.{event_by}
 use Rattle.mu_node.proofs.node.Node.took_again.Goals as goal
 
 pub returns-clause-stands : goal.returns-clause-stands
-returns-clause-stands g c follows possible =
+returns-clause-stands g c full stands follows possible =
     let k = c.args.self.now.follow.config in
     let r = c.args.id in
     let mine = g.mine in
     let e = event_by r (Verb.Ask 0) c.args.answer in
-    let held : IsGone k r mine c.args.self.now = subst (λ i. IsGone k i mine c.args.self.now) (sym c.requires.0) c.requires.1.1.0 in
-    let odd = c.requires.1.1.1.1.0 in
-    let named = subst (λ i. is_named k i mine ≡ true) (sym c.requires.0) c.requires.1.1.1.1.1.0 in
-    let asks = subst (λ i. asks_again k i mine ≡ true) (sym c.requires.0) c.requires.1.1.1.1.1.1.0 in
+    let held : IsGone full k r mine c.args.self.now = subst (λ i. IsGone full k i mine c.args.self.now) (sym c.requires.0) stands in
+    let odd = c.requires.1.1.1.1.1.0 in
+    let named = subst (λ i. is_named k i mine ≡ true) (sym c.requires.0) c.requires.1.1.1.1.1.1.0 in
+    let asks = subst (λ i. asks_again k i mine ≡ true) (sym c.requires.0) c.requires.1.1.1.1.1.1.1.0 in
     let values = c.known-known.result.now in
     let old = c.note.new.self.lead in
     let new = c.take.new.self in
     let lead = subst (λ l. StandsForLead k r mine l) (sym c.note.ensures.lead) held.lead in
-    let gone : HasGone k r mine old = subst (λ l. HasGone k r mine l) (sym c.note.ensures.lead) held.paces in
-    let due = asked_due k r mine old named gone.left.place in
+    let gone : full ≡ true → HasGone k r mine old = λ on. subst (λ l. HasGone k r mine l) (sym c.note.ensures.lead) (held.paces on) in
+    let begins = ap (λ (l : Lead). l.place) c.note.ensures.lead ∙ c.requires.1.1.1.0 in
+    let due = asked_due k r mine old named begins in
     let told = led_told k r mine (Verb.Ask 0) c.args.answer c.note.new.self values (λ none. c.note.ensures.stands mine possible held.beside none) (λ entry some. c.note.ensures.awaits mine entry possible held.beside some) (λ l n h. c.known-known.ensures k r l n h) in
     let of_config = led_log k r mine (Verb.Ask 0) c.args.answer c.note.new.self values c.log.result.now (λ none. c.note.ensures.stands mine possible held.beside none) (λ entry some. c.note.ensures.awaits mine entry possible held.beside some) (λ l n h. c.known-known.ensures k r l n h) (λ l n h. c.log.ensures k r l n h) in
     let log = subst (λ x. HoldsValues x values c.log.result.now) (sym lead.config) of_config in
     let inside = held.beside.follow.inside in
     let some : 0 < k.replicas = omega (arith, inside) in
-    let paces : HasPaces k r (e ∷ mine) new = paces_asked k r mine old new c.args.answer values some lead c.take.ensures.config c.take.ensures.id gone odd named asks (c.take.ensures.listed log) (c.take.ensures.placed log) possible told in
+    let paces : full ≡ true → HasPaces k r (e ∷ mine) new = λ on. paces_asked k r mine old new c.args.answer values some lead c.take.ensures.config c.take.ensures.id (gone on) odd named asks (c.take.ensures.listed log) (c.take.ensures.placed log) possible told in
     let taken = lead_takes k r mine old new (Verb.Ask 0) c.args.answer values lead c.take.ensures.config c.take.ensures.id (c.take.ensures.stands log) due possible told in
     record {
       beside = beside_lead (StandsForFollow k r (e ∷ mine)) k r (e ∷ mine) c.note.new.self new (c.note.ensures.stands mine possible held.beside refl);
       lead = taken;
       handed = c.note.ensures.handed ∙ (held.handed ∙ sym (odd_handed k r mine odd));
       answers = answers_stay k r (handed k r mine) e mine c.args.self.now.answers c.note.new.self.answers c.note.ensures.answers c.args.self.now.follow.progress.handed held.beside.follow.progress.handed (held.handed ∙ sym (odd_handed k r mine odd)) (λ commands are. subst (λ n. HoldsAnswers k commands (take n (applied k r mine)) c.args.self.now.answers) (sym (odd_handed k r mine odd)) (held.answers commands are));
-      cycle = (held.cycle, follows.cycle);
-      made = (held.made, follows.made);
-      listed = subst (λ z. AtEachStep (IsListed z k r) (e ∷ mine)) (sym c.note.ensures.zeal) (held.listed, follows.listed);
-      leads = λ leads. due_leads_on k r mine old (Verb.Ask 0) e due;
+      reads = (held.reads, tt);
+      cycle = λ on. (held.cycle on, (follows on).cycle);
+      made = λ on. (held.made on, (follows on).made);
+      listed = λ on. subst (λ z. AtEachStep (IsListed z k r) (e ∷ mine)) (sym c.note.ensures.zeal) (held.listed on, (follows on).listed);
+      leads = λ on leads. due_leads_on k r mine old (Verb.Ask 0) e due;
       paces = paces;
-      led = subst (λ z. AtEachStep (LeaderKeepsBy (is_eager z) k r) (e ∷ mine)) (sym c.note.ensures.zeal) (held.led, subst (λ t. LeaderKeepsBy t k r mine e) (sym c.requires.1.1.1.1.1.1.1) (kept_asked k r mine new c.args.answer old named asks gone taken paces));
+      led = λ on. subst (λ z. AtEachStep (LeaderKeepsBy (is_eager z) k r) (e ∷ mine)) (sym c.note.ensures.zeal) (held.led on, subst (λ t. LeaderKeepsBy t k r mine e) (sym c.requires.1.1.1.1.1.1.1.1) (kept_asked k r mine new c.args.answer old named asks (gone on) taken (paces on)));
     }
 
 pub returns-clause-going : goal.returns-clause-going
@@ -69,17 +71,17 @@ returns-clause-going g c possible =
     let r = c.args.id in
     let mine = g.mine in
     let lead = c.args.self.now.lead in
-    let held : IsGone k r mine c.args.self.now = subst (λ i. IsGone k i mine c.args.self.now) (sym c.requires.0) c.requires.1.1.0 in
+    let held : IsGone false k r mine c.args.self.now = subst (λ i. IsGone false k i mine c.args.self.now) (sym c.requires.0) c.requires.1.1.0 in
     let values = c.known-known.result.now in
     let old = c.note.new.self.lead in
     let stands = subst (λ l. StandsForLead k r mine l) (sym c.note.ensures.lead) held.lead in
-    let gone : HasGone k r mine old = subst (λ l. HasGone k r mine l) (sym c.note.ensures.lead) held.paces in
-    let due = asked_due k r mine old (subst (λ i. is_named k i mine ≡ true) (sym c.requires.0) c.requires.1.1.1.1.1.0) gone.left.place in
+    let begins = ap (λ (l : Lead). l.place) c.note.ensures.lead ∙ c.requires.1.1.1.0 in
+    let due = asked_due k r mine old (subst (λ i. is_named k i mine ≡ true) (sym c.requires.0) c.requires.1.1.1.1.1.1.0) begins in
     let told = led_told k r mine (Verb.Ask 0) c.args.answer c.note.new.self values (λ none. c.note.ensures.stands mine possible held.beside none) (λ entry some. c.note.ensures.awaits mine entry possible held.beside some) (λ l n h. c.known-known.ensures k r l n h) in
     let of_config = led_log k r mine (Verb.Ask 0) c.args.answer c.note.new.self values c.log.result.now (λ none. c.note.ensures.stands mine possible held.beside none) (λ entry some. c.note.ensures.awaits mine entry possible held.beside some) (λ l n h. c.known-known.ensures k r l n h) (λ l n h. c.log.ensures k r l n h) in
     let log = subst (λ x. HoldsValues x values c.log.result.now) (sym stands.config) of_config in
     let noted : c.take.result ≡ note_at k r mine (tables_of old) (Place.Ask 0) (Verb.Ask 0) c.args.answer = lead_noted k r mine old (Verb.Ask 0) c.args.answer values c.take.result stands (c.take.ensures.noted log) due possible told
-    ∙ ap (λ p. note_at k r mine (tables_of old) p (Verb.Ask 0) c.args.answer) gone.left.place in
+    ∙ ap (λ p. note_at k r mine (tables_of old) p (Verb.Ask 0) c.args.answer) begins in
     c.take.ensures.going
     ∙ (ap (λ (l : Lead). going_after (begins_at l.place || l.under_way) c.take.result) c.note.ensures.lead
-    ∙ going_asked lead.place lead.under_way (holds_all k (known k r (event_by r (Verb.Ask 0) c.args.answer ∷ mine))) c.take.result held.paces.left.place noted)
+    ∙ going_asked lead.place lead.under_way (holds_all k (known k r (event_by r (Verb.Ask 0) c.args.answer ∷ mine))) c.take.result c.requires.1.1.1.0 noted)

@@ -1,4 +1,4 @@
-use Rattle.std.proofs.Common.{◌≡◌, ◌∙◌, ◌||◌, ◌∷◌, Some, ap, length, refl, subst, sym}
+use Rattle.std.proofs.Common.{◌≡◌, ◌∙◌, ◌||◌, ◌∷◌, Some, ap, length, refl, subst, sym, true}
 use Rattle.std.proofs.lemmas.Bool.{true≢false}
 use Rattle.mu_model.specs.Contents.{IsConfig}
 use Rattle.mu_model.specs.Knowledge.{grown, known}
@@ -31,12 +31,11 @@ pub learn-requires : goal.learn-requires
 learn-requires g c = record { config = subst (λ x. IsConfig x) (sym c.note.ensures.config) c.requires.0 }
 
 pub returns-clause-stands : goal.returns-clause-stands
-returns-clause-stands g c follows possible =
+returns-clause-stands g c full held follows reads possible =
     let k = c.args.self.now.follow.config in
     let r = c.args.by in
     let verb = c.args.verb in
     let mine = g.mine in
-    let held = c.requires.1.1.1.1 in
     let values = c.known-known.result.now in
     let old = c.note.new.self.lead in
     let lead = subst (λ l. StandsForLead k r mine l) (sym c.note.ensures.lead) held.lead in
@@ -55,8 +54,8 @@ returns-clause-stands g c follows possible =
       placed = c.take-note.ensures.placed log;
     } in
     let odd = c.requires.1.1.1.0 in
-    let before : HasPaces k r mine old = led_paces k r mine old verb odd due (subst (λ l. HasPlannedPaces k r mine l) (sym c.note.ensures.lead) held.paces) in
-    let paces = paces_led k r mine old c.take-note.new.self verb c.args.answer values lead c.take-note.ensures.config c.take-note.ensures.id takes odd due possible told before in
+    let before : full ≡ true → HasPaces k r mine old = λ on. led_paces k r mine old verb odd due (subst (λ l. HasPlannedPaces k r mine l) (sym c.note.ensures.lead) (held.paces on)) in
+    let paces : full ≡ true → HasPaces k r (event_by r verb c.args.answer ∷ mine) c.take-note.new.self = λ on. paces_led k r mine old c.take-note.new.self verb c.args.answer values lead c.take-note.ensures.config c.take-note.ensures.id takes odd due possible told (before on) in
     let taken = lead_takes k r mine old c.take-note.new.self verb c.args.answer values lead c.take-note.ensures.config c.take-note.ensures.id (c.take-note.ensures.stands log) due possible told in
     record {
       beside = led_beside k r mine verb c.args.answer c.note.new.self c.learn.new.self c.take-note.new.self values (length values) c.take-note.result c.requires.0 possible
@@ -70,12 +69,13 @@ returns-clause-stands g c follows possible =
       lead = subst (λ l. StandsForLead k r (event_by r verb c.args.answer ∷ mine) l) (sym c.learn.ensures.lead) taken;
       handed = c.learn.ensures.handed ∙ (c.note.ensures.handed ∙ held.handed);
       answers = answers_stay k r (handed k r mine) (event_by r verb c.args.answer) mine c.args.self.now.answers c.learn.new.self.answers (c.learn.ensures.answers ∙ c.note.ensures.answers) c.args.self.now.follow.progress.handed held.beside.follow.progress.handed held.handed held.answers;
-      cycle = (held.cycle, follows.cycle);
-      made = (held.made, follows.made);
-      listed = subst (λ z. AtEachStep (IsListed z k r) (event_by r verb c.args.answer ∷ mine)) (sym (c.learn.ensures.zeal ∙ c.note.ensures.zeal)) (held.listed, follows.listed);
-      leads = λ leads. due_leads_on k r mine c.args.self.now.lead verb (event_by r verb c.args.answer) c.requires.1.1.0;
-      paces = subst (λ l. HasPaces k r (event_by r verb c.args.answer ∷ mine) l) (sym c.learn.ensures.lead) paces;
-      led = subst (λ z. AtEachStep (LeaderKeepsBy (is_eager z) k r) (event_by r verb c.args.answer ∷ mine)) (sym (c.learn.ensures.zeal ∙ c.note.ensures.zeal)) (held.led, kept_led (is_eager c.args.self.now.zeal) k r mine old c.take-note.new.self verb c.args.answer due lead before taken paces);
+      reads = (held.reads, reads);
+      cycle = λ on. (held.cycle on, (follows on).cycle);
+      made = λ on. (held.made on, (follows on).made);
+      listed = λ on. subst (λ z. AtEachStep (IsListed z k r) (event_by r verb c.args.answer ∷ mine)) (sym (c.learn.ensures.zeal ∙ c.note.ensures.zeal)) (held.listed on, (follows on).listed);
+      leads = λ on leads. due_leads_on k r mine c.args.self.now.lead verb (event_by r verb c.args.answer) c.requires.1.1.0;
+      paces = λ on. subst (λ l. HasPaces k r (event_by r verb c.args.answer ∷ mine) l) (sym c.learn.ensures.lead) (paces on);
+      led = λ on. subst (λ z. AtEachStep (LeaderKeepsBy (is_eager z) k r) (event_by r verb c.args.answer ∷ mine)) (sym (c.learn.ensures.zeal ∙ c.note.ensures.zeal)) (held.led on, kept_led (is_eager c.args.self.now.zeal) k r mine old c.take-note.new.self verb c.args.answer due lead (before on) taken (paces on));
     }
 
 pub returns-clause-note : goal.returns-clause-note
