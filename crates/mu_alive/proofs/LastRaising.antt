@@ -16,7 +16,7 @@ use Rattle.mu_model.specs.Leaderships.{grant_for, has_begun, is_over, proposal_n
 use Rattle.mu_model.specs.Legal.{IsLegalHistory}
 use Rattle.mu_model.specs.Regions.{fence}
 use Rattle.mu_model.specs.Steps.{has_min, is_asking, is_named, knows_all}
-use Rattle.mu_model.specs.Stretches.{IsStretch, is_replication}
+use Rattle.mu_model.specs.Stretches.{is_replication}
 use Rattle.mu_model.proofs.Parts.{filter-append, part_is_possible}
 use Rattle.mu_agree.proofs.Landings.{has_of_part}
 use Rattle.mu_agree.proofs.Legal.{event_after, legal_induction}
@@ -45,7 +45,7 @@ use Rattle.mu_pace.proofs.Pasts.{begun_on, min_now}
 use Rattle.mu_pace.specs.Watches.{puts_number}
 
 -- while it has read no minimum it asks again and again, whatever it knows
-each_unread : (c : Config) (a start : ℕ) (mine : List Event) → AsksUntilMin c a mine → AtEachMoment (NamesItself c a start) mine → AtEachMoment (λ now. has_min a now ≡ false) mine → AsksEach c start mine
+pub each_unread : (c : Config) (a start : ℕ) (mine : List Event) → AsksUntilMin c a mine → AtEachMoment (NamesItself c a start) mine → AtEachMoment (λ now. has_min a now ≡ false) mine → AsksEach c start mine
 each_unread c a start mine asks named none p newer window older is long late low =
     some_event (is_asking p) window older
     (asks p window older low (record { newer = newer; is = is }) (halves (17 * c.replicas + 1) window older long)
@@ -54,6 +54,10 @@ each_unread c a start mine asks named none p newer window older is long late low
 
 asks_older : (c : Config) (a : ℕ) (newer older : List Event) → AsksUntilMin c a (newer ++ older) → AsksUntilMin c a older
 asks_older c a newer older asks p window base low s = asks p window base low (record { newer = newer ++ s.newer; is = ap (λ l. newer ++ l) s.is ∙ sym (append_assoc newer s.newer (window ++ base)) })
+
+-- what a journal keeps of its opening its beginnings keep
+pub opens_before : (c : Config) (a : ℕ) (newer older : List Event) → OpensInTime c a (newer ++ older) → OpensInTime c a older
+opens_before c a newer older opens = record { asks = asks_older c a newer older opens.asks; numbers = λ e window o s. opens.numbers e window o (record { newer = newer ++ s.newer; is = ap (λ l. newer ++ l) s.is ∙ sym (append_assoc newer s.newer (window ++ e ∷ o)) }) }
 
 -- so after this many steps it has asked each region: before its first minimum, or since it names itself
 pub asks_all : (c : Config) (live : ℕ → Bool) (a start : ℕ) (past : List Event) → LeadsLast c live a start past → AsksUntilMin c a (part a past) → AsksAllFirst c a (part a past) → AsksAllBy c a (start + asking_steps c) past
@@ -141,6 +145,16 @@ number_named c a start (e ∷ past) legal named = go (e.by == a) refl named (num
     go true own itself ih = (ih itself.0, subst (λ l. NamesItself c a start l → is_some (proposal_number a l) ≡ true → is_named c a l ≡ true) (ap (λ t. cond t (e ∷ part a past) (part a past)) own) here itself.1)
     go false other itself ih = ih itself
 
+-- so it leads on
+pub leads_on : (c : Config) (live : ℕ → Bool) (a start : ℕ) (past : List Event) → IsConfig c → LeadsLast c live a start past → LeadsOn c a (part a past)
+leads_on c live a start past good last = record {
+  inside = last.inside;
+  possible = part_is_possible c a past last.legal;
+  on = lead_on_moments c a past last.legal last.turns (let most = good.replicas.1 in omega (arith, most));
+  named = number_named c a start past last.legal last.named;
+  led = last.led;
+}
+
 -- from then on the regions of all that keep up grant to it
 pub governs : (c : Config) (live : ℕ → Bool) (a start : ℕ) (newer older : List Event) → IsConfig c → LeadsLast c live a start (newer ++ older) → AsksAllBy c a (start + asking_steps c) (newer ++ older) → Started c a older → start + last_granting_steps c a ≤ length (part a older) → Governs c live a newer older
 governs c live a start newer older good last asks begun late = record {
@@ -148,21 +162,12 @@ governs c live a start newer older good last asks begun late = record {
   lives = last.lives;
   legal = last.legal;
   near = last.near;
-  leads = subst (LeadsOn c a) split leads;
+  leads = subst (LeadsOn c a) split (leads_on c live a start (newer ++ older) good last);
   granted = granted;
 }
   where
     split : part a (newer ++ older) ≡ part a newer ++ part a older
     split = filter-append (λ e. e.by == a) newer older
-
-    leads : LeadsOn c a (part a (newer ++ older))
-    leads = record {
-      inside = last.inside;
-      possible = part_is_possible c a (newer ++ older) last.legal;
-      on = lead_on_moments c a (newer ++ older) last.legal last.turns (let most = good.replicas.1 in omega (arith, most));
-      named = number_named c a start (newer ++ older) last.legal last.named;
-      led = last.led;
-    }
 
     goes : (stays a (part a newer) ≡ true) × (has_min a (part a newer ++ part a older) ≡ true)
     goes = one_leads c a (part a newer) (part a older) (subst (AtEachStep (Leads c a)) split (last_leads c a start (newer ++ older) last.turns last.named)) begun.read
@@ -198,16 +203,13 @@ raised_by c live a start most past good last opens fetches keep late by many =
     there : LeadsLast c live a start at.rest
     there = last_before c live a start at.newer at.rest (subst (LeadsLast c live a start) at.is last)
 
-    more : (window o : List Event) → IsStretch (part a at.rest) window o → IsStretch (part a past) window o
-    more window o s = record { newer = part a at.newer ++ s.newer; is = split ∙ ap (λ l. part a at.newer ++ l) s.is ∙ sym (append_assoc (part a at.newer) s.newer (window ++ o)) }
-
     knows : knows_all c a (part a at.rest) ≡ true
     knows = by at.newer at.rest at.is (let count = at.count in omega (arith, count))
 
     begun : Started c a at.rest
     begun =
         last_started c live a start at.rest good there
-        (record { asks = λ p window o low s. opens.asks p window o low (more window o s); numbers = λ e window o s. opens.numbers e window o (more window (e ∷ o) s) })
+        (opens_before c a (part a at.newer) (part a at.rest) (subst (OpensInTime c a) split opens))
         (keep_before c live a at.newer at.rest (subst (KeepUp c live a) at.is keep)).asked (let count = at.count in omega (arith, count, late))
 
     -- it fetches the rows while the others join and follow

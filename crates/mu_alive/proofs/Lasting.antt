@@ -22,7 +22,7 @@ use Rattle.mu_pace.specs.Counters.{AtEachMoment, AtEachStep}
 use Rattle.mu_pace.proofs.Counting.{last_moment, moments_before, steps_before, both_moments}
 use Rattle.mu_alive.specs.Enough.{asking_steps}
 use Rattle.mu_alive.specs.Last.{LastLeadersKnowAll, LeadsLast, NamesItself, last_granting_steps}
-use Rattle.mu_alive.specs.Lone.{IsNear}
+use Rattle.mu_alive.specs.Near.{IsNear}
 use Rattle.mu_alive.specs.Turns.{AreInTurn, is_own_min}
 use Rattle.mu_alive.proofs.Beginning.{CutAt, HasNoMin, MayConfirm, asked_once, asks_fail, cut_at, grants_before, has_to_ask_all, reads_before, two_asks}
 use Rattle.mu_alive.proofs.Cutting.{located}

@@ -1,5 +1,4 @@
 pub mod Again
-mod Alone
 mod Anew
 pub mod Applying
 mod Astray
@@ -21,7 +20,6 @@ pub mod Finishing
 mod Following
 mod Gaining
 mod GainingUpTo
-mod Granting
 mod Joining
 mod KnowsMost
 pub mod Lagging

@@ -31,7 +31,6 @@ use Rattle.mu_alive.specs.Alone.{WritesAlone}
 use Rattle.mu_alive.specs.Enough.{HasLargeRing}
 use Rattle.mu_alive.specs.Failing.{failing_steps}
 use Rattle.mu_alive.specs.Finishing.{HaveAllRaised, KeepUp, last_raising_steps}
-use Rattle.mu_alive.specs.Lone.{LeadsAlone}
 use Rattle.mu_alive.proofs.Beginning.{grants_before, reads_before}
 use Rattle.mu_alive.proofs.Enough.{asks_before, holds_more, outrun_before}
 use Rattle.mu_alive.proofs.Fetching.{applied_grows}
