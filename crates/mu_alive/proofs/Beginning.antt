@@ -13,7 +13,7 @@ use Rattle.mu_model.specs.Histories.{all_below, count_below, has, how_many, newe
 use Rattle.mu_model.specs.Leaderships.{begins_leadership, fence_seen, grant_for, has_begun, is_over, leadership, majority_of, noted_grant}
 use Rattle.mu_model.specs.Regions.{asks, is_ask_by}
 use Rattle.mu_model.specs.Steps.{has_min, is_any_fencing, is_any_fencing_verb, is_asking, is_asking_verb, is_fencing, is_min, is_named, knows_all, leads}
-use Rattle.mu_model.specs.Stretches.{IsStretch, is_replication}
+use Rattle.mu_model.specs.Stretches.{is_replication}
 use Rattle.mu_agree.proofs.Members.{over-part}
 use Rattle.mu_pace.specs.Collecting.{LeaderKeeps}
 use Rattle.mu_pace.specs.Counters.{AtEachMoment, AtEachStep, fewer, left_after, steps_left}
@@ -21,25 +21,22 @@ use Rattle.mu_pace.specs.Watches.{confirming, is_confirming}
 use Rattle.mu_pace.proofs.Counting.{last_moment, moments_before, steps_before, both_moments}
 use Rattle.mu_alive.specs.Alone.{AsksAlone}
 use Rattle.mu_alive.specs.Enough.{asking_steps}
-use Rattle.mu_alive.proofs.Cutting.{located, met}
+use Rattle.mu_alive.proofs.Cutting.{located, met, longer, there_in_part}
 use Rattle.mu_alive.proofs.Moments.{AsksEach, From}
 use Rattle.mu_alive.proofs.Noting.{confirmed, reads_fence}
-use Rattle.mu_pace.proofs.Pasts.{has_later, cut}
+use Rattle.mu_pace.proofs.Pasts.{has_later, cut, some_counted}
 
 -- what a host keeps it kept before
 pub reads_before : (c : Config) (r : ℕ) (newer older : List Event) → ReadsInTime c r (newer ++ older) → ReadsInTime c r older
 reads_before c r newer older held = record {
-  beat = λ window o s l. held.beat window o (more window o s) l;
-  beats = λ q window o low other s l. held.beats q window o low other (more window o s) l;
-  asks = λ w window o low s l. held.asks w window o low (more window o s) l;
-  apart = λ q later earlier between o s x y. held.apart q later earlier between o (more (later ∷ between ++ earlier ∷ []) o s) x y;
+  beat = λ window o s l. held.beat window o (longer newer older window o s) l;
+  beats = λ q window o low other s l. held.beats q window o low other (longer newer older window o s) l;
+  asks = λ w window o low s l. held.asks w window o low (longer newer older window o s) l;
+  apart = λ q later earlier between o s x y. held.apart q later earlier between o (longer newer older (later ∷ between ++ earlier ∷ []) o s) x y;
 }
-  where
-    more : (window o : List Event) → IsStretch older window o → IsStretch (newer ++ older) window o
-    more window o s = record { newer = newer ++ s.newer; is = ap (λ l. newer ++ l) s.is ∙ sym (append_assoc newer s.newer (window ++ o)) }
 
 pub grants_before : (c : Config) (r : ℕ) (newer older : List Event) → GrantsInTime c r (newer ++ older) → GrantsInTime c r older
-grants_before c r newer older held w e window o s = held w e window o (record { newer = newer ++ s.newer; is = ap (λ l. newer ++ l) s.is ∙ sym (append_assoc newer s.newer (window ++ e ∷ o)) })
+grants_before c r newer older held w e window o s = held w e window o (longer newer older window (e ∷ o) s)
 
 pub alone_before : (a : ℕ) (newer older : List Event) → AsksAlone a (newer ++ older) → AsksAlone a older
 alone_before a [] older alone = alone
@@ -65,25 +62,11 @@ cut_at a k (e ∷ events) few = elim (cases_lt (length (part a events)) k) [
 
 -- an ask in the part is one that the region counts
 pub asked_once : (a p : ℕ) (past : List Event) → has (is_asking p) (part a past) ≡ true → 1 ≤ asks a p past
-asked_once a p [] some = absurd (true≢false (sym some))
-asked_once a p (e ∷ past) some = go (e.by == a) refl some (asked_once a p past)
+asked_once a p past some = some_counted (λ e. is_ask_by a p e.by e.verb) past (there_in_part (is_asking p) (λ e. is_ask_by a p e.by e.verb) a (λ e own asks. by_a e.by e.verb own asks) past some)
   where
-    same : (by : ℕ) (verb : Verb) → (by == a) ≡ true → is_ask_by a p by verb ≡ is_asking_verb p verb
-    same by (Verb.Ask q) h = rw h refl
-    same by verb h = refl
-
-    counts : (t : Bool) → 1 ≤ asks a p past → 1 ≤ cond t (asks a p past + 1) (asks a p past)
-    counts true l = omega (arith, l)
-    counts false l = l
-
-    here : (t u : Bool) → t ≡ u → cond u true (has (is_asking p) (part a past)) ≡ true → (has (is_asking p) (part a past) ≡ true → 1 ≤ asks a p past) → 1 ≤ cond t (asks a p past + 1) (asks a p past)
-    here true u h some ih = omega arith
-    here false true h some ih = absurd (true≢false (sym h))
-    here false false h some ih = ih some
-
-    go : (t : Bool) → (e.by == a) ≡ t → has (is_asking p) (cond t (e ∷ part a past) (part a past)) ≡ true → (has (is_asking p) (part a past) ≡ true → 1 ≤ asks a p past) → 1 ≤ cond (is_ask_by a p e.by e.verb) (asks a p past + 1) (asks a p past)
-    go true own some ih = here (is_ask_by a p e.by e.verb) (is_asking p e) (same e.by e.verb own) some ih
-    go false own some ih = counts (is_ask_by a p e.by e.verb) (ih some)
+    by_a : (by : ℕ) (verb : Verb) → by ≡ a → is_asking_verb p verb ≡ true → is_ask_by a p by verb ≡ true
+    by_a by (Verb.Ask q) own asks = and_from (by == a) (q == p) (eq-eqb by a own) asks
+    by_a by verb own asks = absurd (true≢false (sym asks))
 
 -- an event that reads no fence and begins no leadership leaves what is noted
 unfenced : (a p by : ℕ) (verb : Verb) (answer : Answer) → is_any_fencing_verb verb ≡ false → fence_seen a p by verb answer ≡ None

@@ -1,5 +1,5 @@
 -- A replica that leads on, in a large ring, knows every command soon after its first minimum.
-use Rattle.std.proofs.Common.{◌≡◌, ◌⊎◌, ℕ, ◌+◌, ◌*◌, ◌<◌, ◌==◌, ◌&&◌, ◌||◌, not, inl, inr, Bool, true, false, cond, Some, None, List, [], ◌∷◌, ◌++◌, length, refl, sym, ◌∙◌, ap, arith, subst, true≢false, append_assoc}
+use Rattle.std.proofs.Common.{◌≡◌, ◌⊎◌, ℕ, ◌+◌, ◌*◌, ◌<◌, ◌==◌, ◌&&◌, ◌||◌, not, inl, inr, Bool, true, false, cond, Some, None, List, [], ◌∷◌, ◌++◌, length, refl, sym, ◌∙◌, ap, arith, subst, true≢false, eqb-true}
 use Rattle.std.specs.declared.option.Option.{Option}
 use Rattle.std.specs.Prelude.{is_some}
 use Rattle.std.proofs.lemmas.Bool.{and_parts, lt-leb}
@@ -18,9 +18,9 @@ use Rattle.mu_model.specs.Legal.{IsLegalHistory}
 use Rattle.mu_model.specs.Parts.{IsPossible}
 use Rattle.mu_model.specs.Room.{head_read, lacks_room, reserve}
 use Rattle.mu_model.specs.Steps.{commits_more, has_min, is_asking_verb, is_lagging, is_min, is_min_verb, is_named, knows_all}
-use Rattle.mu_model.specs.Stretches.{IsStretch, is_replication}
+use Rattle.mu_model.specs.Stretches.{is_replication}
 use Rattle.mu_model.proofs.Basics.{none_some}
-use Rattle.mu_model.proofs.Parts.{part_is_possible}
+use Rattle.mu_model.proofs.Parts.{part_is_possible, filter-append}
 use Rattle.mu_model.proofs.Scans.{all_at, each_all, rows_in-append}
 use Rattle.mu_agree.proofs.Fitting.{parts_fit_law}
 use Rattle.mu_agree.proofs.Knowing.{known_stays}
@@ -28,13 +28,15 @@ use Rattle.mu_agree.proofs.Possible.{parts_shorten_law}
 use Rattle.mu_pace.specs.Collecting.{LeaderKeeps, LeaderKeepsBy}
 use Rattle.mu_pace.specs.Counters.{AtEachMoment, AtEachStep, IsInTime}
 use Rattle.mu_pace.specs.Watches.{progressing}
-use Rattle.mu_pace.proofs.Counting.{last_moment, both_moments}
+use Rattle.mu_pace.proofs.Counting.{last_moment, both_moments, moments_before}
 use Rattle.mu_pace.proofs.Positions.{known_fits}
 use Rattle.mu_alive.specs.Calm.{IsCalm, calm_steps}
 use Rattle.mu_alive.specs.Enough.{HasLargeRing}
 use Rattle.mu_alive.proofs.Calm.{calm_commits}
 use Rattle.mu_alive.proofs.Moments.{at_least_halves}
 use Rattle.mu_pace.proofs.Pasts.{min_on, min_now}
+use Rattle.mu_alive.proofs.Cutting.{longer, moments_of}
+use Rattle.mu_agree.proofs.Legal.{legal_older}
 
 -- a first minimum of a leadership, before which the journal has none under way
 pub record FirstMin (a : ℕ) (mine : List Event) : Type 0 where
@@ -85,12 +87,9 @@ outrun_before c r (e ∷ newer) older none = outrun_before c r newer older (go (
 
 pub asks_before : (c : Config) (r : ℕ) (newer older : List Event) → AsksInTime c r (newer ++ older) → AsksInTime c r older
 asks_before c r newer older held = record {
-  asks = λ p window o low s n held'. held.asks p window o low (more window o s) n held';
-  fences = λ p window o low s n held'. held.fences p window o low (more window o s) n held';
+  asks = λ p window o low s n held'. held.asks p window o low (longer newer older window o s) n held';
+  fences = λ p window o low s n held'. held.fences p window o low (longer newer older window o s) n held';
 }
-  where
-    more : (window o : List Event) → IsStretch older window o → IsStretch (newer ++ older) window o
-    more window o s = record { newer = newer ++ s.newer; is = ap (λ l. newer ++ l) s.is ∙ sym (append_assoc newer s.newer (window ++ o)) }
 
 -- at each moment of a's part its leadership isn't over, the part is possible, and a command is missing
 pub record IsFine (c : Config) (a : ℕ) (now : List Event) : Type 0 where
@@ -100,12 +99,7 @@ pub record IsFine (c : Config) (a : ℕ) (now : List Event) : Type 0 where
   pub lacks : knows_all c a now ≡ false
 
 pub possible_moments : (c : Config) (a : ℕ) (past : List Event) → IsLegalHistory c past → AtEachMoment (IsPossible c a) (part a past)
-possible_moments c a [] legal = part_is_possible c a [] legal
-possible_moments c a (e ∷ past) legal = go (e.by == a) (possible_moments c a past legal.0) (part_is_possible c a (e ∷ past) legal)
-  where
-    go : (t : Bool) → AtEachMoment (IsPossible c a) (part a past) → IsPossible c a (cond t (e ∷ part a past) (part a past)) → AtEachMoment (IsPossible c a) (cond t (e ∷ part a past) (part a past))
-    go true ih here = (ih, here)
-    go false ih here = ih
+possible_moments c a past legal = moments_of a (IsPossible c a) past (λ newer older is. part_is_possible c a older (legal_older c newer older (subst (IsLegalHistory c) is legal)))
 
 pub going_moments : (c : Config) (a : ℕ) (mine : List Event) → outrun c a mine ≡ None → AtEachMoment (λ now. outrun c a now ≡ None) mine
 going_moments c a [] none = none
@@ -137,6 +131,10 @@ lacks_moments c r (e ∷ mine) lacks = (lacks_moments c r mine (go (knows_all c 
     go true is = absurd (true≢false (sym (knows_on c r (e ∷ []) mine is) ∙ lacks))
     go false is = is
 
+-- who lacks a command lacked it before
+pub lacks_older : (c : Config) (a : ℕ) (newer older : List Event) → knows_all c a (part a (newer ++ older)) ≡ false → knows_all c a (part a older) ≡ false
+lacks_older c a newer older lacks = last_moment (λ now. knows_all c a now ≡ false) (part a older) (moments_before (λ now. knows_all c a now ≡ false) (part a newer) (part a older) (subst (AtEachMoment (λ now. knows_all c a now ≡ false)) (filter-append (λ e. e.by == a) newer older) (lacks_moments c a (part a (newer ++ older)) lacks)))
+
 pub fine_moments : (c : Config) (a : ℕ) (past : List Event) → IsLegalHistory c past → AtEachMoment (λ now. is_over a now ≡ false) (part a past) → outrun c a (part a past) ≡ None → knows_all c a (part a past) ≡ false → AtEachMoment (IsFine c a) (part a past)
 fine_moments c a past legal on going lacks =
     both_moments (λ now. (is_over a now ≡ false) × IsPossible c a now) (λ now. (outrun c a now ≡ None) × (knows_all c a now ≡ false)) (IsFine c a) (λ now x y. record { on = x.0; possible = x.1; going = y.0; lacks = y.1 }) (part a past)
@@ -159,6 +157,10 @@ not_lagging c a past e low =
     go : (t u : Bool) → u ≡ false → (t && u) ≡ false
     go true u h = h
     go false u h = refl
+
+pub asks_verb : (p : ℕ) (verb : Verb) → is_asking_verb p verb ≡ true → verb ≡ Verb.Ask p
+asks_verb p (Verb.Ask q) h = ap (λ x. Verb.Ask x) (eqb-true q p h)
+asks_verb p verb h = absurd (true≢false (sym h))
 
 -- a leadership that has a minimum begins no other
 pub begins_verb : (a by : ℕ) (verb : Verb) (answer : Answer) → begins_leadership a (record { by = by; verb = verb; answer = answer }) ≡ true → is_asking_verb 0 verb ≡ true

@@ -15,9 +15,10 @@ use Rattle.mu_model.specs.Regions.{beats, is_beat_by}
 use Rattle.mu_model.specs.Steps.{is_beat, is_beat_read, is_beat_read_verb, is_beat_verb}
 use Rattle.mu_model.proofs.Parts.{filter-append}
 use Rattle.mu_agree.proofs.Legal.{legal_older}
-use Rattle.mu_pace.proofs.Pasts.{cut, has_later, how_many-append}
+use Rattle.mu_pace.proofs.Pasts.{cut, has_later, how_many-append, some_counted}
 use Rattle.mu_alive.specs.Fair.{EvenOnesKeepUp, FairOnesKeepUp, FastOnesAreFound, KeepsPace}
 use Rattle.mu_alive.proofs.Beginning.{cut_at}
+use Rattle.mu_alive.proofs.Cutting.{there_in_part}
 
 -- a read of the count is answered by it
 pub told : (c : Config) (q by : ℕ) (verb : Verb) (answer : Answer) (past : List Event) → is_beat_read_verb q verb ≡ true → answer ≡ answer_of c by past verb → answer ≡ Answer.Number (beats q past)
@@ -35,25 +36,11 @@ beats_after q between past read reads = how_many-append (λ f. is_beat_by q f.by
 
 -- a beat in a part is one that is counted
 own_beats : (q : ℕ) (events : List Event) → has is_beat (part q events) ≡ true → 1 ≤ beats q events
-own_beats q [] some = absurd (true≢false (sym some))
-own_beats q (e ∷ events) some = go (e.by == q) refl some (own_beats q events)
+own_beats q events some = some_counted (λ e. is_beat_by q e.by e.verb) events (there_in_part is_beat (λ e. is_beat_by q e.by e.verb) q (λ e own beat. by_q e.by e.verb own beat) events some)
   where
-    same : (by : ℕ) (verb : Verb) → (by == q) ≡ true → is_beat_by q by verb ≡ is_beat_verb verb
-    same by Verb.Beat h = h
-    same by verb h = refl
-
-    counts : (t : Bool) → 1 ≤ beats q events → 1 ≤ cond t (beats q events + 1) (beats q events)
-    counts true l = omega (arith, l)
-    counts false l = l
-
-    here : (t u : Bool) → t ≡ u → cond u true (has is_beat (part q events)) ≡ true → (has is_beat (part q events) ≡ true → 1 ≤ beats q events) → 1 ≤ cond t (beats q events + 1) (beats q events)
-    here true u h some ih = omega arith
-    here false true h some ih = absurd (true≢false (sym h))
-    here false false h some ih = ih some
-
-    go : (t : Bool) → (e.by == q) ≡ t → has is_beat (cond t (e ∷ part q events) (part q events)) ≡ true → (has is_beat (part q events) ≡ true → 1 ≤ beats q events) → 1 ≤ cond (is_beat_by q e.by e.verb) (beats q events + 1) (beats q events)
-    go true own some ih = here (is_beat_by q e.by e.verb) (is_beat e) (same e.by e.verb own) some ih
-    go false own some ih = counts (is_beat_by q e.by e.verb) (ih some)
+    by_q : (by : ℕ) (verb : Verb) → by ≡ q → is_beat_verb verb ≡ true → is_beat_by q by verb ≡ true
+    by_q by Verb.Beat own beat = eq-eqb by q own
+    by_q by verb own beat = absurd (true≢false (sym beat))
 
 -- between two reads of the count of one that keeps pace there is a beat
 even_between : (c : Config) (live : ℕ → Bool) (q r : ℕ) (top later before older : List Event) (e read : Event) → ((p : ℕ) → p < c.replicas → live p ≡ true → ReadsInTime c p (part p ((top ++ e ∷ (later ++ read ∷ before)) ++ older))) → KeepsPace c live q (top ++ e ∷ (later ++ read ∷ before)) → q < c.replicas → r < c.replicas → q ≢ r → live q ≡ true → live r ≡ true

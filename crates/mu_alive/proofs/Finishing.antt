@@ -4,7 +4,6 @@ use Rattle.mu_model.specs.declared.config.Config.{Config}
 use Rattle.mu_model.specs.declared.event.Event.{Event}
 use Rattle.mu_model.specs.Diligence.{Replays, TellsHeads}
 use Rattle.mu_model.specs.Histories.{part}
-use Rattle.mu_model.specs.Stretches.{IsStretch}
 use Rattle.mu_model.specs.Steps.{is_named}
 use Rattle.mu_model.proofs.Parts.{filter-append}
 use Rattle.mu_pace.specs.Counters.{AtEachMoment, AtEachStep}
@@ -12,25 +11,20 @@ use Rattle.mu_pace.proofs.Counting.{moments_before, steps_before}
 use Rattle.mu_alive.specs.Alone.{WritesAlone}
 use Rattle.mu_alive.specs.Finishing.{KeepUp}
 use Rattle.mu_alive.specs.Following.{RaisesToAll}
+use Rattle.mu_alive.proofs.Cutting.{longer}
 
 -- what a journal keeps its beginnings keep
 pub replays_before : (c : Config) (r : ℕ) (newer older : List Event) → Replays c r (newer ++ older) → Replays c r older
 replays_before c r newer older held = record {
-  reads = λ window o s n off. held.reads window o (more window o s) n off;
-  learns = λ window o s n off low. held.learns window o (more window o s) n off low;
+  reads = λ window o s n off. held.reads window o (longer newer older window o s) n off;
+  learns = λ window o s n off low. held.learns window o (longer newer older window o s) n off low;
 }
-  where
-    more : (window o : List Event) → IsStretch older window o → IsStretch (newer ++ older) window o
-    more window o s = record { newer = newer ++ s.newer; is = ap (λ l. newer ++ l) s.is ∙ sym (append_assoc newer s.newer (window ++ o)) }
 
 pub heads_before : (c : Config) (r : ℕ) (newer older : List Event) → TellsHeads c r (newer ++ older) → TellsHeads c r older
 heads_before c r newer older held = record {
-  raises = λ window o s low n. held.raises window o (more window o s) low n;
-  reads = λ q window o low other s n. held.reads q window o low other (more window o s) n;
+  raises = λ window o s low n. held.raises window o (longer newer older window o s) low n;
+  reads = λ q window o low other s n. held.reads q window o low other (longer newer older window o s) n;
 }
-  where
-    more : (window o : List Event) → IsStretch older window o → IsStretch (newer ++ older) window o
-    more window o s = record { newer = newer ++ s.newer; is = ap (λ l. newer ++ l) s.is ∙ sym (append_assoc newer s.newer (window ++ o)) }
 
 pub keep_before : (c : Config) (live : ℕ → Bool) (a : ℕ) (newer older : List Event) → KeepUp c live a (newer ++ older) → KeepUp c live a older
 keep_before c live a newer older keep = record {

@@ -1,5 +1,5 @@
 -- All that keep up with the last that asks in turn have applied all in time, and raised their heads to it.
-use Rattle.std.proofs.Common.{cond, eqb-true, true≢false, ◌≡◌, ℕ, ◌+◌, ◌*◌, ◌<◌, ◌≤◌, ◌==◌, inl, inr, Bool, true, false, Some, List, [], ◌∷◌, ◌++◌, length, refl, sym, ◌∙◌, ap, arith, subst, append_assoc, is_some}
+use Rattle.std.proofs.Common.{eqb-true, true≢false, ◌≡◌, ℕ, ◌+◌, ◌*◌, ◌<◌, ◌≤◌, ◌==◌, inl, inr, Bool, true, false, Some, List, [], ◌∷◌, ◌++◌, length, refl, sym, ◌∙◌, ap, arith, subst, append_assoc, is_some}
 use Rattle.std.proofs.Math.Nat.{mul-le-mul_right}
 use Rattle.std.proofs.lemmas.List.{length-append}
 use Rattle.mu_model.specs.declared.config.Config.{Config}
@@ -19,9 +19,9 @@ use Rattle.mu_model.specs.Steps.{has_min, is_asking, is_named, knows_all}
 use Rattle.mu_model.specs.Stretches.{is_replication}
 use Rattle.mu_model.proofs.Parts.{filter-append, part_is_possible}
 use Rattle.mu_agree.proofs.Landings.{has_of_part}
-use Rattle.mu_agree.proofs.Legal.{event_after, legal_induction}
+use Rattle.mu_agree.proofs.Legal.{event_after, legal_induction, legal_older}
 use Rattle.mu_pace.specs.Counters.{AtEachMoment, AtEachStep}
-use Rattle.mu_pace.proofs.Counting.{moments_before}
+use Rattle.mu_pace.proofs.Counting.{moments_before, both_moments}
 use Rattle.mu_alive.specs.Following.{catching_steps}
 use Rattle.mu_alive.specs.Bringing.{IsGranted, LeadsOn}
 use Rattle.mu_alive.specs.Enough.{asking_steps}
@@ -30,7 +30,7 @@ use Rattle.mu_alive.specs.Last.{FetchesInTime, LeadsLast, NamesItself, fetching_
 use Rattle.mu_alive.specs.Opens.{AsksUntilMin, OpensInTime}
 use Rattle.mu_alive.specs.Turns.{is_own_min}
 use Rattle.mu_alive.proofs.Beginning.{CutAt, cut_at}
-use Rattle.mu_alive.proofs.Cutting.{located}
+use Rattle.mu_alive.proofs.Cutting.{located, longer, moments_of}
 use Rattle.mu_alive.proofs.Enough.{FirstMin, Leads, min_or_none, min_parts}
 use Rattle.mu_alive.proofs.Fetching.{fetched}
 use Rattle.mu_alive.proofs.Finishing.{keep_before}
@@ -52,12 +52,12 @@ each_unread c a start mine asks named none p newer window older is long late low
     (each_before start (is_named c a) is_replication window older late (moments_before (From start (λ now. is_named c a now ≡ true)) newer (window ++ older) (subst (AtEachMoment (From start (λ now. is_named c a now ≡ true))) is (late_named c a start mine named))))
     (moments_before (λ now. has_min a now ≡ false) newer (window ++ older) (subst (AtEachMoment (λ now. has_min a now ≡ false)) is none)))
 
-asks_older : (c : Config) (a : ℕ) (newer older : List Event) → AsksUntilMin c a (newer ++ older) → AsksUntilMin c a older
-asks_older c a newer older asks p window base low s = asks p window base low (record { newer = newer ++ s.newer; is = ap (λ l. newer ++ l) s.is ∙ sym (append_assoc newer s.newer (window ++ base)) })
-
 -- what a journal keeps of its opening its beginnings keep
+asks_older : (c : Config) (a : ℕ) (newer older : List Event) → AsksUntilMin c a (newer ++ older) → AsksUntilMin c a older
+asks_older c a newer older asks p window base low s = asks p window base low (longer newer older window base s)
+
 pub opens_before : (c : Config) (a : ℕ) (newer older : List Event) → OpensInTime c a (newer ++ older) → OpensInTime c a older
-opens_before c a newer older opens = record { asks = asks_older c a newer older opens.asks; numbers = λ e window o s. opens.numbers e window o (record { newer = newer ++ s.newer; is = ap (λ l. newer ++ l) s.is ∙ sym (append_assoc newer s.newer (window ++ e ∷ o)) }) }
+opens_before c a newer older opens = record { asks = asks_older c a newer older opens.asks; numbers = λ e window o s. opens.numbers e window o (longer newer older window (e ∷ o) s) }
 
 -- so after this many steps it has asked each region: before its first minimum, or since it names itself
 pub asks_all : (c : Config) (live : ℕ → Bool) (a start : ℕ) (past : List Event) → LeadsLast c live a start past → AsksUntilMin c a (part a past) → AsksAllFirst c a (part a past) → AsksAllBy c a (start + asking_steps c) past
@@ -133,17 +133,9 @@ number_begun c w = legal_induction c (NumberBegun w) (λ some. absurd (true≢fa
 
 -- so it names itself while it has a number
 pub number_named : (c : Config) (a start : ℕ) (past : List Event) → IsLegalHistory c past → AtEachMoment (NamesItself c a start) (part a past) → AtEachMoment (λ now. is_some (proposal_number a now) ≡ true → is_named c a now ≡ true) (part a past)
-number_named c a start [] legal named = λ some. absurd (true≢false (sym some))
-number_named c a start (e ∷ past) legal named = go (e.by == a) refl named (number_named c a start past legal.0)
-  where
-    here : NamesItself c a start (part a (e ∷ past)) → is_some (proposal_number a (part a (e ∷ past))) ≡ true → is_named c a (part a (e ∷ past)) ≡ true
-    here itself some = itself (inr (begun-part a (e ∷ past) ∙ number_begun c a (e ∷ past) legal (has_of_part (puts_number a) a (e ∷ past) (numbered_there a (part a (e ∷ past)) some))))
-
-    go : (t : Bool) → (e.by == a) ≡ t → AtEachMoment (NamesItself c a start) (cond t (e ∷ part a past) (part a past))
-        → (AtEachMoment (NamesItself c a start) (part a past) → AtEachMoment (λ now. is_some (proposal_number a now) ≡ true → is_named c a now ≡ true) (part a past))
-        → AtEachMoment (λ now. is_some (proposal_number a now) ≡ true → is_named c a now ≡ true) (cond t (e ∷ part a past) (part a past))
-    go true own itself ih = (ih itself.0, subst (λ l. NamesItself c a start l → is_some (proposal_number a l) ≡ true → is_named c a l ≡ true) (ap (λ t. cond t (e ∷ part a past) (part a past)) own) here itself.1)
-    go false other itself ih = ih itself
+number_named c a start past legal named =
+    both_moments (NamesItself c a start) (λ now. is_some (proposal_number a now) ≡ true → has_begun a now ≡ true) (λ now. is_some (proposal_number a now) ≡ true → is_named c a now ≡ true) (λ now itself begun some. itself (inr (begun some))) (part a past) named
+    (moments_of a (λ now. is_some (proposal_number a now) ≡ true → has_begun a now ≡ true) past (λ newer older is some. begun-part a older ∙ number_begun c a older (legal_older c newer older (subst (IsLegalHistory c) is legal)) (has_of_part (puts_number a) a older (numbered_there a (part a older) some))))
 
 -- so it leads on
 pub leads_on : (c : Config) (live : ℕ → Bool) (a start : ℕ) (past : List Event) → IsConfig c → LeadsLast c live a start past → LeadsOn c a (part a past)

@@ -30,7 +30,6 @@ mod Lasting
 mod Moments
 mod Noting
 mod Opening
-mod OwnNumbers
 mod Reaching
 pub mod Resuming
 mod Rising

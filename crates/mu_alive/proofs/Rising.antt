@@ -32,7 +32,7 @@ use Rattle.mu_alive.specs.Near.{IsNear}
 use Rattle.mu_alive.proofs.Applying.{applied_is_known}
 use Rattle.mu_alive.proofs.Beginning.{CutAt, cut_at}
 use Rattle.mu_alive.proofs.Bringing.{raising_moments}
-use Rattle.mu_alive.proofs.Enough.{IsFine, Leads, fine_moments, lacks_moments}
+use Rattle.mu_alive.proofs.Enough.{IsFine, Leads, fine_moments, lacks_older}
 use Rattle.mu_alive.proofs.Finishing.{keep_before, writes_before}
 use Rattle.mu_alive.proofs.Spreading.{follows_on, heads-own}
 use Rattle.mu_alive.proofs.Following.{fuo_read_in_time, gains_in_time, head_follows, own_fuo}
@@ -50,9 +50,6 @@ use Rattle.mu_alive.proofs.Lasting.{last_before, last_leads}
 use Rattle.mu_alive.proofs.LastRaising.{leads_on, opens_before}
 use Rattle.mu_alive.proofs.TurnFences.{lead_on_moments}
 use Rattle.mu_alive.proofs.TurnOwners.{IsLone}
-
-pub lacks_older : (c : Config) (a : ℕ) (newer older : List Event) → knows_all c a (part a (newer ++ older)) ≡ false → knows_all c a (part a older) ≡ false
-lacks_older c a newer older lacks = last_moment (λ now. knows_all c a now ≡ false) (part a older) (moments_before (λ now. knows_all c a now ≡ false) (part a newer) (part a older) (subst (AtEachMoment (λ now. knows_all c a now ≡ false)) (filter-append (λ e. e.by == a) newer older) (lacks_moments c a (part a (newer ++ older)) lacks)))
 
 pub reserve_fits : (c : Config) → IsConfig c → reserve c < c.ring
 reserve_fits c good = let low = good.ring.0 in let most = good.replicas.1 in reserves (c.version == 2) low most

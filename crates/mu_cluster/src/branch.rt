@@ -77,7 +77,7 @@ fn drive<R: Wait + Clock, G: Gate>(rt: &R, branch: &mut Branch, script: &Script,
             Turn::Took(_) => {
                 let events = port.part();
                 silences.take_newest(events);
-                idling.note_newest(events);
+                idling.take_newest(events);
             }
             Turn::Ended(_) => break,
         }

@@ -32,8 +32,8 @@ loop-preserved g c =
       turned_on script c.loop.port c.turn_rested.new.port c.loop.node c.turn_rested.new.node c.turn_rested.result was c.turn_rested.ensures.same c.turn_rested.ensures.stands c.turn_rested.ensures.stops c.turn_rested.ensures.zeal told,
       same_same c.args.branch.now.port c.loop.port c.turn_rested.new.port c.loop.invariant.3 c.turn_rested.ensures.same,
       subst (λ l. StandsForSilences l c.take_newest.new.self) (sym took.1.part) (c.take_newest.ensures e p.part (c.part-events.ensures ∙ took.1.part) (reads_beats_within q.config q.id p.part e few.replicas.1 possible) c.loop.invariant.4),
-      subst (λ i. StandsForIdling i q.part c.note_newest.new.self) (sym c.turn_rested.ensures.same.id)
-          (subst (λ l. StandsForIdling p.id l c.note_newest.new.self) (sym took.1.part) (c.note_newest.ensures e p.part (c.part-events.ensures ∙ took.1.part) (reads_heads_within q.config q.id p.part e few.replicas.1 possible) c.loop.invariant.5)),
+      subst (λ i. StandsForIdling i q.part c.take_newest-2.new.self) (sym c.turn_rested.ensures.same.id)
+          (subst (λ l. StandsForIdling p.id l c.take_newest-2.new.self) (sym took.1.part) (c.take_newest-2.ensures e p.part (c.part-events.ensures ∙ took.1.part) (reads_heads_within q.config q.id p.part e few.replicas.1 possible) c.loop.invariant.5)),
     )
 
 pub returns : goal.returns
