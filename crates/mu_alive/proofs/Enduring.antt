@@ -32,8 +32,7 @@ use Rattle.mu_alive.specs.Resuming.{FollowsListing, PutsFirst, is_min_of}
 use Rattle.mu_alive.specs.Settling.{KeepGoing}
 use Rattle.mu_alive.proofs.Beginning.{begins_now}
 use Rattle.mu_alive.proofs.Clearing.{keeps_regions}
-use Rattle.mu_alive.proofs.LastNoting.{NotesIt, note_step}
-use Rattle.mu_alive.proofs.Noting.{reads_fence, some_read}
+use Rattle.mu_alive.proofs.Noting.{reads_fence, some_read, NotesIt, note_step}
 use Rattle.mu_alive.proofs.Settling.{goes_on_before}
 use Rattle.mu_alive.proofs.TurnFences.{AtTurn, MembersHeld, OpensHeld, members_step, opens_step, over_step}
 use Rattle.mu_alive.proofs.TurnOwners.{NotesStanding, closing-part, notes_step, owner-part, owner_named}

@@ -1,6 +1,6 @@
 -- What replicas that keep step, or take a step in any few of another, find of beats, and how they keep up.
-use Rattle.std.proofs.Common.{◌≡◌, ◌≢◌, ℕ, zero, suc, ◌+◌, ◌*◌, ◌<◌, ◌≤◌, ◌==◌, inl, inr, Bool, true, false, cond, List, [], ◌∷◌, ◌++◌, length, refl, sym, ◌∙◌, ap, arith, subst, eqb-true, true≢false, append_assoc}
-use Rattle.std.proofs.lemmas.Bool.{cases_eq, eq-eqb, ne_eqb}
+use Rattle.std.proofs.Common.{◌≡◌, ◌≢◌, ℕ, ◌+◌, ◌*◌, ◌<◌, ◌≤◌, ◌==◌, Bool, true, false, cond, List, [], ◌∷◌, ◌++◌, length, refl, sym, ◌∙◌, ap, arith, subst, eqb-true, true≢false, append_assoc}
+use Rattle.std.proofs.lemmas.Bool.{eq-eqb, ne_eqb}
 use Rattle.std.proofs.lemmas.List.{length-append}
 use Rattle.mu_model.specs.declared.config.Config.{Config}
 use Rattle.mu_model.specs.declared.event.Answer.{Answer}
@@ -16,8 +16,7 @@ use Rattle.mu_model.specs.Steps.{is_beat, is_beat_read, is_beat_read_verb, is_be
 use Rattle.mu_model.proofs.Parts.{filter-append}
 use Rattle.mu_agree.proofs.Legal.{legal_older}
 use Rattle.mu_pace.proofs.Pasts.{cut, has_later, how_many-append, some_counted}
-use Rattle.mu_alive.specs.Fair.{EvenOnesKeepUp, FairOnesKeepUp, FastOnesAreFound, KeepsPace}
-use Rattle.mu_alive.proofs.Beginning.{cut_at}
+use Rattle.mu_alive.specs.Fair.{EvenOnesKeepUp, FastOnesAreFound, KeepsPace}
 use Rattle.mu_alive.proofs.Cutting.{there_in_part}
 
 -- a read of the count is answered by it
@@ -120,26 +119,3 @@ fast_found c live q newer older low lq legal reads_all even r top between before
 
 pub even_keep : EvenOnesKeepUp
 even_keep c live a events inside lives even q k newer window older low lq is long = let near = even q low lq a newer window older inside lives is in omega (arith, near, long)
-
-pub fair_keep : FairOnesKeepUp
-fair_keep c live ratio r events some fair q k newer window older low lq is long = go k newer window is (omega (arith, long))
-  where
-    one : (newer window older : List Event) → events ≡ newer ++ (window ++ older) → ratio ≤ length (part r window) → 1 ≤ length (part q window)
-    one newer window older is long = elim (cases_eq q r) [
-      | inl same ↦ subst (λ x. 1 ≤ length (part x window)) (sym same) (omega (arith, some, long))
-      | inr other ↦ fair q newer window older low other lq is long
-    ]
-
-    go : (k : ℕ) (newer window : List Event) → events ≡ newer ++ (window ++ older) → ratio * k ≤ length (part r window) → k ≤ length (part q window)
-    go zero newer window is long = omega arith
-    go (suc k) newer window is long =
-        let next : ratio * suc k ≡ ratio * k + ratio = omega arith in
-        let cuts = cut_at r (ratio * k) window (omega (arith, next, long)) in
-        let at : events ≡ newer ++ (cuts.newer ++ (cuts.rest ++ older)) = is ∙ ap (λ l. newer ++ l) (ap (λ l. l ++ older) cuts.is ∙ append_assoc cuts.newer cuts.rest older) in
-        let split : (p : ℕ) → length (part p window) ≡ length (part p cuts.newer) + length (part p cuts.rest) = λ p. ap (λ l. length (part p l)) cuts.is ∙ ap length (filter-append (λ e. e.by == p) cuts.newer cuts.rest) ∙ length-append (part p cuts.newer) (part p cuts.rest) in
-        let count = cuts.count in
-        let at_r = split r in
-        let at_q = split q in
-        let upper = one newer cuts.newer (cuts.rest ++ older) at (omega (arith, next, long, count, at_r)) in
-        let lower = go k (newer ++ cuts.newer) cuts.rest (at ∙ sym (append_assoc newer cuts.newer (cuts.rest ++ older))) (omega (arith, count)) in
-        omega (arith, upper, lower, at_q)

@@ -23,7 +23,6 @@ use Rattle.mu_alive.proofs.Applying.{applied_is_known}
 use Rattle.mu_alive.proofs.Beginning.{CutAt, cut_at}
 use Rattle.mu_alive.proofs.Bringing.{Ahead, Joins, joins_up}
 use Rattle.mu_alive.proofs.Enough.{IsFine, Leads, min_or_none}
-use Rattle.mu_alive.proofs.Finishing.{keep_before, writes_before}
 use Rattle.mu_alive.proofs.KnowsMost.{never_ahead, quiet_steps}
 use Rattle.mu_alive.proofs.Moments.{halves}
 use Rattle.mu_alive.proofs.Opening.{Open, open_first, open_on}
@@ -34,7 +33,7 @@ use Rattle.mu_alive.proofs.Rising.{Lacking, Later, Ready, lacking_before, later,
 use Rattle.mu_alive.specs.Last.{LeadsLast, last_granting_steps}
 use Rattle.mu_alive.specs.Opens.{OpensInTime}
 use Rattle.mu_alive.proofs.Lasting.{last_before, last_begins}
-use Rattle.mu_alive.proofs.LastRaising.{asks_all, each_unread, governs, last_started, leads_on, opens_before, raised_by}
+use Rattle.mu_alive.proofs.LastRaising.{asks_all, each_unread, governs, last_started, leads_on, opens_before, raised_by, keep_before, writes_before}
 use Rattle.mu_alive.proofs.Spreading.{Governs}
 
 -- the steps of the first before it reads a minimum

@@ -25,13 +25,14 @@ use Rattle.mu_alive.specs.Turns.{AreInTurn, is_own_min}
 use Rattle.mu_alive.proofs.Beginning.{CutAt, HasNoMin, MayConfirm, asked_once, asks_fail, cut_at, grants_before, has_to_ask_all, reads_before, two_asks, begins_now}
 use Rattle.mu_alive.proofs.Cutting.{located, there_in_part}
 use Rattle.mu_alive.proofs.Enough.{Leads, asks_before, begins_verb, few_after, fine_moments, lacks_moments, min_or_none, min_parts, outrun_before, asks_verb}
-use Rattle.mu_alive.proofs.LastNoting.{notes_own}
 use Rattle.mu_alive.proofs.Moments.{AsksEach, From, asks_there, each_older}
 use Rattle.mu_alive.proofs.TurnFences.{lead_on_moments, turns_lead_on}
 use Rattle.mu_alive.proofs.TurnOwners.{IsHighest}
-use Rattle.mu_alive.proofs.TurnGrants.{highest_older, hosts_grant, turns_before}
+use Rattle.mu_alive.proofs.TurnGrants.{highest_older, hosts_grant}
 use Rattle.mu_pace.proofs.Pasts.{has_newer, cut, Cut}
 use Rattle.mu_agree.proofs.Landings.{has_since}
+use Rattle.mu_alive.proofs.Noting.{notes_own}
+use Rattle.mu_alive.proofs.Turns.{turns_before}
 
 -- what holds of the whole history held of each beginning
 pub last_before : (c : Config) (live : ℕ → Bool) (a start : ℕ) (newer older : List Event) → LeadsLast c live a start (newer ++ older) → LeadsLast c live a start older

@@ -16,14 +16,12 @@ pub mod Failing
 pub mod Fair
 pub mod Fetching
 pub mod Finding
-pub mod Finishing
 mod Following
 mod Gaining
 mod GainingUpTo
 mod Joining
 mod KnowsMost
 pub mod Lagging
-mod LastNoting
 pub mod LastRaising
 mod LastAsks
 mod Lasting
@@ -45,7 +43,7 @@ mod Stopped
 pub mod Stopping
 mod Ticking
 pub mod TurnFences
-pub mod TurnGrants
+mod TurnGrants
 mod TurnNumbers
 pub mod TurnOwners
 pub mod Turns

@@ -41,7 +41,7 @@ use Rattle.mu_alive.proofs.Enough.{FirstMin, IsFine, Leads, fine_moments, first_
 use Rattle.mu_alive.proofs.Moments.{at_least_halves}
 use Rattle.mu_alive.proofs.Started.{one_leads}
 use Rattle.mu_alive.proofs.Steady.{away_by}
-use Rattle.mu_alive.proofs.Waiting.{Closed, closed_or, each_both, more_steps, paid_both, stays_both}
+use Rattle.mu_alive.proofs.Waiting.{Closed, closed_or, each_both, steps_both, paid_both, stays_both}
 use Rattle.mu_pace.proofs.Pasts.{min_on, min_now}
 use Rattle.mu_alive.specs.Last.{LeadsLast}
 use Rattle.mu_alive.proofs.Lasting.{last_leads}
@@ -220,7 +220,7 @@ commits_next c live a k x left base newer older good fits last lacks o heads kne
         let both = each_both (λ past e. not ((progressing c a).closes past e)) w o.window (o.mid ++ base) (subst (λ l. each_step (λ past e. not ((progressing c a).closes past e)) w l ≡ true) o.is unclosed) o.unclosed in
         let whole : w ++ part a older ≡ (w ++ o.window) ++ (o.mid ++ base) = ap (λ l. w ++ l) o.is ∙ sym (append_assoc w o.window (o.mid ++ base)) in
         let less = shorter (progressing c a) o.amount (w ++ part a older) (w ++ o.window) (o.mid ++ base) held (record { newer = []; is = whole }) o.allows both in
-        let more = more_steps is_replication w o.window (o.mid ++ base) in
+        let more = steps_both is_replication w o.window (o.mid ++ base) in
         let same = ap (replications w) o.is in
         let few = o.few in
         omega (arith, less, more, same, few)

@@ -33,7 +33,6 @@ use Rattle.mu_alive.proofs.Applying.{applied_is_known}
 use Rattle.mu_alive.proofs.Beginning.{CutAt, cut_at}
 use Rattle.mu_alive.proofs.Bringing.{raising_moments}
 use Rattle.mu_alive.proofs.Enough.{IsFine, Leads, fine_moments, lacks_older}
-use Rattle.mu_alive.proofs.Finishing.{keep_before, writes_before}
 use Rattle.mu_alive.proofs.Spreading.{follows_on, heads-own}
 use Rattle.mu_alive.proofs.Following.{fuo_read_in_time, gains_in_time, head_follows, own_fuo}
 use Rattle.mu_alive.proofs.Gaining.{gain, gain_known, gain_some, gain_stays}
@@ -47,7 +46,7 @@ use Rattle.mu_pace.proofs.Pasts.{cut}
 use Rattle.mu_alive.specs.Last.{LeadsLast}
 use Rattle.mu_alive.specs.Opens.{OpensInTime}
 use Rattle.mu_alive.proofs.Lasting.{last_before, last_leads}
-use Rattle.mu_alive.proofs.LastRaising.{leads_on, opens_before}
+use Rattle.mu_alive.proofs.LastRaising.{leads_on, opens_before, keep_before, writes_before}
 use Rattle.mu_alive.proofs.TurnFences.{lead_on_moments}
 use Rattle.mu_alive.proofs.TurnOwners.{IsLone}
 

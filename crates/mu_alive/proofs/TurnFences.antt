@@ -1,5 +1,5 @@
 -- So its leaderships never end.
-use Rattle.std.proofs.Common.{◌≡◌, ℕ, ◌%◌, ◌<◌, ◌≤◌, Bool, true, false, cond, ◌&&◌, ◌==◌, List, [], ◌∷◌, refl, sym, ◌∙◌, ap, arith, Some, None, subst, eqb-true, true≢false, ◌≢◌, ◌||◌}
+use Rattle.std.proofs.Common.{◌≡◌, ℕ, ◌%◌, ◌<◌, ◌≤◌, Bool, true, false, ◌&&◌, ◌==◌, List, ◌∷◌, refl, sym, ◌∙◌, ap, arith, Some, None, subst, eqb-true, true≢false, ◌||◌}
 use Rattle.std.specs.declared.option.Option.{Option}
 use Rattle.std.specs.Prelude.{is_some}
 use Rattle.std.proofs.lemmas.Bool.{and_parts, le-ltb}
@@ -20,14 +20,15 @@ use Rattle.mu_model.proofs.Basics.{same_number, same_some}
 use Rattle.mu_model.proofs.Owned.{noted-part}
 use Rattle.mu_agree.proofs.Access.{entered_facts, last_close, must_drain-part, no_target, open_target-part}
 use Rattle.mu_agree.proofs.Entering.{slot_entered}
-use Rattle.mu_agree.proofs.Legal.{event_after}
+use Rattle.mu_agree.proofs.Legal.{event_after, legal_older}
 use Rattle.mu_agree.proofs.Members.{joined_under-part, over-part}
 use Rattle.mu_pace.specs.Counters.{AtEachMoment}
 use Rattle.mu_alive.specs.Turns.{AreInTurn, IsInTurn, TurnsLeadOn}
 use Rattle.mu_alive.proofs.TurnOwners.{IsHighest, NotesStanding, StaysOpen, no_grant, notes_standing, stays_open, seen_again, top_induction}
-use Rattle.mu_alive.proofs.Turns.{turn_induction}
+use Rattle.mu_alive.proofs.Turns.{turn_induction, turns_before}
 use Rattle.mu_alive.proofs.TurnNumbers.{are_first, own_number, region_low}
 use Rattle.mu_model.proofs.Putting.{MayEnter, put_facts}
+use Rattle.mu_alive.proofs.Cutting.{moments_of}
 
 -- an open `Enter` of r holds the region, undrained, under the noted grant
 pub record HoldsOpen (r : ℕ) (owner : Option ℕ) (drain : Bool) (note : Option ℕ) (grant : ℕ) : Type 0 where
@@ -280,9 +281,4 @@ turns_lead_on c past r legal turns few =
 
 -- at each moment of each part
 pub lead_on_moments : (c : Config) (r : ℕ) (past : List Event) → IsLegalHistory c past → AreInTurn past → c.replicas < 8 → AtEachMoment (λ now. is_over r now ≡ false) (part r past)
-lead_on_moments c r [] legal turns few = refl
-lead_on_moments c r (e ∷ past) legal turns few = go (e.by == r) (lead_on_moments c r past legal.0 turns.0 few) (over-part r (e ∷ past) ∙ turns_lead_on c (e ∷ past) r legal turns few)
-  where
-    go : (t : Bool) → AtEachMoment (λ now. is_over r now ≡ false) (part r past) → is_over r (cond t (e ∷ part r past) (part r past)) ≡ false → AtEachMoment (λ now. is_over r now ≡ false) (cond t (e ∷ part r past) (part r past))
-    go true ih here = (ih, here)
-    go false ih here = ih
+lead_on_moments c r past legal turns few = moments_of r (λ now. is_over r now ≡ false) past (λ newer older is. over-part r older ∙ turns_lead_on c older r (legal_older c newer older (subst (IsLegalHistory c) is legal)) (turns_before newer older (subst AreInTurn is turns)) few)

@@ -6,7 +6,7 @@ ghost use Rattle.mu_alive.specs.Bringing.{FollowersAreBroughtUp};
 ghost use Rattle.mu_alive.specs.Calm.{CalmLeadersCommit};
 ghost use Rattle.mu_alive.specs.Clearing.{LeastIsGranted, LeastKeepsRegions, OldAsksAreServed};
 ghost use Rattle.mu_alive.specs.Failing.{HeldFailedInTime};
-ghost use Rattle.mu_alive.specs.Fair.{EvenOnesKeepUp, FairOnesKeepUp, FastOnesAreFound, HeldAliveInTime};
+ghost use Rattle.mu_alive.specs.Fair.{EvenOnesKeepUp, FastOnesAreFound, HeldAliveInTime};
 ghost use Rattle.mu_alive.specs.Finishing.{LastLeadersRaiseAll};
 ghost use Rattle.mu_alive.specs.Following.{FollowersCatchUp};
 ghost use Rattle.mu_alive.specs.Lagging.{LoneLeadersApplyAllInAnyRing, LoneLeadersRaiseAllInAnyRing};
@@ -126,11 +126,6 @@ pub fn least_keeps_regions()
 /// And it grants its region to the least two rounds after that asked for it.
 pub fn least_is_granted()
     ensures { LeastIsGranted }
-{}
-
-/// Replicas each of which takes a step in any few of one keep up with it at that ratio.
-pub fn fair_ones_keep_up()
-    ensures { FairOnesKeepUp }
 {}
 
 /// Replicas that keep step keep up.
