@@ -1,5 +1,5 @@
 -- By the second number of its job each replica of a replay that isn't stopped has finished.
-use Rattle.std.proofs.Common.{◌≡◌, ◌∙◌, ℕ, ◌+◌, ◌*◌, ◌<◌, ◌≤◌, ◌==◌, Bool, true, false, None, Some, List, ap, arith, eqb-true, length, refl, sym}
+use Rattle.std.proofs.Common.{◌≡◌, ◌∙◌, ℕ, ◌+◌, ◌*◌, ◌<◌, ◌≤◌, ◌==◌, Bool, true, false, None, Some, List, ap, arith, eqb-true, length, refl, sym, ◌∷◌}
 use Rattle.std.specs.declared.option.Option.{Option}
 use Rattle.std.specs.Prelude.{if◌then◌else◌, max, not, slice_index}
 use Rattle.std.proofs.Math.Nat.{le-max_left, le-max_right}

@@ -19,7 +19,7 @@ use Rattle.mu_node.specs.Journal.{WasMade}
 use Rattle.mu_node.proofs.Naming.{asker_named}
 use Rattle.mu_pace.specs.Collecting.{LeaderKeeps}
 use Rattle.mu_pace.specs.Counters.{AtEachStep, AtEachMoment}
-use Rattle.mu_pace.proofs.Counting.{steps_before, moments_more}
+use Rattle.mu_pace.proofs.Counting.{steps_before}
 use Rattle.mu_alive.specs.Failing.{failing_steps}
 use Rattle.mu_alive.specs.Last.{LeadsLast, NamesItself}
 use Rattle.mu_alive.specs.Turns.{AreInTurn}
@@ -27,8 +27,7 @@ use Rattle.mu_alive.proofs.Beginning.{grants_before, reads_before}
 use Rattle.mu_alive.proofs.Cutting.{Located, located, moments_of}
 use Rattle.mu_alive.proofs.Failing.{held_failed}
 use Rattle.mu_alive.proofs.Enough.{asks_before, outrun_before}
-use Rattle.mu_alive.proofs.TurnGrants.{turns_before}
-use Rattle.mu_alive.proofs.Turns.{begun-part}
+use Rattle.mu_alive.proofs.Turns.{begun-part, turns_before}
 use Rattle.mu_cluster.specs.Rounds.{part_of}
 use Rattle.mu_cluster.proofs.InTurn.{asked, begins_ask, insider, none_left}
 use Rattle.mu_cluster.proofs.Living.{names_itself, none_of}
@@ -40,6 +39,7 @@ use Rattle.mu_cluster.proofs.Turning.{outlasted}
 use Rattle.mu_pace.proofs.Pasts.{cut}
 use Rattle.mu_alive.proofs.Settling.{score-part}
 use Rattle.mu_model.specs.Steps.{is_named}
+use Rattle.mu_alive.proofs.Spreading.{moments_more}
 
 -- who makes no events has none
 none_there : (events : List Event) → length events ≡ 0 → events ≡ []

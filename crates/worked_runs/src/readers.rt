@@ -10,7 +10,6 @@ use snap_reads::{Lived, Sight, live, start};
 use std::alloc::Global;
 use std::sync::atomic::{AtomicU64, Ordering};
 use std::test::Fail;
-use std::thread;
 use std::thread::Threads;
 
 /// The put of a text at a key of client 0, with its number.
