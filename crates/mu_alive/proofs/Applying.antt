@@ -16,8 +16,8 @@ use Rattle.mu_agree.proofs.Phases.{known_chosen}
 use Rattle.mu_agree.proofs.Sessions.{batch_within, mark_no_batch, row_within}
 use Rattle.mu_agree.proofs.Sound.{Fits, by_batch, by_mark, chosen_sound}
 use Rattle.mu_alive.specs.Alone.{WritesAlone}
-use Rattle.mu_alive.specs.Enough.{LoneLeadersApplyAll}
-use Rattle.mu_alive.proofs.Enough.{knows_all_in_time}
+use Rattle.mu_alive.specs.Last.{LoneWritersApplyAll}
+use Rattle.mu_alive.proofs.Lasting.{last_knows_all}
 use Rattle.mu_pace.proofs.Pasts.{written-own}
 
 -- who wrote a word is a
@@ -79,5 +79,5 @@ all_front test (x ∷ xs) all = go (test x) (all 0 x refl) (all_front test xs (�
 pub applied_is_known : (c : Config) (a : ℕ) (past : List Event) → IsConfig c → IsLegalHistory c past → WritesAlone a past → applied c a (part a past) ≡ known c a (part a past)
 applied_is_known c a past good legal alone = all_front (λ v. has_entry c a v (part a past)) (known c a (part a past)) (λ i v at. entry_had c a i v past good legal alone at)
 
-pub applies_all : LoneLeadersApplyAll
-applies_all c live a past good large lone alone many = ap (holds_all c) (applied_is_known c a past good lone.legal alone) ∙ knows_all_in_time c live a past good large lone many
+pub writer_applies_all : LoneWritersApplyAll
+writer_applies_all c live a start past good large last alone many = ap (holds_all c) (applied_is_known c a past good last.legal alone) ∙ last_knows_all c live a start past good large last many

@@ -1,5 +1,5 @@
--- A replica that asks alone reads a minimum in time.
-use Rattle.std.proofs.Common.{◌≡◌, ℕ, suc, zero, ◌+◌, ◌-◌, ◌*◌, ◌<◌, ◌≤◌, ◌==◌, ◌&&◌, ◌||◌, not, inl, inr, Bool, true, false, cond, Some, None, List, [], ◌∷◌, ◌++◌, length, refl, sym, ◌∙◌, ap, arith, subst, true≢false, append_assoc, append-nil}
+-- A replica that names itself, and reads note the grants of a majority to it, reads a minimum in time.
+use Rattle.std.proofs.Common.{◌≡◌, ℕ, suc, zero, ◌+◌, ◌-◌, ◌*◌, ◌<◌, ◌≤◌, ◌==◌, ◌&&◌, ◌||◌, not, inl, inr, Bool, true, false, cond, Some, None, List, [], ◌∷◌, ◌++◌, length, refl, sym, ◌∙◌, ap, arith, subst, true≢false, append_assoc}
 use Rattle.std.specs.declared.option.Option.{Option}
 use Rattle.std.specs.Prelude.{is_some, min, nat_le}
 use Rattle.std.proofs.lemmas.Bool.{and_from, cases_lt, eq-eqb}
@@ -8,45 +8,35 @@ use Rattle.mu_model.specs.declared.config.Config.{Config}
 use Rattle.mu_model.specs.declared.event.Answer.{Answer}
 use Rattle.mu_model.specs.declared.event.Event.{Event}
 use Rattle.mu_model.specs.declared.event.Verb.{Verb}
-use Rattle.mu_model.specs.Bounds.{cycle}
 use Rattle.mu_model.specs.Diligence.{GrantsInTime, ReadsInTime, has_to_ask, is_confirmed, may_ask_anew, was_unnamed}
 use Rattle.mu_model.specs.Histories.{all_below, count_below, has, how_many, newer_or, newest, part}
 use Rattle.mu_model.specs.Leaderships.{begins_leadership, fence_seen, grant_for, has_begun, is_over, leadership, majority_of, noted_grant}
-use Rattle.mu_model.specs.Legal.{IsLegalHistory}
-use Rattle.mu_model.specs.Regions.{asks, fence_owner, is_ask_by}
+use Rattle.mu_model.specs.Regions.{asks, is_ask_by}
 use Rattle.mu_model.specs.Steps.{has_min, is_any_fencing, is_any_fencing_verb, is_asking, is_asking_verb, is_fencing, is_min, is_named, knows_all, leads}
-use Rattle.mu_model.specs.Stretches.{IsStretch, is_replication}
-use Rattle.mu_model.proofs.Parts.{filter-append}
-use Rattle.mu_agree.proofs.Legal.{legal_older}
+use Rattle.mu_model.specs.Stretches.{is_replication}
 use Rattle.mu_agree.proofs.Members.{over-part}
 use Rattle.mu_pace.specs.Collecting.{LeaderKeeps}
 use Rattle.mu_pace.specs.Counters.{AtEachMoment, AtEachStep, fewer, left_after, steps_left}
 use Rattle.mu_pace.specs.Watches.{confirming, is_confirming}
 use Rattle.mu_pace.proofs.Counting.{last_moment, moments_before, steps_before, both_moments}
 use Rattle.mu_alive.specs.Alone.{AsksAlone}
-use Rattle.mu_alive.specs.Enough.{asking_steps, beginning_steps, granting_steps}
-use Rattle.mu_alive.specs.Lone.{IsNear, LeadsAlone}
-use Rattle.mu_alive.proofs.Alone.{never_over}
-use Rattle.mu_alive.proofs.Cutting.{located, met}
-use Rattle.mu_alive.proofs.Granting.{granted}
-use Rattle.mu_alive.proofs.Moments.{AsksEach, From, asks_there, from_each}
-use Rattle.mu_alive.proofs.Noting.{confirmed, notes_owned, reads_fence}
-use Rattle.mu_pace.proofs.Pasts.{has_later, cut}
+use Rattle.mu_alive.specs.Enough.{asking_steps}
+use Rattle.mu_alive.proofs.Cutting.{located, met, longer, there_in_part}
+use Rattle.mu_alive.proofs.Moments.{AsksEach, From}
+use Rattle.mu_alive.proofs.Noting.{confirmed, reads_fence}
+use Rattle.mu_pace.proofs.Pasts.{has_later, cut, some_counted}
 
 -- what a host keeps it kept before
 pub reads_before : (c : Config) (r : ℕ) (newer older : List Event) → ReadsInTime c r (newer ++ older) → ReadsInTime c r older
 reads_before c r newer older held = record {
-  beat = λ window o s l. held.beat window o (more window o s) l;
-  beats = λ q window o low other s l. held.beats q window o low other (more window o s) l;
-  asks = λ w window o low s l. held.asks w window o low (more window o s) l;
-  apart = λ q later earlier between o s x y. held.apart q later earlier between o (more (later ∷ between ++ earlier ∷ []) o s) x y;
+  beat = λ window o s l. held.beat window o (longer newer older window o s) l;
+  beats = λ q window o low other s l. held.beats q window o low other (longer newer older window o s) l;
+  asks = λ w window o low s l. held.asks w window o low (longer newer older window o s) l;
+  apart = λ q later earlier between o s x y. held.apart q later earlier between o (longer newer older (later ∷ between ++ earlier ∷ []) o s) x y;
 }
-  where
-    more : (window o : List Event) → IsStretch older window o → IsStretch (newer ++ older) window o
-    more window o s = record { newer = newer ++ s.newer; is = ap (λ l. newer ++ l) s.is ∙ sym (append_assoc newer s.newer (window ++ o)) }
 
 pub grants_before : (c : Config) (r : ℕ) (newer older : List Event) → GrantsInTime c r (newer ++ older) → GrantsInTime c r older
-grants_before c r newer older held w e window o s = held w e window o (record { newer = newer ++ s.newer; is = ap (λ l. newer ++ l) s.is ∙ sym (append_assoc newer s.newer (window ++ e ∷ o)) })
+grants_before c r newer older held w e window o s = held w e window o (longer newer older window (e ∷ o) s)
 
 pub alone_before : (a : ℕ) (newer older : List Event) → AsksAlone a (newer ++ older) → AsksAlone a older
 alone_before a [] older alone = alone
@@ -72,65 +62,11 @@ cut_at a k (e ∷ events) few = elim (cases_lt (length (part a events)) k) [
 
 -- an ask in the part is one that the region counts
 pub asked_once : (a p : ℕ) (past : List Event) → has (is_asking p) (part a past) ≡ true → 1 ≤ asks a p past
-asked_once a p [] some = absurd (true≢false (sym some))
-asked_once a p (e ∷ past) some = go (e.by == a) refl some (asked_once a p past)
+asked_once a p past some = some_counted (λ e. is_ask_by a p e.by e.verb) past (there_in_part (is_asking p) (λ e. is_ask_by a p e.by e.verb) a (λ e own asks. by_a e.by e.verb own asks) past some)
   where
-    same : (by : ℕ) (verb : Verb) → (by == a) ≡ true → is_ask_by a p by verb ≡ is_asking_verb p verb
-    same by (Verb.Ask q) h = rw h refl
-    same by verb h = refl
-
-    counts : (t : Bool) → 1 ≤ asks a p past → 1 ≤ cond t (asks a p past + 1) (asks a p past)
-    counts true l = omega (arith, l)
-    counts false l = l
-
-    here : (t u : Bool) → t ≡ u → cond u true (has (is_asking p) (part a past)) ≡ true → (has (is_asking p) (part a past) ≡ true → 1 ≤ asks a p past) → 1 ≤ cond t (asks a p past + 1) (asks a p past)
-    here true u h some ih = omega arith
-    here false true h some ih = absurd (true≢false (sym h))
-    here false false h some ih = ih some
-
-    go : (t : Bool) → (e.by == a) ≡ t → has (is_asking p) (cond t (e ∷ part a past) (part a past)) ≡ true → (has (is_asking p) (part a past) ≡ true → 1 ≤ asks a p past) → 1 ≤ cond (is_ask_by a p e.by e.verb) (asks a p past + 1) (asks a p past)
-    go true own some ih = here (is_ask_by a p e.by e.verb) (is_asking p e) (same e.by e.verb own) some ih
-    go false own some ih = counts (is_ask_by a p e.by e.verb) (ih some)
-
--- after this many steps each region is granted
-owned : (c : Config) (live : ℕ → Bool) (a p : ℕ) (newer older : List Event) → LeadsAlone c live a (newer ++ older) → AtEachMoment (From 0 (λ now. has_to_ask c a now ≡ true)) (part a (newer ++ older)) → p < c.replicas → live p ≡ true → granting_steps c ≤ length (part a older) → fence_owner p older ≡ Some a
-owned c live a p newer older lone waits low lives long =
-    subst (λ l. fence_owner p l ≡ Some a) (sym first.is)
-    (granted c a p first.newer first.rest lone.inside legal alone
-    (reads_before c p (part p newer) (part p (first.newer ++ first.rest)) (subst (ReadsInTime c p) (parts p) (lone.reads p low lives)))
-    (grants_before c p (part p newer) (part p (first.newer ++ first.rest)) (subst (GrantsInTime c p) (parts p) (lone.grants p low lives)))
-    (asked_once a p first.rest asked) enough)
-  where
-    first : CutAt a (asking_steps c) older
-    first = cut_at a (asking_steps c) older (omega (arith, long))
-
-    whole : newer ++ older ≡ newer ++ (first.newer ++ first.rest)
-    whole = ap (λ l. newer ++ l) first.is
-
-    parts : (r : ℕ) → part r (newer ++ older) ≡ part r newer ++ part r (first.newer ++ first.rest)
-    parts r = ap (part r) whole ∙ filter-append (λ e. e.by == r) newer (first.newer ++ first.rest)
-
-    legal : IsLegalHistory c (first.newer ++ first.rest)
-    legal = legal_older c newer (first.newer ++ first.rest) (subst (IsLegalHistory c) whole lone.legal)
-
-    alone : AsksAlone a (first.newer ++ first.rest)
-    alone = alone_before a newer (first.newer ++ first.rest) (subst (AsksAlone a) whole lone.alone)
-
-    asked : has (is_asking p) (part a first.rest) ≡ true
-    asked =
-        let split = parts a ∙ ap (λ l. part a newer ++ l) (filter-append (λ e. e.by == a) first.newer first.rest) ∙ sym (append_assoc (part a newer) (part a first.newer) (part a first.rest)) in
-        asks_there c 0 a p (part a (newer ++ older)) (part a newer ++ part a first.newer) (part a first.rest) [] lone.asks (split ∙ ap (λ l. (part a newer ++ part a first.newer) ++ l) (sym (append-nil (part a first.rest)))) first.count (omega arith) low waits
-
-    enough : 2 * cycle c ≤ length (part p first.newer)
-    enough =
-        let now : AtEachMoment (IsNear c live a) (newer ++ (first.newer ++ first.rest)) = subst (AtEachMoment (IsNear c live a)) whole lone.near in
-        let at = moments_before (IsNear c live a) newer (first.newer ++ first.rest) now in
-        let late = (last_moment (IsNear c live a) (first.newer ++ first.rest) at p low lives).1 in
-        let early = (last_moment (IsNear c live a) first.rest (moments_before (IsNear c live a) first.newer first.rest at) p low lives).0 in
-        let same = ap (λ l. length (part a l)) first.is in
-        let split = ap length (filter-append (λ e. e.by == p) first.newer first.rest) ∙ length-append (part p first.newer) (part p first.rest) in
-        let count = first.count in
-        omega (arith, late, early, same, split, count, long)
+    by_a : (by : ℕ) (verb : Verb) → by ≡ a → is_asking_verb p verb ≡ true → is_ask_by a p by verb ≡ true
+    by_a by (Verb.Ask q) own asks = and_from (by == a) (q == p) (eq-eqb by a own) asks
+    by_a by verb own asks = absurd (true≢false (sym asks))
 
 -- an event that reads no fence and begins no leadership leaves what is noted
 unfenced : (a p by : ℕ) (verb : Verb) (answer : Answer) → is_any_fencing_verb verb ≡ false → fence_seen a p by verb answer ≡ None
@@ -235,18 +171,6 @@ unnamed_since c a start (e ∷ newer) older first late none begins =
     past : List Event
     past = newer ++ first ∷ older
 
-    go : (t u b : Bool) → u ≡ true → was_unnamed c a past ≡ false → cond (t && not u) true (cond b false (was_unnamed c a past)) ≡ false
-    go true true true h ih = refl
-    go true true false h ih = ih
-    go true false b h ih = absurd (true≢false (sym h))
-    go false u true h ih = refl
-    go false u false h ih = ih
-
--- no event of a comes while another is named
-pub never_unnamed : (c : Config) (a : ℕ) (past : List Event) → AtEachMoment (λ now. is_named c a now ≡ true) past → was_unnamed c a past ≡ false
-never_unnamed c a [] named = refl
-never_unnamed c a (e ∷ past) named = go (is_replication past e) (is_named c a past) (begins_leadership a e) (last_moment (λ now. is_named c a now ≡ true) past named.0) (never_unnamed c a past named.0)
-  where
     go : (t u b : Bool) → u ≡ true → was_unnamed c a past ≡ false → cond (t && not u) true (cond b false (was_unnamed c a past)) ≡ false
     go true true true h ih = refl
     go true true false h ih = ih
@@ -392,31 +316,3 @@ asks_fail c live a start k past inside lives majority after led quiet may two =
     let long = two.long in
     let same = ap length soon.before in
     not_twice c live a start soon.newer two.between soon.older two.later two.first inside lives majority (may (late.newer ++ two.later ∷ []) soon.newer soon.older two.first whole (omega (arith, long, same)) two.asks_first soon.own) mine (omega (arith, long, same, after)) still kept two.asks_later two.asks_first late.own soon.own
-
--- if a asks alone
-alone_confirms : (c : Config) (live : ℕ → Bool) (a : ℕ) (past newer between oldest : List Event) (first : Event) → LeadsAlone c live a past → AtEachMoment (From 0 (λ now. has_to_ask c a now ≡ true)) (part a past) → past ≡ newer ++ (between ++ first ∷ oldest) → granting_steps c ≤ length (part a oldest) → is_asking 0 first ≡ true → first.by ≡ a
-    → MayConfirm c live a (between ++ first ∷ oldest)
-alone_confirms c live a past newer between oldest first lone waits is long asks own = record { on = never_over c a (between ++ first ∷ oldest) legal alone; notes = λ p low lives read. ap is_some ((notes_owned c a p between oldest first asks (eq-eqb first.by a own) (owns p low lives) legal alone).noted read) }
-  where
-    legal : IsLegalHistory c (between ++ first ∷ oldest)
-    legal = legal_older c newer (between ++ first ∷ oldest) (subst (IsLegalHistory c) is lone.legal)
-
-    alone : AsksAlone a (between ++ first ∷ oldest)
-    alone = alone_before a newer (between ++ first ∷ oldest) (subst (AsksAlone a) is lone.alone)
-
-    deeper : past ≡ (newer ++ (between ++ first ∷ [])) ++ oldest
-    deeper = is ∙ ap (λ l. newer ++ l) (sym (append_assoc between (first ∷ []) oldest)) ∙ sym (append_assoc newer (between ++ first ∷ []) oldest)
-
-    owns : (p : ℕ) → p < c.replicas → live p ≡ true → fence_owner p oldest ≡ Some a
-    owns p low lives = owned c live a p (newer ++ (between ++ first ∷ [])) oldest (subst (LeadsAlone c live a) deeper lone) (subst (λ l. AtEachMoment (From 0 (λ now. has_to_ask c a now ≡ true)) (part a l)) deeper waits) low lives long
-
-pub begins_in_time : (c : Config) (live : ℕ → Bool) (a : ℕ) (past : List Event) → LeadsAlone c live a past → AtEachMoment (λ mine. knows_all c a mine ≡ false) (part a past) → AtEachMoment (λ mine. has_min a mine ≡ false) (part a past) → length (part a past) < beginning_steps c
-begins_in_time c live a past lone lacks none = elim (cases_lt (length (part a past)) (beginning_steps c)) [
-  | inl few ↦ few
-  | inr many ↦
-      let named = from_each 0 (λ now. is_named c a now ≡ true) (part a past) lone.named in
-      let waits = has_to_ask_all c a 0 (part a past) named lacks none in
-      let l = lone.inside in
-      absurd (asks_fail c live a 0 (granting_steps c) past lone.inside lone.lives lone.majority (omega arith) lone.led (both_moments (λ now. has_min a now ≡ false) (From 0 (λ now. is_named c a now ≡ true)) (HasNoMin c a 0) (λ now m n late. (m, n late)) (part a past) none named)
-      (λ newer between oldest first is long asks own. alone_confirms c live a past newer between oldest first lone waits is long asks own) (two_asks c 0 (granting_steps c) (part a past) (λ p newer window older is long late low. asks_there c 0 a p (part a past) newer window older lone.asks is long late low waits) many (omega arith) (omega (arith, l))))
-]

@@ -37,7 +37,7 @@ use Rattle.mu_alive.proofs.Calm.{PutsInside, count_few, limit_fits, paid_few}
 use Rattle.mu_alive.proofs.Cutting.{Located, located}
 use Rattle.mu_alive.proofs.Enough.{puts_inside}
 use Rattle.mu_alive.proofs.Moments.{at_least_halves, halves}
-use Rattle.mu_alive.proofs.Waiting.{Closed, Pending, closed_or, more_steps, open_short, pending_on, stays_both, stays_newer, stays_older, unpaid}
+use Rattle.mu_alive.proofs.Waiting.{Closed, Pending, closed_or, steps_both, open_short, pending_on, stays_both, stays_newer, stays_older, unpaid}
 use Rattle.mu_alive.proofs.Steady.{Steady, away_by, joins_here, member_numbered, min_stays, not_away, numbered_on, numbered_stays, raises_brought, same_known, steady_steps}
 use Rattle.mu_pace.proofs.Pasts.{possible_before, cut, Cut}
 
@@ -308,7 +308,7 @@ joins_in_time c a p l later first base good goes granted late knows long enough 
           let k : Pending a (joining c a p) 4 (x.event ∷ past) = record { window = []; opened = x.event ∷ past; amount = 4; is = refl; same = refl; allows = allowed_here (is_welcoming c a p) (λ now. 4) past x.event welcoming; few = omega arith; unclosed = refl } in
           let short = open_short a (joining c a p) 4 (later ++ x.newer) (x.event ∷ past) (subst (AtEachMoment (IsInTime (joining c a p))) whole (joining_moments c a p (later ++ (first ++ base)) granted.inside goes.led)) k open_yet in
           let none = unpaid ((later ++ x.newer) ++ []) (x.event ∷ past) in
-          let more = more_steps is_replication later x.newer (x.event ∷ past) in
+          let more = steps_both is_replication later x.newer (x.event ∷ past) in
           let same = ap (replications later) split in
           absurd (omega (arith, short, none, more, same, enough))
     ]

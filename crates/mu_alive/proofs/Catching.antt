@@ -21,7 +21,7 @@ use Rattle.mu_alive.proofs.Following.{own_fuo, read_is_less}
 use Rattle.mu_alive.proofs.Gaining.{caught_up_gains, gain}
 use Rattle.mu_alive.proofs.KnowsMost.{knows_most}
 use Rattle.mu_alive.proofs.Opening.{Committed, Open, commits_next}
-use Rattle.mu_alive.proofs.Rising.{Decided, Lacking, Later, Ready, applies_own, decided_on, few_gained, few_known, fuos_read, fuos_rise, gains_one, heads_rise, lacking_before, lacking_on, later, ready_on, reserve_fits}
+use Rattle.mu_alive.proofs.Rising.{Decided, Lacking, Later, Ready, applies_own, decided_on, few_gained, few_known, fuos_read, fuos_rise, gains_one, heads_rise, lacking_before, lacking_on, later, ready_on, reserve_fits, lone_of}
 
 -- all of the first numbers reach it, or one doesn't
 pub all_or_one : (n k : ℕ) (f : ℕ → ℕ) → ((r : ℕ) → r < n → k ≤ f r) ⊎ ((r : ℕ) × ((r < n) × (f r < k)))
@@ -56,7 +56,7 @@ record Catching (c : Config) (live : ℕ → Bool) (a left gains m x rest k : �
 
 -- if all have caught up, their heads rise, and the next entry is committed
 caught_up : (c : Config) (live : ℕ → Bool) (a left gains m x rest k : ℕ) (base whole newer older : List Event) → Catching c live a left gains m x rest k base whole newer older → ((r : ℕ) → r < c.replicas → k ≤ length (applied c r (part r older))) → ⊥
-caught_up c live a left gains m x rest k base whole newer older s had = committed (commits_next c live a k x rest base at.upper moment at.there.good (reserve_fits c at.there.good) at.lacking.lone at.lacking.lacks at.open_yet heads at.knows s.pays (let n = at.above in let l = s.long in omega (arith, n, l)))
+caught_up c live a left gains m x rest k base whole newer older s had = committed (commits_next c live a k x rest base at.upper moment at.there.good (reserve_fits c at.there.good) at.lacking.last at.lacking.lacks at.open_yet heads at.knows s.pays (let n = at.above in let l = s.long in omega (arith, n, l)))
   where
     at : Later c live a (cycle c + 2) x k base whole newer older
     at = later c live a (cycle c + 2) x k base whole newer older s.lacking s.is s.open_yet (let e = s.exact in omega (arith, e)) (let l = s.long in omega (arith, l))
@@ -131,10 +131,10 @@ behind c live a left gains m x rest k q base whole newer older s low lags again 
       | inl less ↦ one r inside less
       | inr had ↦
           let first = one q low lags in
-          let most = (knows_most c a moment at.there.lone.legal at.there.lone.alone).others q in
+          let most = (knows_most c a moment at.there.last.legal (lone_of c live a moment at.there)).others q in
           let more = applied_grows c r (part r at.lower) (part r older) in
           let same = ap (λ z. length (applied c r z)) (filter-append (λ e. e.by == r) at.lower older) in
-          let as_much = caught_up_gains c q r moment at.there.lone.legal (omega (arith, most, still, had, more, same)) in
+          let as_much = caught_up_gains c q r moment at.there.last.legal (omega (arith, most, still, had, more, same)) in
           omega (arith, first, as_much)
     ]
 
@@ -198,12 +198,12 @@ rises c live a left gains m x rest base whole newer older lacking is ready o ent
     raised = fuos_rise c live a m first.lower older first.there o.read ready first.taken
 
     read : (r : ℕ) → r < c.replicas → r ≢ a → k ≤ greatest_fuo_read r r (part r moment)
-    read = fuos_read c live a k second.lower risen second.there (λ p low. in_region c a p k risen first.there.lone.legal (raised p low)) (let taken = second.taken in omega (arith, taken))
+    read = fuos_read c live a k second.lower risen second.there (λ p low. in_region c a p k risen first.there.last.legal (raised p low)) (let taken = second.taken in omega (arith, taken))
 
     own : (r : ℕ) → r < c.replicas → k ≤ own_fuo r (part r moment)
     own r low = elim (cases_eq r a) [
       | inl same ↦
-          let high = raised a first.there.lone.inside in
+          let high = raised a first.there.last.inside in
           let up = greatest_along (λ f. fuo_read_or_raised a a f.by f.verb f.answer) (part a second.lower) (part a risen) in
           let mine = ap (own_fuo a) (filter-append (λ e. e.by == a) second.lower risen) in
           let e = ap (λ i. own_fuo i (part i moment)) same in

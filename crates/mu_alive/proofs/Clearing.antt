@@ -28,12 +28,11 @@ use Rattle.mu_pace.proofs.Pasts.{cut}
 use Rattle.mu_alive.specs.Alone.{AsksAlone}
 use Rattle.mu_alive.specs.Clearing.{Clears, LeastIsGranted, LeastKeepsRegions, OldAsksAreServed, clearing_steps}
 use Rattle.mu_alive.specs.Settling.{KeepGoing, ReadsOpen}
-use Rattle.mu_alive.proofs.Alone.{owner-part, seen-part}
 use Rattle.mu_alive.proofs.Beginning.{CutAt, alone_before, cut_at}
 use Rattle.mu_alive.proofs.Calm.{count_adds, count_few}
 use Rattle.mu_alive.proofs.Cutting.{Located, located, met, more_pass}
 use Rattle.mu_alive.proofs.Settling.{goes_on_before, least_asks}
-use Rattle.mu_alive.proofs.TurnOwners.{Waits, served-part, waits}
+use Rattle.mu_alive.proofs.TurnOwners.{Waits, served-part, waits, owner-part, seen-part}
 use Rattle.mu_alive.proofs.SeenAsks.{HasSeen, Hosts, Lacks, SomeWaits, closes_for, hosts_after, hosts_before, lacked, lacked_before, owner_is_served, read_sees, seen_by, seen_on, served_few}
 
 -- how many others than a lack, counted twice, and one more if a doesn't own the region

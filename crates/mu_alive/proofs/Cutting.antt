@@ -1,8 +1,10 @@
 -- Cutting lists of events, and finding events in them.
-use Rattle.std.proofs.Common.{◌≡◌, ℕ, ◌+◌, ◌≤◌, ◌==◌, Bool, true, false, cond, List, [], ◌∷◌, ◌++◌, refl, sym, ◌∙◌, ap, arith, eqb-true, subst, true≢false}
+use Rattle.std.proofs.Common.{◌≡◌, ℕ, ◌+◌, ◌≤◌, ◌==◌, Bool, true, false, cond, List, [], ◌∷◌, ◌++◌, refl, sym, ◌∙◌, ap, arith, eqb-true, subst, true≢false, append_assoc}
 use Rattle.mu_model.specs.declared.event.Event.{Event}
 use Rattle.mu_pace.specs.Counters.{AtEachMoment}
 use Rattle.mu_model.specs.Histories.{has, how_many, part}
+use Rattle.mu_model.specs.Stretches.{IsStretch}
+use Rattle.mu_pace.proofs.Pasts.{has_later}
 
 -- the newest event that passes
 pub record Met (test : Event → Bool) (events : List Event) : Type 0 where
@@ -75,3 +77,14 @@ moments_of a P (e ∷ past) all = go (e.by == a) refl (moments_of a P past (λ n
     go : (t : Bool) → (e.by == a) ≡ t → AtEachMoment P (part a past) → AtEachMoment P (cond t (e ∷ part a past) (part a past))
     go true own rest = (rest, subst P (ap (λ t. cond t (e ∷ part a past) (part a past)) own) (all [] (e ∷ past) refl))
     go false other rest = rest
+
+-- an event that passes in a part is among the events
+pub there_in_part : (test found : Event → Bool) (r : ℕ) → ((e : Event) → e.by ≡ r → test e ≡ true → found e ≡ true) → (past : List Event) → has test (part r past) ≡ true → has found past ≡ true
+there_in_part test found r finds past some =
+    let m = met test (part r past) some in
+    let l = located r past m.newer m.older m.event m.is in
+    ap (has found) l.is ∙ has_later found l.newer (m.event ∷ l.older) (ap (λ t. cond t true (has found l.older)) (finds m.event l.own m.passes))
+
+-- a stretch of older events is one of all
+pub longer : (newer older window base : List Event) → IsStretch older window base → IsStretch (newer ++ older) window base
+longer newer older window base s = record { newer = newer ++ s.newer; is = ap (λ l. newer ++ l) s.is ∙ sym (append_assoc newer s.newer (window ++ base)) }

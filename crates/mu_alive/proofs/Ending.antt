@@ -18,12 +18,11 @@ use Rattle.mu_agree.proofs.Knowing.{known_stays}
 use Rattle.mu_pace.proofs.Growing.{known_grows}
 use Rattle.mu_alive.specs.Bringing.{most_paid}
 use Rattle.mu_alive.specs.Lagging.{gain_steps}
-use Rattle.mu_alive.proofs.Enough.{holds_more}
+use Rattle.mu_alive.proofs.Enough.{holds_more, lacks_older}
 use Rattle.mu_alive.proofs.Fetching.{applied_grows, front_begins, some_completed}
 use Rattle.mu_alive.proofs.Gaining.{gain, gain_few, gain_stays}
 use Rattle.mu_alive.proofs.GainingUpTo.{gain_up_to, up_to_gain}
 use Rattle.mu_alive.proofs.Moments.{adds_up}
-use Rattle.mu_alive.proofs.Rising.{lacks_older}
 use Rattle.mu_alive.proofs.Stands.{Ticked}
 use Rattle.mu_alive.proofs.Stopped.{Waits}
 

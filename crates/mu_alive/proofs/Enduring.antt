@@ -30,14 +30,12 @@ use Rattle.mu_pace.proofs.Pasts.{not_true}
 use Rattle.mu_alive.specs.Clearing.{Clears}
 use Rattle.mu_alive.specs.Resuming.{FollowsListing, PutsFirst, is_min_of}
 use Rattle.mu_alive.specs.Settling.{KeepGoing}
-use Rattle.mu_alive.proofs.Alone.{owner-part, owner_named}
 use Rattle.mu_alive.proofs.Beginning.{begins_now}
 use Rattle.mu_alive.proofs.Clearing.{keeps_regions}
-use Rattle.mu_alive.proofs.LastNoting.{NotesIt, note_step}
-use Rattle.mu_alive.proofs.Noting.{reads_fence, some_read}
+use Rattle.mu_alive.proofs.Noting.{reads_fence, some_read, NotesIt, note_step}
 use Rattle.mu_alive.proofs.Settling.{goes_on_before}
 use Rattle.mu_alive.proofs.TurnFences.{AtTurn, MembersHeld, OpensHeld, members_step, opens_step, over_step}
-use Rattle.mu_alive.proofs.TurnOwners.{NotesStanding, closing-part, notes_step}
+use Rattle.mu_alive.proofs.TurnOwners.{NotesStanding, closing-part, notes_step, owner-part, owner_named}
 
 -- the event is a read by a of the minimum of p
 abbrev pub reads_min : ℕ → ℕ → Event → Bool

@@ -1,16 +1,15 @@
--- A replica that asks alone, while all keep up with it, knows every command in time.
-use Rattle.std.proofs.Common.{◌≡◌, ◌⊎◌, ℕ, ◌+◌, ◌*◌, ◌<◌, ◌==◌, ◌&&◌, ◌||◌, not, inl, inr, Bool, true, false, cond, Some, None, List, [], ◌∷◌, ◌++◌, length, refl, sym, ◌∙◌, ap, arith, subst, true≢false, append_assoc}
+-- A replica that leads on, in a large ring, knows every command soon after its first minimum.
+use Rattle.std.proofs.Common.{◌≡◌, ◌⊎◌, ℕ, ◌+◌, ◌*◌, ◌<◌, ◌==◌, ◌&&◌, ◌||◌, not, inl, inr, Bool, true, false, cond, Some, None, List, [], ◌∷◌, ◌++◌, length, refl, sym, ◌∙◌, ap, arith, subst, true≢false, eqb-true}
 use Rattle.std.specs.declared.option.Option.{Option}
 use Rattle.std.specs.Prelude.{is_some}
 use Rattle.std.proofs.lemmas.Bool.{and_parts, lt-leb}
-use Rattle.std.proofs.lemmas.List.{length-append}
 use Rattle.mu_model.specs.declared.config.Config.{Config}
 use Rattle.mu_model.specs.declared.event.Answer.{Answer}
 use Rattle.mu_model.specs.declared.event.Event.{Event}
 use Rattle.mu_model.specs.declared.event.Verb.{Verb}
 use Rattle.mu_model.specs.Allowed.{Needs}
 use Rattle.mu_model.specs.Contents.{IsConfig, holds_all, includes, marked, row_count, rows_in}
-use Rattle.mu_model.specs.Diligence.{AsksInTime, GrantsInTime, ReadsInTime, is_milestone}
+use Rattle.mu_model.specs.Diligence.{AsksInTime, is_milestone}
 use Rattle.mu_model.specs.Ends.{outrun, outrun_by}
 use Rattle.mu_model.specs.Histories.{all_below, earlier_or, has, part}
 use Rattle.mu_model.specs.Knowledge.{known}
@@ -19,30 +18,25 @@ use Rattle.mu_model.specs.Legal.{IsLegalHistory}
 use Rattle.mu_model.specs.Parts.{IsPossible}
 use Rattle.mu_model.specs.Room.{head_read, lacks_room, reserve}
 use Rattle.mu_model.specs.Steps.{commits_more, has_min, is_asking_verb, is_lagging, is_min, is_min_verb, is_named, knows_all}
-use Rattle.mu_model.specs.Stretches.{IsStretch, is_replication}
+use Rattle.mu_model.specs.Stretches.{is_replication}
 use Rattle.mu_model.proofs.Basics.{none_some}
-use Rattle.mu_model.proofs.Parts.{filter-append, part_is_possible}
+use Rattle.mu_model.proofs.Parts.{part_is_possible, filter-append}
 use Rattle.mu_model.proofs.Scans.{all_at, each_all, rows_in-append}
 use Rattle.mu_agree.proofs.Fitting.{parts_fit_law}
 use Rattle.mu_agree.proofs.Knowing.{known_stays}
-use Rattle.mu_agree.proofs.Legal.{legal_older}
-use Rattle.mu_agree.proofs.Members.{over-part}
 use Rattle.mu_agree.proofs.Possible.{parts_shorten_law}
 use Rattle.mu_pace.specs.Collecting.{LeaderKeeps, LeaderKeepsBy}
 use Rattle.mu_pace.specs.Counters.{AtEachMoment, AtEachStep, IsInTime}
 use Rattle.mu_pace.specs.Watches.{progressing}
-use Rattle.mu_pace.proofs.Counting.{last_moment, moments_before, steps_before, both_moments}
+use Rattle.mu_pace.proofs.Counting.{last_moment, both_moments, moments_before}
 use Rattle.mu_pace.proofs.Positions.{known_fits}
-use Rattle.mu_alive.specs.Alone.{AsksAlone}
 use Rattle.mu_alive.specs.Calm.{IsCalm, calm_steps}
-use Rattle.mu_alive.specs.Enough.{HasLargeRing, LoneLeadersKnowAll, beginning_steps}
-use Rattle.mu_alive.specs.Lone.{IsNear, LeadsAlone}
-use Rattle.mu_alive.proofs.Alone.{never_over}
-use Rattle.mu_alive.proofs.Beginning.{alone_before, begins_in_time, cause_is, grants_before, never_unnamed, reads_before}
+use Rattle.mu_alive.specs.Enough.{HasLargeRing}
 use Rattle.mu_alive.proofs.Calm.{calm_commits}
-use Rattle.mu_alive.proofs.Cutting.{located}
 use Rattle.mu_alive.proofs.Moments.{at_least_halves}
 use Rattle.mu_pace.proofs.Pasts.{min_on, min_now}
+use Rattle.mu_alive.proofs.Cutting.{longer, moments_of}
+use Rattle.mu_agree.proofs.Legal.{legal_older}
 
 -- a first minimum of a leadership, before which the journal has none under way
 pub record FirstMin (a : ℕ) (mine : List Event) : Type 0 where
@@ -93,31 +87,9 @@ outrun_before c r (e ∷ newer) older none = outrun_before c r newer older (go (
 
 pub asks_before : (c : Config) (r : ℕ) (newer older : List Event) → AsksInTime c r (newer ++ older) → AsksInTime c r older
 asks_before c r newer older held = record {
-  asks = λ p window o low s n held'. held.asks p window o low (more window o s) n held';
-  fences = λ p window o low s n held'. held.fences p window o low (more window o s) n held';
+  asks = λ p window o low s n held'. held.asks p window o low (longer newer older window o s) n held';
+  fences = λ p window o low s n held'. held.fences p window o low (longer newer older window o s) n held';
 }
-  where
-    more : (window o : List Event) → IsStretch older window o → IsStretch (newer ++ older) window o
-    more window o s = record { newer = newer ++ s.newer; is = ap (λ l. newer ++ l) s.is ∙ sym (append_assoc newer s.newer (window ++ o)) }
-
-pub lone_before : (c : Config) (live : ℕ → Bool) (a : ℕ) (newer older : List Event) → LeadsAlone c live a (newer ++ older) → LeadsAlone c live a older
-lone_before c live a newer older lone = record {
-  inside = lone.inside;
-  lives = lone.lives;
-  majority = lone.majority;
-  legal = legal_older c newer older lone.legal;
-  alone = alone_before a newer older lone.alone;
-  near = moments_before (IsNear c live a) newer older lone.near;
-  reads = λ r low lives. reads_before c r (part r newer) (part r older) (subst (ReadsInTime c r) (split r) (lone.reads r low lives));
-  grants = λ r low lives. grants_before c r (part r newer) (part r older) (subst (GrantsInTime c r) (split r) (lone.grants r low lives));
-  asks = asks_before c a (part a newer) (part a older) (subst (AsksInTime c a) (split a) lone.asks);
-  led = steps_before (LeaderKeeps c a) (part a newer) (part a older) (subst (AtEachStep (LeaderKeeps c a)) (split a) lone.led);
-  named = moments_before (λ mine. is_named c a mine ≡ true) (part a newer) (part a older) (subst (AtEachMoment (λ mine. is_named c a mine ≡ true)) (split a) lone.named);
-  going = outrun_before c a (part a newer) (part a older) (sym (ap (outrun c a) (split a)) ∙ lone.going);
-}
-  where
-    split : (r : ℕ) → part r (newer ++ older) ≡ part r newer ++ part r older
-    split r = filter-append (λ e. e.by == r) newer older
 
 -- at each moment of a's part its leadership isn't over, the part is possible, and a command is missing
 pub record IsFine (c : Config) (a : ℕ) (now : List Event) : Type 0 where
@@ -127,20 +99,7 @@ pub record IsFine (c : Config) (a : ℕ) (now : List Event) : Type 0 where
   pub lacks : knows_all c a now ≡ false
 
 pub possible_moments : (c : Config) (a : ℕ) (past : List Event) → IsLegalHistory c past → AtEachMoment (IsPossible c a) (part a past)
-possible_moments c a [] legal = part_is_possible c a [] legal
-possible_moments c a (e ∷ past) legal = go (e.by == a) (possible_moments c a past legal.0) (part_is_possible c a (e ∷ past) legal)
-  where
-    go : (t : Bool) → AtEachMoment (IsPossible c a) (part a past) → IsPossible c a (cond t (e ∷ part a past) (part a past)) → AtEachMoment (IsPossible c a) (cond t (e ∷ part a past) (part a past))
-    go true ih here = (ih, here)
-    go false ih here = ih
-
-pub lone_on : (c : Config) (a : ℕ) (past : List Event) → IsLegalHistory c past → AsksAlone a past → AtEachMoment (λ now. is_over a now ≡ false) (part a past)
-lone_on c a [] legal alone = refl
-lone_on c a (e ∷ past) legal alone = go (e.by == a) (lone_on c a past legal.0 alone.0) (over-part a (e ∷ past) ∙ never_over c a (e ∷ past) legal alone)
-  where
-    go : (t : Bool) → AtEachMoment (λ now. is_over a now ≡ false) (part a past) → is_over a (cond t (e ∷ part a past) (part a past)) ≡ false → AtEachMoment (λ now. is_over a now ≡ false) (cond t (e ∷ part a past) (part a past))
-    go true ih here = (ih, here)
-    go false ih here = ih
+possible_moments c a past legal = moments_of a (IsPossible c a) past (λ newer older is. part_is_possible c a older (legal_older c newer older (subst (IsLegalHistory c) is legal)))
 
 pub going_moments : (c : Config) (a : ℕ) (mine : List Event) → outrun c a mine ≡ None → AtEachMoment (λ now. outrun c a now ≡ None) mine
 going_moments c a [] none = none
@@ -172,6 +131,10 @@ lacks_moments c r (e ∷ mine) lacks = (lacks_moments c r mine (go (knows_all c 
     go true is = absurd (true≢false (sym (knows_on c r (e ∷ []) mine is) ∙ lacks))
     go false is = is
 
+-- who lacks a command lacked it before
+pub lacks_older : (c : Config) (a : ℕ) (newer older : List Event) → knows_all c a (part a (newer ++ older)) ≡ false → knows_all c a (part a older) ≡ false
+lacks_older c a newer older lacks = last_moment (λ now. knows_all c a now ≡ false) (part a older) (moments_before (λ now. knows_all c a now ≡ false) (part a newer) (part a older) (subst (AtEachMoment (λ now. knows_all c a now ≡ false)) (filter-append (λ e. e.by == a) newer older) (lacks_moments c a (part a (newer ++ older)) lacks)))
+
 pub fine_moments : (c : Config) (a : ℕ) (past : List Event) → IsLegalHistory c past → AtEachMoment (λ now. is_over a now ≡ false) (part a past) → outrun c a (part a past) ≡ None → knows_all c a (part a past) ≡ false → AtEachMoment (IsFine c a) (part a past)
 fine_moments c a past legal on going lacks =
     both_moments (λ now. (is_over a now ≡ false) × IsPossible c a now) (λ now. (outrun c a now ≡ None) × (knows_all c a now ≡ false)) (IsFine c a) (λ now x y. record { on = x.0; possible = x.1; going = y.0; lacks = y.1 }) (part a past)
@@ -195,6 +158,10 @@ not_lagging c a past e low =
     go true u h = h
     go false u h = refl
 
+pub asks_verb : (p : ℕ) (verb : Verb) → is_asking_verb p verb ≡ true → verb ≡ Verb.Ask p
+asks_verb p (Verb.Ask q) h = ap (λ x. Verb.Ask x) (eqb-true q p h)
+asks_verb p verb h = absurd (true≢false (sym h))
+
 -- a leadership that has a minimum begins no other
 pub begins_verb : (a by : ℕ) (verb : Verb) (answer : Answer) → begins_leadership a (record { by = by; verb = verb; answer = answer }) ≡ true → is_asking_verb 0 verb ≡ true
 begins_verb a by (Verb.Ask q) answer is = (and_parts (by == a) (q == 0) is).1
@@ -207,16 +174,6 @@ min_parts a now is = and_parts (has_begun a now) (has is_min (leadership a now))
 pub record Leads (c : Config) (a : ℕ) (past : List Event) (e : Event) : Type 0 where
   pub same : has_min a past ≡ true → begins_leadership a e ≡ false
   pub named : has_min a past ≡ true → is_named c a past ≡ true
-
-pub lone_leads : (c : Config) (a : ℕ) (mine : List Event) → AtEachMoment (λ now. is_over a now ≡ false) mine → AtEachMoment (λ now. is_named c a now ≡ true) mine → AtEachStep (LeaderKeeps c a) mine → AtEachStep (Leads c a) mine
-lone_leads c a [] on named kept = tt
-lone_leads c a (e ∷ past) on named kept = (lone_leads c a past on.0 named.0 kept.0, record { same = λ has_one. go has_one (begins_leadership a e) refl; named = λ _. last_moment (λ now. is_named c a now ≡ true) past named.0 })
-  where
-    go : has_min a past ≡ true → (t : Bool) → begins_leadership a e ≡ t → t ≡ false
-    go has_one true is =
-        let cause = cause_is c a past (kept.1.cause.anew (begins_verb a e.by e.verb e.answer is)) (min_parts a past has_one).0 (last_moment (λ now. is_over a now ≡ false) past on.0) (never_unnamed c a past named.0) in
-        absurd (true≢false (sym has_one ∙ cause.0))
-    go has_one false is = refl
 
 -- so what comes after the first minimum is calm
 pub puts_inside : (c : Config) (a : ℕ) (past : List Event) (e : Event) → IsPossible c a (e ∷ past) → (p i b v : ℕ) → e.verb ≡ Verb.PutSlot p i b v → p < c.replicas
@@ -274,36 +231,3 @@ few_after c a mine good large all led leads m =
     let few = calm_commits c a (row_count c + reserve c) m.first m.newer m.older (progress_moments false c a (m.newer ++ m.first ∷ m.older) kept) (first_is_milestone c a m.first m.older m.min m.begun (last_moment (λ now. has_min a now ≡ false) m.older m.none)) calm.0 (known_fits c a (m.newer ++ m.first ∷ m.older) good last.possible) in
     let half = at_least_halves m.newer (m.first ∷ m.older) in
     omega (arith, few, half)
-
-lone_after : (c : Config) (live : ℕ → Bool) (a : ℕ) (past : List Event) → IsConfig c → HasLargeRing c → LeadsAlone c live a past → knows_all c a (part a past) ≡ false → (m : FirstMin a (part a past)) → length m.newer < 2 * calm_steps c (row_count c + reserve c)
-lone_after c live a past good large lone lacks m =
-    let on = lone_on c a past lone.legal lone.alone in
-    few_after c a (part a past) good large (fine_moments c a past lone.legal on lone.going lacks) lone.led (lone_leads c a (part a past) on lone.named lone.led) m
-
--- and few before it
-few_before : (c : Config) (live : ℕ → Bool) (a : ℕ) (past newer older : List Event) (first : Event) → LeadsAlone c live a past → knows_all c a (part a past) ≡ false → part a past ≡ newer ++ first ∷ older → AtEachMoment (λ now. has_min a now ≡ false) older → length older < beginning_steps c
-few_before c live a past newer older first lone lacks is none =
-    let at = located a past newer older first is in
-    let whole : past ≡ (at.newer ++ first ∷ []) ++ at.older = at.is ∙ sym (append_assoc at.newer (first ∷ []) at.older) in
-    let there = lone_before c live a (at.newer ++ first ∷ []) at.older (subst (LeadsAlone c live a) whole lone) in
-    let lacking = (moments_before (λ now. knows_all c a now ≡ false) newer (first ∷ older) (subst (AtEachMoment (λ now. knows_all c a now ≡ false)) is (lacks_moments c a (part a past) lacks))).0 in
-    let same = ap length at.before in
-    let few = begins_in_time c live a at.older there (subst (AtEachMoment (λ now. knows_all c a now ≡ false)) (sym at.before) lacking) (subst (AtEachMoment (λ now. has_min a now ≡ false)) (sym at.before) none) in
-    omega (arith, few, same)
-
-pub knows_all_in_time : LoneLeadersKnowAll
-knows_all_in_time c live a past good large lone many = go (knows_all c a (part a past)) refl
-  where
-    late : knows_all c a (part a past) ≡ false → ⊥
-    late lacks = elim (min_or_none a (part a past)) [
-      | inl none ↦ (let few = begins_in_time c live a past lone (lacks_moments c a (part a past) lacks) none in omega (arith, few, many))
-      | inr m ↦
-          let before = few_before c live a past m.newer m.older m.first lone lacks m.is m.none in
-          let after = lone_after c live a past good large lone lacks m in
-          let all = ap length m.is ∙ length-append m.newer (m.first ∷ m.older) in
-          omega (arith, before, after, all, many)
-    ]
-
-    go : (t : Bool) → knows_all c a (part a past) ≡ t → t ≡ true
-    go true is = refl
-    go false is = absurd (late is)

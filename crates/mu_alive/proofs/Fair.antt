@@ -1,6 +1,6 @@
 -- What replicas that keep step, or take a step in any few of another, find of beats, and how they keep up.
-use Rattle.std.proofs.Common.{◌≡◌, ◌≢◌, ℕ, zero, suc, ◌+◌, ◌*◌, ◌<◌, ◌≤◌, ◌==◌, inl, inr, Bool, true, false, cond, List, [], ◌∷◌, ◌++◌, length, refl, sym, ◌∙◌, ap, arith, subst, eqb-true, true≢false, append_assoc}
-use Rattle.std.proofs.lemmas.Bool.{cases_eq, eq-eqb, ne_eqb}
+use Rattle.std.proofs.Common.{◌≡◌, ◌≢◌, ℕ, ◌+◌, ◌*◌, ◌<◌, ◌≤◌, ◌==◌, Bool, true, false, cond, List, [], ◌∷◌, ◌++◌, length, refl, sym, ◌∙◌, ap, arith, subst, eqb-true, true≢false, append_assoc}
+use Rattle.std.proofs.lemmas.Bool.{eq-eqb, ne_eqb}
 use Rattle.std.proofs.lemmas.List.{length-append}
 use Rattle.mu_model.specs.declared.config.Config.{Config}
 use Rattle.mu_model.specs.declared.event.Answer.{Answer}
@@ -15,9 +15,9 @@ use Rattle.mu_model.specs.Regions.{beats, is_beat_by}
 use Rattle.mu_model.specs.Steps.{is_beat, is_beat_read, is_beat_read_verb, is_beat_verb}
 use Rattle.mu_model.proofs.Parts.{filter-append}
 use Rattle.mu_agree.proofs.Legal.{legal_older}
-use Rattle.mu_pace.proofs.Pasts.{cut, has_later, how_many-append}
-use Rattle.mu_alive.specs.Fair.{EvenOnesKeepUp, FairOnesKeepUp, FastOnesAreFound, KeepsPace}
-use Rattle.mu_alive.proofs.Beginning.{cut_at}
+use Rattle.mu_pace.proofs.Pasts.{cut, has_later, how_many-append, some_counted}
+use Rattle.mu_alive.specs.Fair.{EvenOnesKeepUp, FastOnesAreFound, KeepsPace}
+use Rattle.mu_alive.proofs.Cutting.{there_in_part}
 
 -- a read of the count is answered by it
 pub told : (c : Config) (q by : ℕ) (verb : Verb) (answer : Answer) (past : List Event) → is_beat_read_verb q verb ≡ true → answer ≡ answer_of c by past verb → answer ≡ Answer.Number (beats q past)
@@ -35,25 +35,11 @@ beats_after q between past read reads = how_many-append (λ f. is_beat_by q f.by
 
 -- a beat in a part is one that is counted
 own_beats : (q : ℕ) (events : List Event) → has is_beat (part q events) ≡ true → 1 ≤ beats q events
-own_beats q [] some = absurd (true≢false (sym some))
-own_beats q (e ∷ events) some = go (e.by == q) refl some (own_beats q events)
+own_beats q events some = some_counted (λ e. is_beat_by q e.by e.verb) events (there_in_part is_beat (λ e. is_beat_by q e.by e.verb) q (λ e own beat. by_q e.by e.verb own beat) events some)
   where
-    same : (by : ℕ) (verb : Verb) → (by == q) ≡ true → is_beat_by q by verb ≡ is_beat_verb verb
-    same by Verb.Beat h = h
-    same by verb h = refl
-
-    counts : (t : Bool) → 1 ≤ beats q events → 1 ≤ cond t (beats q events + 1) (beats q events)
-    counts true l = omega (arith, l)
-    counts false l = l
-
-    here : (t u : Bool) → t ≡ u → cond u true (has is_beat (part q events)) ≡ true → (has is_beat (part q events) ≡ true → 1 ≤ beats q events) → 1 ≤ cond t (beats q events + 1) (beats q events)
-    here true u h some ih = omega arith
-    here false true h some ih = absurd (true≢false (sym h))
-    here false false h some ih = ih some
-
-    go : (t : Bool) → (e.by == q) ≡ t → has is_beat (cond t (e ∷ part q events) (part q events)) ≡ true → (has is_beat (part q events) ≡ true → 1 ≤ beats q events) → 1 ≤ cond (is_beat_by q e.by e.verb) (beats q events + 1) (beats q events)
-    go true own some ih = here (is_beat_by q e.by e.verb) (is_beat e) (same e.by e.verb own) some ih
-    go false own some ih = counts (is_beat_by q e.by e.verb) (ih some)
+    by_q : (by : ℕ) (verb : Verb) → by ≡ q → is_beat_verb verb ≡ true → is_beat_by q by verb ≡ true
+    by_q by Verb.Beat own beat = eq-eqb by q own
+    by_q by verb own beat = absurd (true≢false (sym beat))
 
 -- between two reads of the count of one that keeps pace there is a beat
 even_between : (c : Config) (live : ℕ → Bool) (q r : ℕ) (top later before older : List Event) (e read : Event) → ((p : ℕ) → p < c.replicas → live p ≡ true → ReadsInTime c p (part p ((top ++ e ∷ (later ++ read ∷ before)) ++ older))) → KeepsPace c live q (top ++ e ∷ (later ++ read ∷ before)) → q < c.replicas → r < c.replicas → q ≢ r → live q ≡ true → live r ≡ true
@@ -133,26 +119,3 @@ fast_found c live q newer older low lq legal reads_all even r top between before
 
 pub even_keep : EvenOnesKeepUp
 even_keep c live a events inside lives even q k newer window older low lq is long = let near = even q low lq a newer window older inside lives is in omega (arith, near, long)
-
-pub fair_keep : FairOnesKeepUp
-fair_keep c live ratio r events some fair q k newer window older low lq is long = go k newer window is (omega (arith, long))
-  where
-    one : (newer window older : List Event) → events ≡ newer ++ (window ++ older) → ratio ≤ length (part r window) → 1 ≤ length (part q window)
-    one newer window older is long = elim (cases_eq q r) [
-      | inl same ↦ subst (λ x. 1 ≤ length (part x window)) (sym same) (omega (arith, some, long))
-      | inr other ↦ fair q newer window older low other lq is long
-    ]
-
-    go : (k : ℕ) (newer window : List Event) → events ≡ newer ++ (window ++ older) → ratio * k ≤ length (part r window) → k ≤ length (part q window)
-    go zero newer window is long = omega arith
-    go (suc k) newer window is long =
-        let next : ratio * suc k ≡ ratio * k + ratio = omega arith in
-        let cuts = cut_at r (ratio * k) window (omega (arith, next, long)) in
-        let at : events ≡ newer ++ (cuts.newer ++ (cuts.rest ++ older)) = is ∙ ap (λ l. newer ++ l) (ap (λ l. l ++ older) cuts.is ∙ append_assoc cuts.newer cuts.rest older) in
-        let split : (p : ℕ) → length (part p window) ≡ length (part p cuts.newer) + length (part p cuts.rest) = λ p. ap (λ l. length (part p l)) cuts.is ∙ ap length (filter-append (λ e. e.by == p) cuts.newer cuts.rest) ∙ length-append (part p cuts.newer) (part p cuts.rest) in
-        let count = cuts.count in
-        let at_r = split r in
-        let at_q = split q in
-        let upper = one newer cuts.newer (cuts.rest ++ older) at (omega (arith, next, long, count, at_r)) in
-        let lower = go k (newer ++ cuts.newer) cuts.rest (at ∙ sym (append_assoc newer cuts.newer (cuts.rest ++ older))) (omega (arith, count)) in
-        omega (arith, upper, lower, at_q)

@@ -15,23 +15,21 @@ use Rattle.mu_model.specs.Diligence.{is_fuo_above}
 use Rattle.mu_model.specs.Histories.{has, max_with, part}
 use Rattle.mu_model.specs.Knowledge.{entry_seen, greatest_fuo_read, grown, is_known_decided, known}
 use Rattle.mu_model.specs.Legal.{IsLegalHistory}
-use Rattle.mu_model.specs.Regions.{fence_owner, region_fuo, region_log}
+use Rattle.mu_model.specs.Regions.{region_fuo, region_log}
 use Rattle.mu_agree.specs.Laws.{is_landing}
 use Rattle.mu_agree.proofs.Access.{landed}
 use Rattle.mu_agree.proofs.Landings.{look_reply, look_stands}
 use Rattle.mu_agree.proofs.Landed.{lands_within}
-use Rattle.mu_agree.proofs.Legal.{event_after, legal_older}
+use Rattle.mu_agree.proofs.Legal.{event_after, legal_older, legal_induction}
 use Rattle.mu_agree.proofs.Room.{length_put_room}
 use Rattle.mu_agree.proofs.Slots.{put_in'}
 use Rattle.mu_agree.proofs.Tame.{known_longer}
-use Rattle.mu_model.proofs.Basics.{same_some}
 use Rattle.mu_pace.specs.Counters.{AtEachStep}
-use Rattle.mu_alive.specs.Alone.{AsksAlone}
-use Rattle.mu_alive.proofs.Alone.{Once, alone_induction, once}
-use Rattle.mu_alive.proofs.Beginning.{alone_before}
+use Rattle.mu_alive.proofs.TurnOwners.{IsLone, lone_before, owner_begun}
 use Rattle.mu_alive.proofs.Bringing.{Ahead}
 use Rattle.mu_alive.proofs.Cutting.{Located, located}
 use Rattle.mu_model.proofs.Putting.{MayPutSlot, put_facts}
+use Rattle.mu_model.specs.Leaderships.{has_begun}
 
 -- how many entries a knows
 abbrev knows : Config → ℕ → List Event → ℕ
@@ -248,7 +246,7 @@ put_step c a by q i b v past k answer lands = record {
     sees r j true is = k.seen r j is
     sees r j false is = k.seen r j is
 
-knows_step : (c : Config) (a by : ℕ) (v : Verb) (past : List Event) → IsLegalHistory c past → AsksAlone a past → Allowed c by (part by past) v → KnowsMost c a past → KnowsMost c a (event_after c past by v ∷ past)
+knows_step : (c : Config) (a by : ℕ) (v : Verb) (past : List Event) → IsLegalHistory c past → IsLone a past → Allowed c by (part by past) v → KnowsMost c a past → KnowsMost c a (event_after c past by v ∷ past)
 knows_step c a by (Verb.RaiseFuo q u) past legal alone may k = raise_step c a by q u past (let low = may.may.1.0 in let most = k.others by in omega (arith, low, most)) k
 knows_step c a by (Verb.Fuo q) past legal alone may k = fuo_step c a by q past k
 knows_step c a by (Verb.Look q i) past legal alone may k = look_step c a by q i past k (answer_of c by past (Verb.Look q i)) refl
@@ -257,12 +255,12 @@ knows_step c a by (Verb.PutSlot q i b w) past legal alone may k = put_step c a b
     lands : put_answer (drained by q past) ≡ Answer.Done → (by ≡ a) × (i ≤ knows c a past) × (i ≤ length (region_log q past))
     lands done =
         let may_land = landed c q (event_after c past by (Verb.PutSlot q i b w)) past legal (record { allowed = may; answer = refl }) (subst (λ x. is_landing q (Verb.PutSlot q i b w) x ≡ true) (sym done) (eq-eqb q q refl)) in
-        let own = by_owner (once c a q past legal alone) may_land.by_owner in
+        let own = by_owner (cases_eq by a) (owner_begun c q past legal by may_land.by_owner) in
         (own, subst (λ x. i ≤ length (known c x (part x past))) own (put_low c by q i b w (part by past) (put_facts c by (part by past) q i b w may.may)), lands_within c q by i b w past legal may.may)
       where
-        by_owner : Once a q past → fence_owner q past ≡ Some by → by ≡ a
-        by_owner (inl o) owns = let k = sym o.0 ∙ owns in cc
-        by_owner (inr o) owns = sym (same_some a by (sym o.0 ∙ owns))
+        by_owner : (by ≡ a) ⊎ (by ≢ a) → has_begun by past ≡ true → by ≡ a
+        by_owner (inl same) begun = same
+        by_owner (inr other) begun = absurd (true≢false (sym begun ∙ alone by other))
 knows_step c a by v past legal alone may k = record {
   others = λ r. up c a (length (known c r (part r (e ∷ past)))) e past (other r (by == r));
   fuos = λ p. up c a (region_fuo p past) e past (k.fuos p);
@@ -286,10 +284,10 @@ knows_step c a by v past legal alone may k = record {
     sees r j true is = k.seen r j is
     sees r j false is = k.seen r j is
 
-pub knows_most : (c : Config) (a : ℕ) (past : List Event) → IsLegalHistory c past → AsksAlone a past → KnowsMost c a past
+pub knows_most : (c : Config) (a : ℕ) (past : List Event) → IsLegalHistory c past → IsLone a past → KnowsMost c a past
 knows_most c a =
-    alone_induction c a (KnowsMost c a) (record { others = λ r. omega arith; fuos = λ q. omega arith; read = λ r q. omega arith; logs = λ q. omega arith; seen = λ r j is. absurd (true≢false (sym is)) })
-    (λ past by v legal alone own may k. knows_step c a by v past legal alone may k)
+    legal_induction c (λ past. IsLone a past → KnowsMost c a past) (λ _. record { others = λ r. omega arith; fuos = λ q. omega arith; read = λ r q. omega arith; logs = λ q. omega arith; seen = λ r j is. absurd (true≢false (sym is)) })
+    (λ past by v legal may k alone. let before = lone_before a (event_after c past by v ∷ []) past alone in knows_step c a by v past legal before may (k before))
 
 -- so no look of a teaches it anything
 pub learns_nothing : (c : Config) (a : ℕ) (past : List Event) → KnowsMost c a past → (by : ℕ) (verb : Verb) (answer : Answer) → is_learning c a (part a past) (record { by = by; verb = verb; answer = answer }) ≡ false
@@ -316,22 +314,22 @@ none_ahead c a p mine by (Verb.Fuo q) (Answer.Number x) most = go ((by == a) && 
 none_ahead c a p mine by verb answer most = refl
 
 -- in a whole history, at each of its steps
-pub quiet_steps : (c : Config) (a : ℕ) (past : List Event) → IsLegalHistory c past → AsksAlone a past → AtEachStep (λ now e. is_learning c a now e ≡ false) (part a past)
+pub quiet_steps : (c : Config) (a : ℕ) (past : List Event) → IsLegalHistory c past → IsLone a past → AtEachStep (λ now e. is_learning c a now e ≡ false) (part a past)
 quiet_steps c a [] legal alone = tt
-quiet_steps c a (e ∷ past) legal alone = go (e.by == a) (quiet_steps c a past legal.0 alone.0)
+quiet_steps c a (e ∷ past) legal alone = go (e.by == a) (quiet_steps c a past legal.0 (lone_before a (e ∷ []) past alone))
   where
     go : (t : Bool) → AtEachStep (λ now f. is_learning c a now f ≡ false) (part a past) → AtEachStep (λ now f. is_learning c a now f ≡ false) (cond t (e ∷ part a past) (part a past))
-    go true ih = (ih, learns_nothing c a past (knows_most c a past legal.0 alone.0) e.by e.verb e.answer)
+    go true ih = (ih, learns_nothing c a past (knows_most c a past legal.0 (lone_before a (e ∷ []) past alone)) e.by e.verb e.answer)
     go false ih = ih
 
-pub never_ahead : (c : Config) (a p l : ℕ) (past : List Event) → IsLegalHistory c past → AsksAlone a past → Ahead c a p l (part a past) → ⊥
+pub never_ahead : (c : Config) (a p l : ℕ) (past : List Event) → IsLegalHistory c past → IsLone a past → Ahead c a p l (part a past) → ⊥
 never_ahead c a p l past legal alone k = at (located a past k.newer k.older k.event k.is)
   where
     at : Located a past k.event k.older → ⊥
     at s = true≢false (sym k.above ∙ none_ahead c a p k.older k.event.by k.event.verb k.event.answer (subst (λ x. greatest_fuo_read a p x ≤ length (known c a x)) mine (here.read a p)))
       where
         here : KnowsMost c a (k.event ∷ s.older)
-        here = knows_most c a (k.event ∷ s.older) (legal_older c s.newer (k.event ∷ s.older) (subst (IsLegalHistory c) s.is legal)) (alone_before a s.newer (k.event ∷ s.older) (subst (AsksAlone a) s.is alone))
+        here = knows_most c a (k.event ∷ s.older) (legal_older c s.newer (k.event ∷ s.older) (subst (IsLegalHistory c) s.is legal)) (lone_before a s.newer (k.event ∷ s.older) (subst (IsLone a) s.is alone))
 
         mine : part a (k.event ∷ s.older) ≡ k.event ∷ k.older
         mine = ap (λ t. cond t (k.event ∷ part a s.older) (part a s.older)) (eq-eqb k.event.by a s.own) ∙ ap (λ x. k.event ∷ x) s.before

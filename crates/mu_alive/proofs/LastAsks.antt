@@ -103,7 +103,7 @@ lacking_of c live ratio lag a newer older k lacks = record {
         let some : 1 ≤ failing_steps c = omega arith in
         absurd (omega (arith, sum, late, some))
 
--- the first ask of region 0 in some events
+-- the oldest of some events that passes
 pub record FirstMet (test : Event → Bool) (events : List Event) : Type 0 where
   pub newer : List Event
   pub event : Event

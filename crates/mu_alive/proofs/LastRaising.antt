@@ -1,5 +1,5 @@
 -- All that keep up with the last that asks in turn have applied all in time, and raised their heads to it.
-use Rattle.std.proofs.Common.{cond, eqb-true, true≢false, ◌≡◌, ℕ, ◌+◌, ◌*◌, ◌<◌, ◌≤◌, ◌==◌, inl, inr, Bool, true, false, Some, List, [], ◌∷◌, ◌++◌, length, refl, sym, ◌∙◌, ap, arith, subst, append_assoc, is_some}
+use Rattle.std.proofs.Common.{eqb-true, true≢false, ◌≡◌, ℕ, ◌+◌, ◌*◌, ◌<◌, ◌≤◌, ◌==◌, inl, inr, Bool, true, false, Some, List, [], ◌∷◌, ◌++◌, length, refl, sym, ◌∙◌, ap, arith, subst, append_assoc, is_some}
 use Rattle.std.proofs.Math.Nat.{mul-le-mul_right}
 use Rattle.std.proofs.lemmas.List.{length-append}
 use Rattle.mu_model.specs.declared.config.Config.{Config}
@@ -16,13 +16,13 @@ use Rattle.mu_model.specs.Leaderships.{grant_for, has_begun, is_over, proposal_n
 use Rattle.mu_model.specs.Legal.{IsLegalHistory}
 use Rattle.mu_model.specs.Regions.{fence}
 use Rattle.mu_model.specs.Steps.{has_min, is_asking, is_named, knows_all}
-use Rattle.mu_model.specs.Stretches.{IsStretch, is_replication}
+use Rattle.mu_model.specs.Stretches.{is_replication}
 use Rattle.mu_model.proofs.Parts.{filter-append, part_is_possible}
 use Rattle.mu_agree.proofs.Landings.{has_of_part}
-use Rattle.mu_agree.proofs.Legal.{event_after, legal_induction}
+use Rattle.mu_agree.proofs.Legal.{event_after, legal_induction, legal_older}
 use Rattle.mu_pace.specs.Counters.{AtEachMoment, AtEachStep}
-use Rattle.mu_pace.proofs.Counting.{moments_before}
-use Rattle.mu_alive.specs.Following.{catching_steps}
+use Rattle.mu_pace.proofs.Counting.{moments_before, both_moments, steps_before}
+use Rattle.mu_alive.specs.Following.{catching_steps, RaisesToAll}
 use Rattle.mu_alive.specs.Bringing.{IsGranted, LeadsOn}
 use Rattle.mu_alive.specs.Enough.{asking_steps}
 use Rattle.mu_alive.specs.Finishing.{AsksAllFirst, HaveAllRaised, KeepUp, LastLeadersRaiseAll, spreading_steps}
@@ -30,10 +30,9 @@ use Rattle.mu_alive.specs.Last.{FetchesInTime, LeadsLast, NamesItself, fetching_
 use Rattle.mu_alive.specs.Opens.{AsksUntilMin, OpensInTime}
 use Rattle.mu_alive.specs.Turns.{is_own_min}
 use Rattle.mu_alive.proofs.Beginning.{CutAt, cut_at}
-use Rattle.mu_alive.proofs.Cutting.{located}
+use Rattle.mu_alive.proofs.Cutting.{located, longer, moments_of}
 use Rattle.mu_alive.proofs.Enough.{FirstMin, Leads, min_or_none, min_parts}
 use Rattle.mu_alive.proofs.Fetching.{fetched}
-use Rattle.mu_alive.proofs.Finishing.{keep_before}
 use Rattle.mu_alive.proofs.Lasting.{AsksAllBy, all_by_each, last_before, last_begins, last_knows_all, last_leads, late_named, owned}
 use Rattle.mu_alive.proofs.Moments.{AsksEach, From, at_least_halves, each_before, halves, some_event}
 use Rattle.mu_alive.proofs.Spreading.{AppliesMeanwhile, Governs, all_raised, each_notes, moments_more, spreads}
@@ -43,17 +42,52 @@ use Rattle.mu_alive.proofs.TurnOwners.{stays_open, seen_again}
 use Rattle.mu_alive.proofs.Turns.{begun-part, min_begun, put_reads}
 use Rattle.mu_pace.proofs.Pasts.{begun_on, min_now}
 use Rattle.mu_pace.specs.Watches.{puts_number}
+use Rattle.mu_model.specs.Diligence.{Replays, TellsHeads}
+use Rattle.mu_alive.specs.Alone.{WritesAlone}
+
+-- what a journal keeps its beginnings keep
+pub replays_before : (c : Config) (r : ℕ) (newer older : List Event) → Replays c r (newer ++ older) → Replays c r older
+replays_before c r newer older held = record {
+  reads = λ window o s n off. held.reads window o (longer newer older window o s) n off;
+  learns = λ window o s n off low. held.learns window o (longer newer older window o s) n off low;
+}
+
+pub heads_before : (c : Config) (r : ℕ) (newer older : List Event) → TellsHeads c r (newer ++ older) → TellsHeads c r older
+heads_before c r newer older held = record {
+  raises = λ window o s low n. held.raises window o (longer newer older window o s) low n;
+  reads = λ q window o low other s n. held.reads q window o low other (longer newer older window o s) n;
+}
+
+pub keep_before : (c : Config) (live : ℕ → Bool) (a : ℕ) (newer older : List Event) → KeepUp c live a (newer ++ older) → KeepUp c live a older
+keep_before c live a newer older keep = record {
+  replays = λ r low lives. replays_before c r (part r newer) (part r older) (subst (Replays c r) (split r) (keep.replays r low lives));
+  heads = λ r low lives. heads_before c r (part r newer) (part r older) (subst (TellsHeads c r) (split r) (keep.heads r low lives));
+  raises = λ r low lives. steps_before (RaisesToAll c r) (part r newer) (part r older) (subst (AtEachStep (RaisesToAll c r)) (split r) (keep.raises r low lives));
+  unnamed = λ r low lives other. moments_before (λ now. is_named c r now ≡ false) (part r newer) (part r older) (subst (AtEachMoment (λ now. is_named c r now ≡ false)) (split r) (keep.unnamed r low lives other));
+  asked = λ above below e p is min waits on low. keep.asked (part a newer ++ above) below e p (split a ∙ ap (λ x. part a newer ++ x) is ∙ sym (append_assoc (part a newer) above (e ∷ below))) min waits on low;
+}
+  where
+    split : (r : ℕ) → part r (newer ++ older) ≡ part r newer ++ part r older
+    split r = filter-append (λ e. e.by == r) newer older
+
+pub writes_before : (a : ℕ) (newer older : List Event) → WritesAlone a (newer ++ older) → WritesAlone a older
+writes_before a [] older writes = writes
+writes_before a (e ∷ newer) older writes = writes_before a newer older writes.0
 
 -- while it has read no minimum it asks again and again, whatever it knows
-each_unread : (c : Config) (a start : ℕ) (mine : List Event) → AsksUntilMin c a mine → AtEachMoment (NamesItself c a start) mine → AtEachMoment (λ now. has_min a now ≡ false) mine → AsksEach c start mine
+pub each_unread : (c : Config) (a start : ℕ) (mine : List Event) → AsksUntilMin c a mine → AtEachMoment (NamesItself c a start) mine → AtEachMoment (λ now. has_min a now ≡ false) mine → AsksEach c start mine
 each_unread c a start mine asks named none p newer window older is long late low =
     some_event (is_asking p) window older
     (asks p window older low (record { newer = newer; is = is }) (halves (17 * c.replicas + 1) window older long)
     (each_before start (is_named c a) is_replication window older late (moments_before (From start (λ now. is_named c a now ≡ true)) newer (window ++ older) (subst (AtEachMoment (From start (λ now. is_named c a now ≡ true))) is (late_named c a start mine named))))
     (moments_before (λ now. has_min a now ≡ false) newer (window ++ older) (subst (AtEachMoment (λ now. has_min a now ≡ false)) is none)))
 
+-- what a journal keeps of its opening its beginnings keep
 asks_older : (c : Config) (a : ℕ) (newer older : List Event) → AsksUntilMin c a (newer ++ older) → AsksUntilMin c a older
-asks_older c a newer older asks p window base low s = asks p window base low (record { newer = newer ++ s.newer; is = ap (λ l. newer ++ l) s.is ∙ sym (append_assoc newer s.newer (window ++ base)) })
+asks_older c a newer older asks p window base low s = asks p window base low (longer newer older window base s)
+
+pub opens_before : (c : Config) (a : ℕ) (newer older : List Event) → OpensInTime c a (newer ++ older) → OpensInTime c a older
+opens_before c a newer older opens = record { asks = asks_older c a newer older opens.asks; numbers = λ e window o s. opens.numbers e window o (longer newer older window (e ∷ o) s) }
 
 -- so after this many steps it has asked each region: before its first minimum, or since it names itself
 pub asks_all : (c : Config) (live : ℕ → Bool) (a start : ℕ) (past : List Event) → LeadsLast c live a start past → AsksUntilMin c a (part a past) → AsksAllFirst c a (part a past) → AsksAllBy c a (start + asking_steps c) past
@@ -129,17 +163,19 @@ number_begun c w = legal_induction c (NumberBegun w) (λ some. absurd (true≢fa
 
 -- so it names itself while it has a number
 pub number_named : (c : Config) (a start : ℕ) (past : List Event) → IsLegalHistory c past → AtEachMoment (NamesItself c a start) (part a past) → AtEachMoment (λ now. is_some (proposal_number a now) ≡ true → is_named c a now ≡ true) (part a past)
-number_named c a start [] legal named = λ some. absurd (true≢false (sym some))
-number_named c a start (e ∷ past) legal named = go (e.by == a) refl named (number_named c a start past legal.0)
-  where
-    here : NamesItself c a start (part a (e ∷ past)) → is_some (proposal_number a (part a (e ∷ past))) ≡ true → is_named c a (part a (e ∷ past)) ≡ true
-    here itself some = itself (inr (begun-part a (e ∷ past) ∙ number_begun c a (e ∷ past) legal (has_of_part (puts_number a) a (e ∷ past) (numbered_there a (part a (e ∷ past)) some))))
+number_named c a start past legal named =
+    both_moments (NamesItself c a start) (λ now. is_some (proposal_number a now) ≡ true → has_begun a now ≡ true) (λ now. is_some (proposal_number a now) ≡ true → is_named c a now ≡ true) (λ now itself begun some. itself (inr (begun some))) (part a past) named
+    (moments_of a (λ now. is_some (proposal_number a now) ≡ true → has_begun a now ≡ true) past (λ newer older is some. begun-part a older ∙ number_begun c a older (legal_older c newer older (subst (IsLegalHistory c) is legal)) (has_of_part (puts_number a) a older (numbered_there a (part a older) some))))
 
-    go : (t : Bool) → (e.by == a) ≡ t → AtEachMoment (NamesItself c a start) (cond t (e ∷ part a past) (part a past))
-        → (AtEachMoment (NamesItself c a start) (part a past) → AtEachMoment (λ now. is_some (proposal_number a now) ≡ true → is_named c a now ≡ true) (part a past))
-        → AtEachMoment (λ now. is_some (proposal_number a now) ≡ true → is_named c a now ≡ true) (cond t (e ∷ part a past) (part a past))
-    go true own itself ih = (ih itself.0, subst (λ l. NamesItself c a start l → is_some (proposal_number a l) ≡ true → is_named c a l ≡ true) (ap (λ t. cond t (e ∷ part a past) (part a past)) own) here itself.1)
-    go false other itself ih = ih itself
+-- so it leads on
+pub leads_on : (c : Config) (live : ℕ → Bool) (a start : ℕ) (past : List Event) → IsConfig c → LeadsLast c live a start past → LeadsOn c a (part a past)
+leads_on c live a start past good last = record {
+  inside = last.inside;
+  possible = part_is_possible c a past last.legal;
+  on = lead_on_moments c a past last.legal last.turns (let most = good.replicas.1 in omega (arith, most));
+  named = number_named c a start past last.legal last.named;
+  led = last.led;
+}
 
 -- from then on the regions of all that keep up grant to it
 pub governs : (c : Config) (live : ℕ → Bool) (a start : ℕ) (newer older : List Event) → IsConfig c → LeadsLast c live a start (newer ++ older) → AsksAllBy c a (start + asking_steps c) (newer ++ older) → Started c a older → start + last_granting_steps c a ≤ length (part a older) → Governs c live a newer older
@@ -148,21 +184,12 @@ governs c live a start newer older good last asks begun late = record {
   lives = last.lives;
   legal = last.legal;
   near = last.near;
-  leads = subst (LeadsOn c a) split leads;
+  leads = subst (LeadsOn c a) split (leads_on c live a start (newer ++ older) good last);
   granted = granted;
 }
   where
     split : part a (newer ++ older) ≡ part a newer ++ part a older
     split = filter-append (λ e. e.by == a) newer older
-
-    leads : LeadsOn c a (part a (newer ++ older))
-    leads = record {
-      inside = last.inside;
-      possible = part_is_possible c a (newer ++ older) last.legal;
-      on = lead_on_moments c a (newer ++ older) last.legal last.turns (let most = good.replicas.1 in omega (arith, most));
-      named = number_named c a start (newer ++ older) last.legal last.named;
-      led = last.led;
-    }
 
     goes : (stays a (part a newer) ≡ true) × (has_min a (part a newer ++ part a older) ≡ true)
     goes = one_leads c a (part a newer) (part a older) (subst (AtEachStep (Leads c a)) split (last_leads c a start (newer ++ older) last.turns last.named)) begun.read
@@ -198,16 +225,13 @@ raised_by c live a start most past good last opens fetches keep late by many =
     there : LeadsLast c live a start at.rest
     there = last_before c live a start at.newer at.rest (subst (LeadsLast c live a start) at.is last)
 
-    more : (window o : List Event) → IsStretch (part a at.rest) window o → IsStretch (part a past) window o
-    more window o s = record { newer = part a at.newer ++ s.newer; is = split ∙ ap (λ l. part a at.newer ++ l) s.is ∙ sym (append_assoc (part a at.newer) s.newer (window ++ o)) }
-
     knows : knows_all c a (part a at.rest) ≡ true
     knows = by at.newer at.rest at.is (let count = at.count in omega (arith, count))
 
     begun : Started c a at.rest
     begun =
         last_started c live a start at.rest good there
-        (record { asks = λ p window o low s. opens.asks p window o low (more window o s); numbers = λ e window o s. opens.numbers e window o (more window (e ∷ o) s) })
+        (opens_before c a (part a at.newer) (part a at.rest) (subst (OpensInTime c a) split opens))
         (keep_before c live a at.newer at.rest (subst (KeepUp c live a) at.is keep)).asked (let count = at.count in omega (arith, count, late))
 
     -- it fetches the rows while the others join and follow

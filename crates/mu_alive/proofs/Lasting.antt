@@ -1,20 +1,18 @@
 -- The last that asks in turn knows every command in time.
-use Rattle.std.proofs.Common.{◌≡◌, ℕ, ◌+◌, ◌*◌, ◌<◌, ◌≤◌, ◌==◌, ◌&&◌, inl, inr, Bool, true, false, cond, Some, List, [], ◌∷◌, ◌++◌, length, refl, sym, ◌∙◌, ap, arith, subst, eqb-true, true≢false, append_assoc}
-use Rattle.std.proofs.lemmas.Bool.{cases_lt, eq-eqb}
+use Rattle.std.proofs.Common.{◌≡◌, ℕ, ◌+◌, ◌*◌, ◌<◌, ◌≤◌, ◌==◌, inl, inr, Bool, true, false, cond, Some, List, [], ◌∷◌, ◌++◌, length, refl, sym, ◌∙◌, ap, arith, subst, eqb-true, true≢false, append_assoc}
+use Rattle.std.proofs.lemmas.Bool.{cases_lt, eq-eqb, and_from}
 use Rattle.std.proofs.lemmas.List.{length-append}
 use Rattle.mu_model.specs.declared.config.Config.{Config}
-use Rattle.mu_model.specs.declared.event.Answer.{Answer}
 use Rattle.mu_model.specs.declared.event.Event.{Event}
-use Rattle.mu_model.specs.declared.event.Verb.{Verb}
 use Rattle.mu_model.specs.Bounds.{cycle}
 use Rattle.mu_model.specs.Contents.{IsConfig}
 use Rattle.mu_model.specs.Diligence.{AsksInTime, GrantsInTime, ReadsInTime}
 use Rattle.mu_model.specs.Ends.{outrun}
 use Rattle.mu_model.specs.Histories.{has, part}
-use Rattle.mu_model.specs.Leaderships.{begins_leadership, has_begun, leadership}
+use Rattle.mu_model.specs.Leaderships.{begins_leadership, has_begun}
 use Rattle.mu_model.specs.Legal.{IsLegalHistory}
 use Rattle.mu_model.specs.Regions.{asks, fence_owner}
-use Rattle.mu_model.specs.Steps.{has_min, is_asking, is_asking_verb, is_min, is_named, knows_all}
+use Rattle.mu_model.specs.Steps.{has_min, is_asking, is_min, is_named, knows_all}
 use Rattle.mu_model.proofs.Parts.{filter-append}
 use Rattle.mu_agree.proofs.Legal.{legal_older}
 use Rattle.mu_pace.specs.Collecting.{LeaderKeeps}
@@ -22,17 +20,19 @@ use Rattle.mu_pace.specs.Counters.{AtEachMoment, AtEachStep}
 use Rattle.mu_pace.proofs.Counting.{last_moment, moments_before, steps_before, both_moments}
 use Rattle.mu_alive.specs.Enough.{asking_steps}
 use Rattle.mu_alive.specs.Last.{LastLeadersKnowAll, LeadsLast, NamesItself, last_granting_steps}
-use Rattle.mu_alive.specs.Lone.{IsNear}
+use Rattle.mu_alive.specs.Near.{IsNear}
 use Rattle.mu_alive.specs.Turns.{AreInTurn, is_own_min}
-use Rattle.mu_alive.proofs.Beginning.{CutAt, HasNoMin, MayConfirm, asked_once, asks_fail, cut_at, grants_before, has_to_ask_all, reads_before, two_asks}
-use Rattle.mu_alive.proofs.Cutting.{located}
-use Rattle.mu_alive.proofs.Enough.{Leads, asks_before, begins_verb, few_after, fine_moments, lacks_moments, min_or_none, min_parts, outrun_before}
-use Rattle.mu_alive.proofs.LastNoting.{notes_own}
+use Rattle.mu_alive.proofs.Beginning.{CutAt, HasNoMin, MayConfirm, asked_once, asks_fail, cut_at, grants_before, has_to_ask_all, reads_before, two_asks, begins_now}
+use Rattle.mu_alive.proofs.Cutting.{located, there_in_part}
+use Rattle.mu_alive.proofs.Enough.{Leads, asks_before, begins_verb, few_after, fine_moments, lacks_moments, min_or_none, min_parts, outrun_before, asks_verb}
 use Rattle.mu_alive.proofs.Moments.{AsksEach, From, asks_there, each_older}
 use Rattle.mu_alive.proofs.TurnFences.{lead_on_moments, turns_lead_on}
 use Rattle.mu_alive.proofs.TurnOwners.{IsHighest}
-use Rattle.mu_alive.proofs.TurnGrants.{highest_older, hosts_grant, turns_before}
+use Rattle.mu_alive.proofs.TurnGrants.{highest_older, hosts_grant}
 use Rattle.mu_pace.proofs.Pasts.{has_newer, cut, Cut}
+use Rattle.mu_agree.proofs.Landings.{has_since}
+use Rattle.mu_alive.proofs.Noting.{notes_own}
+use Rattle.mu_alive.proofs.Turns.{turns_before}
 
 -- what holds of the whole history held of each beginning
 pub last_before : (c : Config) (live : ℕ → Bool) (a start : ℕ) (newer older : List Event) → LeadsLast c live a start (newer ++ older) → LeadsLast c live a start older
@@ -62,25 +62,7 @@ late_named c a start (e ∷ mine) named = (late_named c a start mine named.0, λ
 
 -- who asked a region first has begun
 begun_there : (a : ℕ) (past : List Event) → has (is_asking 0) (part a past) ≡ true → has_begun a past ≡ true
-begun_there a [] some = absurd (true≢false (sym some))
-begun_there a (e ∷ past) some = go (e.by == a) refl some (begun_there a past)
-  where
-    first : (by : ℕ) (verb : Verb) (answer : Answer) → (by == a) ≡ true → begins_leadership a (record { by = by; verb = verb; answer = answer }) ≡ is_asking 0 (record { by = by; verb = verb; answer = answer })
-    first by (Verb.Ask q) answer h = rw h refl
-    first by verb answer h = refl
-
-    go : (t : Bool) → (e.by == a) ≡ t → has (is_asking 0) (cond t (e ∷ part a past) (part a past)) ≡ true → (has (is_asking 0) (part a past) ≡ true → has_begun a past ≡ true) → cond (begins_leadership a e) true (has_begun a past) ≡ true
-    go true own some ih = here (begins_leadership a e) (is_asking 0 e) (first e.by e.verb e.answer own) some
-      where
-        here : (t u : Bool) → t ≡ u → cond u true (has (is_asking 0) (part a past)) ≡ true → cond t true (has_begun a past) ≡ true
-        here true u h some = refl
-        here false true h some = absurd (true≢false (sym h))
-        here false false h some = ih some
-    go false other some ih = later (begins_leadership a e) (ih some)
-      where
-        later : (t : Bool) → has_begun a past ≡ true → cond t true (has_begun a past) ≡ true
-        later true h = refl
-        later false h = h
+begun_there a = there_in_part (is_asking 0) (begins_leadership a) a (begins_now a)
 
 -- once a has taken this many steps it has asked each region
 abbrev pub AsksAllBy : Config → ℕ → ℕ → List Event → Type 0
@@ -173,39 +155,10 @@ each_lacking c live a start past last lacks none p newer window older is long la
     (has_to_ask_all c a start (part a past) (late_named c a start (part a past) last.named) lacks none)
 
 -- who leads has read a minimum
-min_there : (a : ℕ) (mine : List Event) → has is_min (leadership a mine) ≡ true → has is_min mine ≡ true
-min_there a [] some = some
-min_there a (e ∷ mine) some = go (begins_leadership a e) some (min_there a mine)
-  where
-    here : (u : Bool) → cond u true (has is_min (leadership a mine)) ≡ true → (has is_min (leadership a mine) ≡ true → has is_min mine ≡ true) → cond u true (has is_min mine) ≡ true
-    here true some ih = refl
-    here false some ih = ih some
-
-    go : (t : Bool) → has is_min (cond t [] (e ∷ leadership a mine)) ≡ true → (has is_min (leadership a mine) ≡ true → has is_min mine ≡ true) → has is_min (e ∷ mine) ≡ true
-    go true some ih = absurd (true≢false (sym some))
-    go false some ih = here (is_min e) some ih
-
 own_there : (a : ℕ) (past : List Event) → has is_min (part a past) ≡ true → has (is_own_min a) past ≡ true
-own_there a [] some = some
-own_there a (e ∷ past) some = go (e.by == a) refl some (own_there a past)
-  where
-    go : (t : Bool) → (e.by == a) ≡ t → has is_min (cond t (e ∷ part a past) (part a past)) ≡ true → (has is_min (part a past) ≡ true → has (is_own_min a) past ≡ true) → cond (is_min e && (e.by == a)) true (has (is_own_min a) past) ≡ true
-    go true own some ih = here (is_min e) (e.by == a) own some
-      where
-        here : (m t : Bool) → t ≡ true → cond m true (has is_min (part a past)) ≡ true → cond (m && t) true (has (is_own_min a) past) ≡ true
-        here true t h some = ap (λ u. cond u true (has (is_own_min a) past)) h
-        here false t h some = ih some
-    go false other some ih = later (is_min e && (e.by == a)) (ih some)
-      where
-        later : (t : Bool) → has (is_own_min a) past ≡ true → cond t true (has (is_own_min a) past) ≡ true
-        later true h = refl
-        later false h = h
+own_there a = there_in_part is_min (is_own_min a) a (λ e own is. and_from (is_min e) (e.by == a) is (eq-eqb e.by a own))
 
 -- it goes on naming itself, and asks no more
-ask_verb : (verb : Verb) → is_asking_verb 0 verb ≡ true → verb ≡ Verb.Ask 0
-ask_verb (Verb.Ask q) h = ap (λ x. Verb.Ask x) (eqb-true q 0 h)
-ask_verb verb h = absurd (true≢false (sym h))
-
 pub last_leads : (c : Config) (a start : ℕ) (past : List Event) → AreInTurn past → AtEachMoment (NamesItself c a start) (part a past) → AtEachStep (Leads c a) (part a past)
 last_leads c a start [] turns named = tt
 last_leads c a start (e ∷ past) turns named = go (e.by == a) refl named (λ before. last_leads c a start past turns.0 before)
@@ -216,8 +169,8 @@ last_leads c a start (e ∷ past) turns named = go (e.by == a) refl named (λ be
       where
         same : has_min a (part a past) ≡ true → (t : Bool) → begins_leadership a e ≡ t → t ≡ false
         same m true is =
-            let read = own_there a past (min_there a (part a past) (min_parts a (part a past) m).1) in
-            let none = subst (λ i. has (is_own_min i) past ≡ false) (eqb-true e.by a own) (turns.1.once (ask_verb e.verb (begins_verb a e.by e.verb e.answer is))) in
+            let read = own_there a past (has_since is_min (begins_leadership a) (part a past) (min_parts a (part a past) m).1) in
+            let none = subst (λ i. has (is_own_min i) past ≡ false) (eqb-true e.by a own) (turns.1.once (asks_verb 0 e.verb (begins_verb a e.by e.verb e.answer is))) in
             absurd (true≢false (sym read ∙ none))
         same m false is = refl
 

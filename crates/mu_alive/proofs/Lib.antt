@@ -1,5 +1,4 @@
 pub mod Again
-mod Alone
 mod Anew
 pub mod Applying
 mod Astray
@@ -17,22 +16,18 @@ pub mod Failing
 pub mod Fair
 pub mod Fetching
 pub mod Finding
-pub mod Finishing
 mod Following
 mod Gaining
 mod GainingUpTo
-mod Granting
 mod Joining
 mod KnowsMost
 pub mod Lagging
-mod LastNoting
 pub mod LastRaising
 mod LastAsks
 mod Lasting
 mod Moments
 mod Noting
 mod Opening
-mod OwnNumbers
 mod Reaching
 pub mod Resuming
 mod Rising
@@ -48,7 +43,7 @@ mod Stopped
 pub mod Stopping
 mod Ticking
 pub mod TurnFences
-pub mod TurnGrants
+mod TurnGrants
 mod TurnNumbers
 pub mod TurnOwners
 pub mod Turns

@@ -36,11 +36,6 @@ halves (suc n) (e ∷ f ∷ window) older long =
 abbrev pub From : ℕ → (List Event → Type 0) → List Event → Type 0
 From start P now = start ≤ length now → P now
 
--- what holds at all moments holds at those
-pub from_each : (start : ℕ) (P : List Event → Type 0) (past : List Event) → AtEachMoment P past → AtEachMoment (From start P) past
-from_each start P [] held = λ _. held
-from_each start P (e ∷ past) held = (from_each start P past held.0, λ _. held.1)
-
 -- and the last moment is one of them
 pub last_from : (start : ℕ) (P : List Event → Type 0) (newer older : List Event) → start ≤ length older → AtEachMoment (From start P) (newer ++ older) → P (newer ++ older)
 last_from start P newer older late held = last_moment (From start P) (newer ++ older) held (let long = length-append newer older in omega (arith, long, late))

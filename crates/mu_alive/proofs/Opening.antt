@@ -34,16 +34,18 @@ use Rattle.mu_pace.proofs.Counting.{allowed_here, last_moment, moments_before, s
 use Rattle.mu_pace.proofs.Growing.{known_grows}
 use Rattle.mu_pace.proofs.Leading.{commit_known}
 use Rattle.mu_alive.specs.Bringing.{most_paid}
-use Rattle.mu_alive.specs.Lone.{LeadsAlone}
 use Rattle.mu_alive.proofs.Bringing.{paid_at_most}
 use Rattle.mu_alive.proofs.Calm.{limit_fits}
 use Rattle.mu_alive.proofs.Cutting.{Located, located}
-use Rattle.mu_alive.proofs.Enough.{FirstMin, IsFine, Leads, fine_moments, first_is_milestone, lone_leads, lone_on, progress_moments, roomy}
+use Rattle.mu_alive.proofs.Enough.{FirstMin, IsFine, Leads, fine_moments, first_is_milestone, progress_moments, roomy}
 use Rattle.mu_alive.proofs.Moments.{at_least_halves}
 use Rattle.mu_alive.proofs.Started.{one_leads}
 use Rattle.mu_alive.proofs.Steady.{away_by}
-use Rattle.mu_alive.proofs.Waiting.{Closed, closed_or, each_both, more_steps, paid_both, stays_both}
+use Rattle.mu_alive.proofs.Waiting.{Closed, closed_or, each_both, steps_both, paid_both, stays_both}
 use Rattle.mu_pace.proofs.Pasts.{min_on, min_now}
+use Rattle.mu_alive.specs.Last.{LeadsLast}
+use Rattle.mu_alive.proofs.Lasting.{last_leads}
+use Rattle.mu_alive.proofs.TurnFences.{lead_on_moments}
 
 -- in one leadership since `base` the progress bound was opened last after x or more was paid
 pub record Open (c : Config) (a x : ℕ) (base now : List Event) : Type 0 where
@@ -178,9 +180,9 @@ pub record Committed (c : Config) (a k left : ℕ) (base newer older : List Even
   pub long : length (part a newer) + 2 * rest ≤ length (part a upper) + 2 * limit c c.replicas + 2 * left
 
 -- if all heads have come to k, and k entries are known, another is within the bound and what is paid
-pub commits_next : (c : Config) (live : ℕ → Bool) (a k x left : ℕ) (base newer older : List Event) → IsConfig c → reserve c < c.ring → LeadsAlone c live a (newer ++ older) → knows_all c a (part a (newer ++ older)) ≡ false → Open c a x base (part a older) → ((r : ℕ) → r < c.replicas → k ≤ region_head r older) → k ≤ length (known c a (part a older))
+pub commits_next : (c : Config) (live : ℕ → Bool) (a k x left : ℕ) (base newer older : List Event) → IsConfig c → reserve c < c.ring → LeadsLast c live a 0 (newer ++ older) → knows_all c a (part a (newer ++ older)) ≡ false → Open c a x base (part a older) → ((r : ℕ) → r < c.replicas → k ≤ region_head r older) → k ≤ length (known c a (part a older))
     → most_paid c ≤ x + left → 2 * limit c c.replicas + 2 * left ≤ length (part a newer) → Committed c a k left base newer older
-commits_next c live a k x left base newer older good fits lone lacks o heads knew all long = elim (closed_or (progressing c a) (part a newer) (part a older)) [
+commits_next c live a k x left base newer older good fits last lacks o heads knew all long = elim (closed_or (progressing c a) (part a newer) (part a older)) [
   | inl f ↦ closed f (located a newer f.newer f.older f.event f.is)
   | inr open_yet ↦ absurd (never open_yet)
 ]
@@ -193,13 +195,13 @@ commits_next c live a k x left base newer older good fits lone lacks o heads kne
     mine = filter-append (λ e. e.by == a) newer older
 
     leads : AtEachStep (Leads c a) (part a newer ++ part a older)
-    leads = subst (AtEachStep (Leads c a)) mine (lone_leads c a (part a (newer ++ older)) (lone_on c a (newer ++ older) lone.legal lone.alone) lone.named lone.led)
+    leads = subst (AtEachStep (Leads c a)) mine (last_leads c a 0 (newer ++ older) last.turns last.named)
 
     fine : AtEachMoment (IsFine c a) (part a newer ++ part a older)
-    fine = subst (AtEachMoment (IsFine c a)) mine (fine_moments c a (newer ++ older) lone.legal (lone_on c a (newer ++ older) lone.legal lone.alone) lone.going lacks)
+    fine = subst (AtEachMoment (IsFine c a)) mine (fine_moments c a (newer ++ older) last.legal (lead_on_moments c a (newer ++ older) last.legal last.turns (let most = good.replicas.1 in omega (arith, most))) last.going lacks)
 
     possible : IsPossible c a (part a newer ++ part a older)
-    possible = subst (IsPossible c a) mine (part_is_possible c a (newer ++ older) lone.legal)
+    possible = subst (IsPossible c a) mine (part_is_possible c a (newer ++ older) last.legal)
 
     -- what a stretch that doesn't close it counts and is paid, and all that is paid since the beginning
     at : (w above : List Event) → part a newer ≡ above ++ w → part a newer ++ part a older ≡ above ++ ((w ++ (o.window ++ o.mid)) ++ base)
@@ -214,11 +216,11 @@ commits_next c live a k x left base newer older good fits lone lacks o heads kne
 
     short : (w above : List Event) → part a newer ≡ above ++ w → each_step (λ past e. not ((progressing c a).closes past e)) w (part a older) ≡ true → replications w (part a older) < limit c c.replicas + paid (earns c a) (w ++ o.window) (o.mid ++ base)
     short w above cuts unclosed =
-        let held : AtEachMoment (IsInTime (progressing c a)) (w ++ part a older) = moments_before (IsInTime (progressing c a)) above (w ++ part a older) (subst (AtEachMoment (IsInTime (progressing c a))) (mine ∙ ap (λ l. l ++ part a older) cuts ∙ append_assoc above w (part a older)) (progress_moments false c a (part a (newer ++ older)) lone.led)) in
+        let held : AtEachMoment (IsInTime (progressing c a)) (w ++ part a older) = moments_before (IsInTime (progressing c a)) above (w ++ part a older) (subst (AtEachMoment (IsInTime (progressing c a))) (mine ∙ ap (λ l. l ++ part a older) cuts ∙ append_assoc above w (part a older)) (progress_moments false c a (part a (newer ++ older)) last.led)) in
         let both = each_both (λ past e. not ((progressing c a).closes past e)) w o.window (o.mid ++ base) (subst (λ l. each_step (λ past e. not ((progressing c a).closes past e)) w l ≡ true) o.is unclosed) o.unclosed in
         let whole : w ++ part a older ≡ (w ++ o.window) ++ (o.mid ++ base) = ap (λ l. w ++ l) o.is ∙ sym (append_assoc w o.window (o.mid ++ base)) in
         let less = shorter (progressing c a) o.amount (w ++ part a older) (w ++ o.window) (o.mid ++ base) held (record { newer = []; is = whole }) o.allows both in
-        let more = more_steps is_replication w o.window (o.mid ++ base) in
+        let more = steps_both is_replication w o.window (o.mid ++ base) in
         let same = ap (replications w) o.is in
         let few = o.few in
         omega (arith, less, more, same, few)
@@ -272,7 +274,7 @@ commits_next c live a k x left base newer older good fits lone lacks o heads kne
         own = ap (λ t. cond t (f.event ∷ part a (l.older ++ older)) (part a (l.older ++ older))) (eq-eqb f.event.by a l.own) ∙ ap (λ z. f.event ∷ z) mine_is
 
         legal : IsLegalHistory c (f.event ∷ (l.older ++ older))
-        legal = legal_older c l.newer (f.event ∷ (l.older ++ older)) (subst (IsLegalHistory c) (ap (λ z. z ++ older) l.is ∙ append_assoc l.newer (f.event ∷ l.older) older) lone.legal)
+        legal = legal_older c l.newer (f.event ∷ (l.older ++ older)) (subst (IsLegalHistory c) (ap (λ z. z ++ older) l.is ∙ append_assoc l.newer (f.event ∷ l.older) older) last.legal)
 
         higher : (r : ℕ) → r < c.replicas → k ≤ region_head r (l.older ++ older)
         higher r low = let more = greatest_along (λ e. head_raised r e.by e.verb) l.older older in let high = heads r low in omega (arith, more, high)

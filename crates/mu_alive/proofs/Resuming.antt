@@ -1,16 +1,15 @@
 -- After the last disturbance the least that goes on knows every command in time.
-use Rattle.std.proofs.Common.{◌≡◌, ℕ, ◌+◌, ◌*◌, ◌<◌, ◌≤◌, ◌==◌, Bool, true, false, cond, Some, List, [], ◌∷◌, ◌++◌, length, refl, sym, ◌∙◌, ap, arith, subst, eqb-true, true≢false, append_assoc, append-nil}
+use Rattle.std.proofs.Common.{◌≡◌, ℕ, ◌+◌, ◌*◌, ◌<◌, ◌≤◌, ◌==◌, Bool, true, false, cond, Some, List, [], ◌∷◌, ◌++◌, length, refl, sym, ◌∙◌, ap, arith, subst, append_assoc, append-nil}
 use Rattle.std.proofs.lemmas.Bool.{eq-eqb}
 use Rattle.std.proofs.lemmas.List.{length-append}
 use Rattle.mu_model.specs.declared.config.Config.{Config}
 use Rattle.mu_model.specs.declared.event.Event.{Event}
-use Rattle.mu_model.specs.declared.event.Verb.{Verb}
 use Rattle.mu_model.specs.Bounds.{cycle}
 use Rattle.mu_model.specs.Contents.{IsConfig, holds_all}
 use Rattle.mu_model.specs.Histories.{has, part, IsPrefixOf}
 use Rattle.mu_model.specs.Knowledge.{applied, front, has_entry, known}
 use Rattle.mu_model.specs.Regions.{fence_owner}
-use Rattle.mu_model.specs.Steps.{is_asking, is_asking_verb, knows_all}
+use Rattle.mu_model.specs.Steps.{is_asking, knows_all}
 use Rattle.mu_model.proofs.Parts.{filter-append, part_is_possible}
 use Rattle.mu_agree.proofs.Knowing.{known_stays}
 use Rattle.mu_pace.specs.Counters.{AtEachStep}
@@ -24,7 +23,7 @@ use Rattle.mu_alive.proofs.Beginning.{CutAt, begins_now, cut_at}
 use Rattle.mu_alive.proofs.Clearing.{clears_on, keeps_regions, least_granted}
 use Rattle.mu_alive.proofs.Cutting.{Located, located, met, Met}
 use Rattle.mu_alive.proofs.Enduring.{Begins, upto}
-use Rattle.mu_alive.proofs.Enough.{holds_more, knows_on}
+use Rattle.mu_alive.proofs.Enough.{holds_more, asks_verb, lacks_older}
 use Rattle.mu_alive.proofs.Fetching.{fetched, front_begins}
 use Rattle.mu_alive.proofs.Settling.{goes_on_before}
 use Rattle.mu_alive.proofs.LastAsks.{Asked, ask_next, asked_each, lacking_of, leads_after_before, leads_wider, no_more, settled_at}
@@ -65,18 +64,6 @@ six up v w y l n e =
 
 seven : (v x y z n : List Event) (f : Event) → (v ++ ((x ++ f ∷ y) ++ z)) ++ n ≡ (v ++ x) ++ (f ∷ ((y ++ z) ++ n))
 seven v x y z n f = append_assoc v ((x ++ f ∷ y) ++ z) n ∙ ap (λ m. v ++ m) (ap (λ m. m ++ n) (append_assoc x (f ∷ y) z) ∙ append_assoc x (f ∷ (y ++ z)) n) ∙ sym (append_assoc v x (f ∷ ((y ++ z) ++ n)))
-
-asks_verb : (p : ℕ) (verb : Verb) → is_asking_verb p verb ≡ true → verb ≡ Verb.Ask p
-asks_verb p (Verb.Ask q) h = ap (λ x. Verb.Ask x) (eqb-true q p h)
-asks_verb p verb h = absurd (true≢false (sym h))
-
--- who lacks a command lacked it before
-lacks_part : (c : Config) (a : ℕ) (top past : List Event) → knows_all c a (part a (top ++ past)) ≡ false → knows_all c a (part a past) ≡ false
-lacks_part c a top past lacks = go (knows_all c a (part a past)) refl
-  where
-    go : (t : Bool) → knows_all c a (part a past) ≡ t → t ≡ false
-    go true is = absurd (true≢false (sym (ap (knows_all c a) (filter-append (λ e. e.by == a) top past) ∙ knows_on c a (part a top) (part a past) is) ∙ lacks))
-    go false is = refl
 
 -- a host that goes on grants its region to a, two rounds after a asked for it
 granted_there : (c : Config) (live : ℕ → Bool) (a p : ℕ) (v w y l n older : List Event) → KeepGoing c live a ((v ++ (w ++ (y ++ l))) ++ n) older → Clears c live a p l n older → p < c.replicas → live p ≡ true → 2 * cycle c ≤ length (part p v) → has (is_asking p) (part a w) ≡ true
@@ -206,38 +193,25 @@ granted_by c live ratio lag a newer older good large k lacks long n l asked w v 
         (all_take c live ratio lag a (2 * cycle c) newer older v.newer v.rest (((w.rest ++ asked.event ∷ []) ++ (asked.below ++ l.rest)) ++ n.rest) k (whole ∙ ap (λ m. v.newer ++ m) (append_assoc v.rest ((w.rest ++ asked.event ∷ []) ++ (asked.below ++ l.rest)) n.rest)) v.count p inside lives)
         (each p inside)
 
-granted_w : (c : Config) (live : ℕ → Bool) (ratio lag a : ℕ) (newer older : List Event) → IsConfig c → HasLargeRing c → LeadsAfter true c live ratio lag a newer older → knows_all c a (part a (newer ++ older)) ≡ false
+grants_all : (c : Config) (live : ℕ → Bool) (ratio lag a : ℕ) (newer older : List Event) → IsConfig c → HasLargeRing c → LeadsAfter true c live ratio lag a newer older → knows_all c a (part a (newer ++ older)) ≡ false
     → granting_steps c ratio lag ≤ length (part a newer)
-    → (n : CutAt a (steps_of_each ratio lag (failing_steps c)) newer) → (l : CutAt a (steps_of_each ratio lag (clearing_steps c)) n.newer) → (asked : Asked c a l.newer) → (w : CutAt a (asking_steps c) asked.above) → Granted c live ratio lag a newer older
-granted_w c live ratio lag a newer older good large k lacks long n l asked w = granted_by c live ratio lag a newer older good large k lacks long n l asked w
+    → Granted c live ratio lag a newer older
+grants_all c live ratio lag a newer older good large k lacks long = granted_by c live ratio lag a newer older good large k lacks long n l asked w
     (cut_at a (steps_of_each ratio lag (2 * cycle c)) w.newer (let s1 = cut_sum a (steps_of_each ratio lag (failing_steps c)) newer n in let s2 = cut_sum a (steps_of_each ratio lag (clearing_steps c)) n.newer l in let s3 = asked.left in let s4 = cut_sum a (asking_steps c) asked.above w in omega (arith, s1, s2, s3, s4, long)))
-
-granted_asked : (c : Config) (live : ℕ → Bool) (ratio lag a : ℕ) (newer older : List Event) → IsConfig c → HasLargeRing c → LeadsAfter true c live ratio lag a newer older → knows_all c a (part a (newer ++ older)) ≡ false
-    → granting_steps c ratio lag ≤ length (part a newer)
-    → (n : CutAt a (steps_of_each ratio lag (failing_steps c)) newer) → (l : CutAt a (steps_of_each ratio lag (clearing_steps c)) n.newer) → (asked : Asked c a l.newer) → Granted c live ratio lag a newer older
-granted_asked c live ratio lag a newer older good large k lacks long n l asked = granted_w c live ratio lag a newer older good large k lacks long n l asked
-    (cut_at a (asking_steps c) asked.above (let s1 = cut_sum a (steps_of_each ratio lag (failing_steps c)) newer n in let s2 = cut_sum a (steps_of_each ratio lag (clearing_steps c)) n.newer l in let s3 = asked.left in omega (arith, s1, s2, s3, long)))
-
-granted_l : (c : Config) (live : ℕ → Bool) (ratio lag a : ℕ) (newer older : List Event) → IsConfig c → HasLargeRing c → LeadsAfter true c live ratio lag a newer older → knows_all c a (part a (newer ++ older)) ≡ false
-    → granting_steps c ratio lag ≤ length (part a newer)
-    → (n : CutAt a (steps_of_each ratio lag (failing_steps c)) newer) → (l : CutAt a (steps_of_each ratio lag (clearing_steps c)) n.newer) → Granted c live ratio lag a newer older
-granted_l c live ratio lag a newer older good large k lacks long n l = granted_asked c live ratio lag a newer older good large k lacks long n l asked
   where
+    n : CutAt a (steps_of_each ratio lag (failing_steps c)) newer
+    n = cut_at a (steps_of_each ratio lag (failing_steps c)) newer (omega (arith, long))
+
+    l : CutAt a (steps_of_each ratio lag (clearing_steps c)) n.newer
+    l = cut_at a (steps_of_each ratio lag (clearing_steps c)) n.newer (let s1 = cut_sum a (steps_of_each ratio lag (failing_steps c)) newer n in omega (arith, s1, long))
+
     asked : Asked c a l.newer
     asked =
         ask_next c live ratio lag a l.newer (l.rest ++ n.rest) older good large (subst (λ m. LeadsAfter true c live ratio lag a m older) (low_cut a newer n l) k) (sym (ap (λ m. knows_all c a (part a (m ++ older))) (low_cut a newer n l)) ∙ lacks) (late_cut c a l.rest n.rest older (settling_take c live ratio lag a newer older k n a k.on.inside k.on.lives))
         (let s1 = cut_sum a (steps_of_each ratio lag (failing_steps c)) newer n in let s2 = cut_sum a (steps_of_each ratio lag (clearing_steps c)) n.newer l in omega (arith, s1, s2, long))
 
-granted_n : (c : Config) (live : ℕ → Bool) (ratio lag a : ℕ) (newer older : List Event) → IsConfig c → HasLargeRing c → LeadsAfter true c live ratio lag a newer older → knows_all c a (part a (newer ++ older)) ≡ false
-    → granting_steps c ratio lag ≤ length (part a newer)
-    → (n : CutAt a (steps_of_each ratio lag (failing_steps c)) newer) → Granted c live ratio lag a newer older
-granted_n c live ratio lag a newer older good large k lacks long n = granted_l c live ratio lag a newer older good large k lacks long n
-    (cut_at a (steps_of_each ratio lag (clearing_steps c)) n.newer (let s1 = cut_sum a (steps_of_each ratio lag (failing_steps c)) newer n in omega (arith, s1, long)))
-
-grants_all : (c : Config) (live : ℕ → Bool) (ratio lag a : ℕ) (newer older : List Event) → IsConfig c → HasLargeRing c → LeadsAfter true c live ratio lag a newer older → knows_all c a (part a (newer ++ older)) ≡ false
-    → granting_steps c ratio lag ≤ length (part a newer)
-    → Granted c live ratio lag a newer older
-grants_all c live ratio lag a newer older good large k lacks long = granted_n c live ratio lag a newer older good large k lacks long (cut_at a (steps_of_each ratio lag (failing_steps c)) newer (omega (arith, long)))
+    w : CutAt a (asking_steps c) asked.above
+    w = cut_at a (asking_steps c) asked.above (let s1 = cut_sum a (steps_of_each ratio lag (failing_steps c)) newer n in let s2 = cut_sum a (steps_of_each ratio lag (clearing_steps c)) n.newer l in let s3 = asked.left in omega (arith, s1, s2, s3, long))
 
 -- so in the end a leadership begins that is never over, and after which it can't ask: by then it knows all
 pub resumed_knows : ResumedLeadersKnowAll
@@ -303,7 +277,7 @@ resumed_knows again c live ratio lag a newer older good large leads many = go (k
                     k5 = leads_after_before c live ratio lag a (y.event ∷ []) (y.below ++ rest) older k4
 
                     lacks4 : knows_all c a (part a ((y.event ∷ (y.below ++ rest)) ++ older)) ≡ false
-                    lacks4 = lacks_part c a y.above ((y.event ∷ (y.below ++ rest)) ++ older) (sym (ap (λ m. knows_all c a (part a m)) (ap (λ m. m ++ older) cut_there ∙ append_assoc y.above (y.event ∷ (y.below ++ rest)) older)) ∙ lacks3)
+                    lacks4 = lacks_older c a y.above ((y.event ∷ (y.below ++ rest)) ++ older) (sym (ap (λ m. knows_all c a (part a m)) (ap (λ m. m ++ older) cut_there ∙ append_assoc y.above (y.event ∷ (y.below ++ rest)) older)) ∙ lacks3)
 
                     whole : (y.below ++ rest) ++ older ≡ upto y.below x.event (x.below ++ g.later) g.first older
                     whole = append_assoc y.below rest older ∙ ap (λ m. y.below ++ (x.event ∷ m)) (append_assoc (x.below ++ g.later) g.first older)

@@ -28,12 +28,11 @@ use Rattle.mu_alive.specs.Alone.{WritesAlone}
 use Rattle.mu_alive.specs.Finishing.{KeepUp}
 use Rattle.mu_alive.specs.Following.{FollowsOn, RaisesToAll}
 use Rattle.mu_alive.specs.Lagging.{gain_steps}
-use Rattle.mu_alive.specs.Lone.{IsNear, LeadsAlone}
+use Rattle.mu_alive.specs.Near.{IsNear}
 use Rattle.mu_alive.proofs.Applying.{applied_is_known}
 use Rattle.mu_alive.proofs.Beginning.{CutAt, cut_at}
 use Rattle.mu_alive.proofs.Bringing.{raising_moments}
-use Rattle.mu_alive.proofs.Enough.{IsFine, Leads, fine_moments, lacks_moments, lone_before, lone_leads, lone_on}
-use Rattle.mu_alive.proofs.Finishing.{keep_before, leads_on, writes_before}
+use Rattle.mu_alive.proofs.Enough.{IsFine, Leads, fine_moments, lacks_older}
 use Rattle.mu_alive.proofs.Spreading.{follows_on, heads-own}
 use Rattle.mu_alive.proofs.Following.{fuo_read_in_time, gains_in_time, head_follows, own_fuo}
 use Rattle.mu_alive.proofs.Gaining.{gain, gain_known, gain_some, gain_stays}
@@ -44,9 +43,12 @@ use Rattle.mu_alive.proofs.Settled.{HasRaised, IsQuiet, raised_along, reaches_kn
 use Rattle.mu_alive.proofs.Started.{one_leads}
 use Rattle.mu_alive.proofs.Steady.{Steady, steady_steps}
 use Rattle.mu_pace.proofs.Pasts.{cut}
-
-pub lacks_older : (c : Config) (a : ℕ) (newer older : List Event) → knows_all c a (part a (newer ++ older)) ≡ false → knows_all c a (part a older) ≡ false
-lacks_older c a newer older lacks = last_moment (λ now. knows_all c a now ≡ false) (part a older) (moments_before (λ now. knows_all c a now ≡ false) (part a newer) (part a older) (subst (AtEachMoment (λ now. knows_all c a now ≡ false)) (filter-append (λ e. e.by == a) newer older) (lacks_moments c a (part a (newer ++ older)) lacks)))
+use Rattle.mu_alive.specs.Last.{LeadsLast}
+use Rattle.mu_alive.specs.Opens.{OpensInTime}
+use Rattle.mu_alive.proofs.Lasting.{last_before, last_leads}
+use Rattle.mu_alive.proofs.LastRaising.{leads_on, opens_before, keep_before, writes_before}
+use Rattle.mu_alive.proofs.TurnFences.{lead_on_moments}
+use Rattle.mu_alive.proofs.TurnOwners.{IsLone}
 
 pub reserve_fits : (c : Config) → IsConfig c → reserve c < c.ring
 reserve_fits c good = let low = good.ring.0 in let most = good.replicas.1 in reserves (c.version == 2) low most
@@ -55,11 +57,13 @@ reserve_fits c good = let low = good.ring.0 in let most = good.replicas.1 in res
     reserves true low most = omega (arith, low, most)
     reserves false low most = omega (arith, low)
 
--- what is refuted: a leads alone, all keep up with it, and a command is missing
+-- what is refuted: a is the first and leads alone, all keep up with it, and a command is missing
 pub record Lacking (c : Config) (live : ℕ → Bool) (a : ℕ) (past : List Event) : Type 0 where
   pub good : IsConfig c
   pub all : (r : ℕ) → r < c.replicas → live r ≡ true
-  pub lone : LeadsAlone c live a past
+  pub first : a ≡ 0
+  pub last : LeadsLast c live a 0 past
+  pub opens : OpensInTime c a (part a past)
   pub writes : WritesAlone a past
   pub keep : KeepUp c live a past
   pub lacks : knows_all c a (part a past) ≡ false
@@ -68,18 +72,28 @@ pub lacking_before : (c : Config) (live : ℕ → Bool) (a : ℕ) (newer older :
 lacking_before c live a newer older l = record {
   good = l.good;
   all = l.all;
-  lone = lone_before c live a newer older l.lone;
+  first = l.first;
+  last = last_before c live a 0 newer older l.last;
+  opens = opens_before c a (part a newer) (part a older) (subst (OpensInTime c a) (filter-append (λ e. e.by == a) newer older) l.opens);
   writes = writes_before a newer older l.writes;
   keep = keep_before c live a newer older l.keep;
   lacks = lacks_older c a newer older l.lacks;
 }
 
+-- no other has asked
+pub lone_of : (c : Config) (live : ℕ → Bool) (a : ℕ) (past : List Event) → Lacking c live a past → IsLone a past
+lone_of c live a past l w other = l.last.highest w (let first = l.first in omega (arith, first, other))
+
+-- no leadership of it ends, and it begins no other
+pub on_of : (c : Config) (live : ℕ → Bool) (a : ℕ) (past : List Event) → Lacking c live a past → AtEachStep (Leads c a) (part a past) × AtEachMoment (IsFine c a) (part a past)
+on_of c live a past l = (last_leads c a 0 past l.last.turns l.last.named, fine_moments c a past l.last.legal (lead_on_moments c a past l.last.legal l.last.turns (let most = l.good.replicas.1 in omega (arith, most))) l.last.going l.lacks)
+
 -- so fewer entries are known than there are positions
 pub few_known : (c : Config) (live : ℕ → Bool) (a : ℕ) (past : List Event) → Lacking c live a past → length (known c a (part a past)) < row_count c + reserve c
-few_known c live a past l = let few = parts_fit_law c a (part a past) l.good (part_is_possible c a past l.lone.legal) l.lacks in omega (arith, few)
+few_known c live a past l = let few = parts_fit_law c a (part a past) l.good (part_is_possible c a past l.last.legal) l.lacks in omega (arith, few)
 
 steady_of : (c : Config) (live : ℕ → Bool) (a : ℕ) (past : List Event) → Lacking c live a past → AtEachStep (Steady c a) (part a past)
-steady_of c live a past l = let on = leads_on c live a past l.lone in steady_steps c a (part a past) on.possible on.on on.named
+steady_of c live a past l = let on = leads_on c live a 0 past l.good l.last in steady_steps c a (part a past) on.possible on.on on.named
 
 -- all regions are members, each FUO is raised to what is known or soon will be, and each replica has
 -- gained m or more
@@ -93,12 +107,12 @@ gained_on c r m newer older few = let stays = gain_stays c r (part r newer) (par
 
 -- one leadership goes on
 pub stays_on : (c : Config) (live : ℕ → Bool) (a : ℕ) (newer older : List Event) → Lacking c live a (newer ++ older) → has_min a (part a older) ≡ true → stays a (part a newer) ≡ true
-stays_on c live a newer older l read = (one_leads c a (part a newer) (part a older) (subst (AtEachStep (Leads c a)) (filter-append (λ e. e.by == a) newer older) (lone_leads c a (part a (newer ++ older)) (lone_on c a (newer ++ older) l.lone.legal l.lone.alone) l.lone.named l.lone.led)) read).0
+stays_on c live a newer older l read = (one_leads c a (part a newer) (part a older) (subst (AtEachStep (Leads c a)) (filter-append (λ e. e.by == a) newer older) (on_of c live a (newer ++ older) l).0) read).0
 
 pub ready_on : (c : Config) (live : ℕ → Bool) (a m : ℕ) (newer older : List Event) → Lacking c live a (newer ++ older) → has_min a (part a older) ≡ true → Ready c a m older → Ready c a m (newer ++ older)
 ready_on c live a m newer older l read k = record {
   members = λ p low. subst (λ x. is_member a p x ≡ true) (sym mine) (member_stays a p (part a newer) (part a older) stayed (k.members p low));
-  raised = λ p low. subst (HasRaised c a p) (sym mine) (raised_along c a p (part a newer) (part a older) (subst (AtEachStep (Steady c a)) mine (steady_of c live a (newer ++ older) l)) (subst (IsQuiet c a) mine (quiet_steps c a (newer ++ older) l.lone.legal l.lone.alone)) stayed (k.members p low) (k.raised p low));
+  raised = λ p low. subst (HasRaised c a p) (sym mine) (raised_along c a p (part a newer) (part a older) (subst (AtEachStep (Steady c a)) mine (steady_of c live a (newer ++ older) l)) (subst (IsQuiet c a) mine (quiet_steps c a (newer ++ older) l.last.legal (lone_of c live a (newer ++ older) l))) stayed (k.members p low) (k.raised p low));
   gained = λ r low. gained_on c r m newer older (k.gained r low);
 }
   where
@@ -111,9 +125,8 @@ ready_on c live a m newer older l read k = record {
 open_later : (c : Config) (live : ℕ → Bool) (a x : ℕ) (base newer older : List Event) → Lacking c live a (newer ++ older) → Open c a x base (part a older) → Open c a x base (part a (newer ++ older))
 open_later c live a x base newer older l o =
     let mine = filter-append (λ e. e.by == a) newer older in
-    let on = lone_on c a (newer ++ older) l.lone.legal l.lone.alone in
-    subst (Open c a x base) (sym mine)
-    (open_on c a x base (part a newer) (part a older) (subst (AtEachStep (Leads c a)) mine (lone_leads c a (part a (newer ++ older)) on l.lone.named l.lone.led)) (subst (AtEachMoment (IsFine c a)) mine (fine_moments c a (newer ++ older) l.lone.legal on l.lone.going l.lacks)) o)
+    let on = on_of c live a (newer ++ older) l in
+    subst (Open c a x base) (sym mine) (open_on c a x base (part a newer) (part a older) (subst (AtEachStep (Leads c a)) mine on.0) (subst (AtEachMoment (IsFine c a)) mine on.1) o)
 
 -- those that go on keep up with a
 pub record GoOn (c : Config) (live : ℕ → Bool) (a : ℕ) (past : List Event) : Type 0 where
@@ -122,7 +135,7 @@ pub record GoOn (c : Config) (live : ℕ → Bool) (a : ℕ) (past : List Event)
   pub keep : KeepUp c live a past
 
 pub lacking_on : (c : Config) (live : ℕ → Bool) (a : ℕ) (past : List Event) → Lacking c live a past → GoOn c live a past
-lacking_on c live a past l = record { legal = l.lone.legal; near = l.lone.near; keep = l.keep }
+lacking_on c live a past l = record { legal = l.last.legal; near = l.last.near; keep = l.keep }
 
 -- how many steps the others take meanwhile
 pub near_steps : (c : Config) (live : ℕ → Bool) (a r n : ℕ) (newer older : List Event) → GoOn c live a (newer ++ older) → r < c.replicas → live r ≡ true → n + 2 ≤ length (part a newer) → n ≤ length (part r newer)
@@ -140,7 +153,7 @@ fuos_rise c live a m newer older l read k long p low =
     let mine = filter-append (λ e. e.by == a) newer older in
     let half = halves c.replicas (part a newer) (part a older) long in
     subst (λ x. length (known c a (part a older)) ≤ greatest (λ e. fuo_read_or_raised a p e.by e.verb e.answer) x) (sym mine)
-    (reaches_known c a p (part a newer) (part a older) (subst (AtEachStep (Steady c a)) mine (steady_of c live a (newer ++ older) l)) (subst (AtEachMoment (IsInTime (raising c a p))) mine (raising_moments c a p (part a (newer ++ older)) low l.lone.led)) (stays_on c live a newer older l read) (k.members p low) (k.raised p low) (omega (arith, half)))
+    (reaches_known c a p (part a newer) (part a older) (subst (AtEachStep (Steady c a)) mine (steady_of c live a (newer ++ older) l)) (subst (AtEachMoment (IsInTime (raising c a p))) mine (raising_moments c a p (part a (newer ++ older)) low l.last.led)) (stays_on c live a newer older l read) (k.members p low) (k.raised p low) (omega (arith, half)))
 
 follows_here : (c : Config) (live : ℕ → Bool) (a r : ℕ) (newer older : List Event) → GoOn c live a (newer ++ older) → r < c.replicas → live r ≡ true → r ≢ a → FollowsOn c r newer older
 follows_here c live a r newer older l low lives other = follows_on c live a r newer older l.legal l.keep low lives other
@@ -187,7 +200,7 @@ heads_rise c live a k newer older l decided had long r low = raise_in_time c liv
 
 -- what the leader knows it has applied
 pub applies_own : (c : Config) (live : ℕ → Bool) (a : ℕ) (past : List Event) → Lacking c live a past → length (applied c a (part a past)) ≡ length (known c a (part a past))
-applies_own c live a past l = ap length (applied_is_known c a past l.good l.lone.legal l.writes)
+applies_own c live a past l = ap length (applied_is_known c a past l.good l.last.legal l.writes)
 
 -- each FUO of one that goes on is known to it, up to k
 pub record Decided (c : Config) (live : ℕ → Bool) (a k : ℕ) (past : List Event) : Type 0 where
@@ -203,7 +216,7 @@ decided_on c live a k newer older d = record {
 -- nobody has gained all rows while a command is missing
 pub few_gained : (c : Config) (live : ℕ → Bool) (a m : ℕ) (past : List Event) → Lacking c live a past → Ready c a m past → m < (c.width + 1) * (row_count c + reserve c)
 few_gained c live a m past l k =
-    let low = k.gained a l.lone.inside in
+    let low = k.gained a l.last.inside in
     let most = gain_known c a (part a past) l.good in
     let few = few_known c live a past l in
     let fewer : (c.width + 1) * suc (length (known c a (part a past))) ≤ (c.width + 1) * (row_count c + reserve c) = mul-le-mul_left (c.width + 1) few in

@@ -11,7 +11,6 @@ use Rattle.mu_model.specs.Histories.{newest, or_zero, part}
 use Rattle.mu_model.specs.Legal.{IsLegalHistory}
 use Rattle.mu_model.specs.Scores.{beat_read, is_failed, leader, least_below, score, score_after_read}
 use Rattle.mu_model.specs.Steps.{is_asking_verb}
-use Rattle.mu_model.specs.Stretches.{IsStretch}
 use Rattle.mu_model.proofs.Basics.{same_number}
 use Rattle.mu_model.proofs.Owned.{IsOwn, newest-part}
 use Rattle.mu_model.proofs.Parts.{filter-append}
@@ -22,16 +21,14 @@ use Rattle.mu_alive.specs.Failing.{failing_steps}
 use Rattle.mu_alive.specs.Settling.{KeepGoing, LeastIsNamed, OnlyLeastAsks, ReadsOpen}
 use Rattle.mu_alive.proofs.Beginning.{grants_before, reads_before}
 use Rattle.mu_alive.proofs.Failing.{held_failed}
+use Rattle.mu_alive.proofs.Cutting.{longer}
 
 -- what holds of more events held of fewer
 pub causes_before : (again : Bool) (c : Config) (r : ℕ) (newer older : List Event) → AsksWithCauseBy again c r (newer ++ older) → AsksWithCauseBy again c r older
 causes_before again c r newer older held = record {
-  named = λ p e o s. held.named p e o (more (e ∷ []) o s);
-  anew = λ e o s. held.anew e o (more (e ∷ []) o s);
+  named = λ p e o s. held.named p e o (longer newer older (e ∷ []) o s);
+  anew = λ e o s. held.anew e o (longer newer older (e ∷ []) o s);
 }
-  where
-    more : (window o : List Event) → IsStretch older window o → IsStretch (newer ++ older) window o
-    more window o s = record { newer = newer ++ s.newer; is = ap (λ l. newer ++ l) s.is ∙ sym (append_assoc newer s.newer (window ++ o)) }
 
 none_of : (r : ℕ) (top newer : List Event) → part r (top ++ newer) ≡ [] → part r newer ≡ []
 none_of r top newer none = empty (part r top) (part r newer) (sym (filter-append (λ e. e.by == r) top newer) ∙ none)
@@ -83,7 +80,7 @@ score-part r q (e ∷ past) = go (e.by == r) refl (score-part r q past)
     go false other ih = ih ∙ sym (ap (λ o. score_after_read (score r q past) (or_zero (newest (λ f. beat_read r q f.by f.verb f.answer) past)) o) ((beat_read-own r q).own e other))
 
 -- the least that passes
-least_none : (n : ℕ) (test : ℕ → Bool) → ((q : ℕ) → q < n → test q ≡ false) → least_below n test ≡ n
+pub least_none : (n : ℕ) (test : ℕ → Bool) → ((q : ℕ) → q < n → test q ≡ false) → least_below n test ≡ n
 least_none zero test fails = refl
 least_none (suc n) test fails = rw (eq-eqb (least_below n test) n (least_none n test (λ q low. fails q (omega (arith, low)))), fails n (omega arith)) (omega arith)
 

@@ -33,7 +33,7 @@ use Rattle.mu_model.specs.Bounds.{cycle}
 use Rattle.mu_alive.specs.Bringing.{IsGranted, LeadsOn, joining_steps}
 use Rattle.mu_alive.specs.Finishing.{HaveAllRaised, KeepUp, spreading_steps}
 use Rattle.mu_alive.specs.Following.{FollowsOn, RaisesToAll, catching_steps, following_steps}
-use Rattle.mu_alive.specs.Lone.{IsNear}
+use Rattle.mu_alive.specs.Near.{IsNear}
 use Rattle.mu_alive.proofs.Beginning.{CutAt, cut_at}
 use Rattle.mu_alive.proofs.Bringing.{brought_up, granted_first, leads_older}
 use Rattle.mu_alive.proofs.Cutting.{Located, located}

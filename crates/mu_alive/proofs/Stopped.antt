@@ -25,8 +25,7 @@ use Rattle.mu_alive.specs.Enough.{asking_steps}
 use Rattle.mu_alive.specs.Last.{LeadsLast, last_granting_steps}
 use Rattle.mu_alive.specs.Stopping.{HoldsFailed, IsUnblocked, ReadsInOrder}
 use Rattle.mu_alive.proofs.Enough.{IsFine, Leads, fine_moments}
-use Rattle.mu_alive.proofs.Finishing.{keep_before}
-use Rattle.mu_alive.proofs.LastRaising.{last_started, number_named}
+use Rattle.mu_alive.proofs.LastRaising.{last_started, number_named, keep_before}
 use Rattle.mu_alive.proofs.Lasting.{last_before, last_leads}
 use Rattle.mu_alive.proofs.Rising.{GoOn, reserve_fits}
 use Rattle.mu_alive.proofs.Started.{Started}

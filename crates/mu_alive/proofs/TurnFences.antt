@@ -1,8 +1,8 @@
 -- So its leaderships never end.
-use Rattle.std.proofs.Common.{◌≡◌, ℕ, ◌%◌, ◌<◌, ◌≤◌, Bool, true, false, cond, ◌&&◌, ◌==◌, List, [], ◌∷◌, refl, sym, ◌∙◌, ap, arith, Some, None, subst, eqb-true, true≢false}
+use Rattle.std.proofs.Common.{◌≡◌, ℕ, ◌%◌, ◌<◌, ◌≤◌, Bool, true, false, ◌&&◌, ◌==◌, List, ◌∷◌, refl, sym, ◌∙◌, ap, arith, Some, None, subst, eqb-true, true≢false, ◌||◌}
 use Rattle.std.specs.declared.option.Option.{Option}
 use Rattle.std.specs.Prelude.{is_some}
-use Rattle.std.proofs.lemmas.Bool.{and_parts}
+use Rattle.std.proofs.lemmas.Bool.{and_parts, le-ltb}
 use Rattle.mu_model.specs.declared.config.Config.{Config}
 use Rattle.mu_model.specs.declared.event.Answer.{Answer}
 use Rattle.mu_model.specs.declared.event.Event.{Event}
@@ -20,15 +20,15 @@ use Rattle.mu_model.proofs.Basics.{same_number, same_some}
 use Rattle.mu_model.proofs.Owned.{noted-part}
 use Rattle.mu_agree.proofs.Access.{entered_facts, last_close, must_drain-part, no_target, open_target-part}
 use Rattle.mu_agree.proofs.Entering.{slot_entered}
-use Rattle.mu_agree.proofs.Legal.{event_after}
+use Rattle.mu_agree.proofs.Legal.{event_after, legal_older}
 use Rattle.mu_agree.proofs.Members.{joined_under-part, over-part}
 use Rattle.mu_pace.specs.Counters.{AtEachMoment}
 use Rattle.mu_alive.specs.Turns.{AreInTurn, IsInTurn, TurnsLeadOn}
-use Rattle.mu_alive.proofs.Alone.{not_above, still_on, GoesOn, over_ask, over_enter, over_put_min, over_put_slot}
 use Rattle.mu_alive.proofs.TurnOwners.{IsHighest, NotesStanding, StaysOpen, no_grant, notes_standing, stays_open, seen_again, top_induction}
-use Rattle.mu_alive.proofs.Turns.{turn_induction}
+use Rattle.mu_alive.proofs.Turns.{turn_induction, turns_before}
 use Rattle.mu_alive.proofs.TurnNumbers.{are_first, own_number, region_low}
 use Rattle.mu_model.proofs.Putting.{MayEnter, put_facts}
+use Rattle.mu_alive.proofs.Cutting.{moments_of}
 
 -- an open `Enter` of r holds the region, undrained, under the noted grant
 pub record HoldsOpen (r : ℕ) (owner : Option ℕ) (drain : Bool) (note : Option ℕ) (grant : ℕ) : Type 0 where
@@ -149,6 +149,44 @@ members_step c r p by v past top opens may s = s
 pub members_held : (c : Config) (r p : ℕ) (past : List Event) → IsLegalHistory c past → AreInTurn past → IsHighest r past → MembersHeld r p past
 members_held c r p = top_induction c r (MembersHeld r p) (λ o e. cc) (λ past by v legal turns turn high may s. members_step c r p by v past (stays_open c r p past legal turns high) (opens_held c r p past legal turns high) may.may s)
 
+-- so a leadership never ends
+abbrev pub GoesOn : ℕ → List Event → Type 0
+GoesOn a past = is_over a past ≡ false
+
+pub over_ask : (c : Config) (a by q : ℕ) (past : List Event) → GoesOn a past → (t : Bool) → is_first_ask a by (Verb.Ask q) ≡ t → GoesOn a (event_after c past by (Verb.Ask q) ∷ past)
+over_ask c a by q past s true h = rw h refl
+over_ask c a by q past s false h = rw h s
+
+pub still_on : (x y : Bool) → x ≡ false → y ≡ false → (x || y) ≡ false
+still_on true y h k = absurd (true≢false h)
+still_on false y h k = k
+
+pub not_above : (o : Option ℕ) (x : ℕ) → ((b : ℕ) → o ≡ Some b → x ≤ b) → is_above o x ≡ false
+not_above None x s = refl
+not_above (Some b) x s = le-ltb b x (s b refl)
+
+pub over_enter : (a by q : ℕ) (t : Target) (past : List Event) → GoesOn a past → ((by == a) ≡ true → entered_or_lost (noted_grant by q past) (fence q past) ≡ Answer.Entered) → (answer : Answer) → entered_or_lost (noted_grant by q past) (fence q past) ≡ answer → (x : Bool) → (by == a) ≡ x
+    → GoesOn a (record { by = by; verb = Verb.Enter q t; answer = answer } ∷ past)
+over_enter a by q t past s in' (Answer.Lost f) e true h = absurd (let k = sym (in' h) ∙ e in cc)
+over_enter a by q t past s in' (Answer.Lost f) e false h = rw h s
+over_enter a by q t past s in' answer e x h = s
+
+pub over_put_min : (c : Config) (a by q b : ℕ) (past : List Event) → GoesOn a past → (d : Bool) → ((by == a) && d) ≡ false → GoesOn a (record { by = by; verb = Verb.PutMin q b; answer = put_answer d } ∷ past)
+over_put_min c a by q b past s true h = still_on (by == a) (is_over a past) (true_and (by == a) h) s
+  where
+    true_and : (x : Bool) → (x && true) ≡ false → x ≡ false
+    true_and true h = h
+    true_and false h = refl
+over_put_min c a by q b past s false h = s
+
+pub over_put_slot : (c : Config) (a by q i b v : ℕ) (past : List Event) → GoesOn a past → (d : Bool) → ((by == a) && d) ≡ false → GoesOn a (record { by = by; verb = Verb.PutSlot q i b v; answer = put_answer d } ∷ past)
+over_put_slot c a by q i b v past s true h = still_on (by == a) (is_over a past) (true_and (by == a) h) s
+  where
+    true_and : (x : Bool) → (x && true) ≡ false → x ≡ false
+    true_and true h = h
+    true_and false h = refl
+over_put_slot c a by q i b v past s false h = s
+
 -- so a leadership never ends: its events come while nobody above has asked
 none_both : (x y : Bool) → (x ≡ true → y ≡ false) → (x && y) ≡ false
 none_both true y h = h refl
@@ -243,9 +281,4 @@ turns_lead_on c past r legal turns few =
 
 -- at each moment of each part
 pub lead_on_moments : (c : Config) (r : ℕ) (past : List Event) → IsLegalHistory c past → AreInTurn past → c.replicas < 8 → AtEachMoment (λ now. is_over r now ≡ false) (part r past)
-lead_on_moments c r [] legal turns few = refl
-lead_on_moments c r (e ∷ past) legal turns few = go (e.by == r) (lead_on_moments c r past legal.0 turns.0 few) (over-part r (e ∷ past) ∙ turns_lead_on c (e ∷ past) r legal turns few)
-  where
-    go : (t : Bool) → AtEachMoment (λ now. is_over r now ≡ false) (part r past) → is_over r (cond t (e ∷ part r past) (part r past)) ≡ false → AtEachMoment (λ now. is_over r now ≡ false) (cond t (e ∷ part r past) (part r past))
-    go true ih here = (ih, here)
-    go false ih here = ih
+lead_on_moments c r past legal turns few = moments_of r (λ now. is_over r now ≡ false) past (λ newer older is. over-part r older ∙ turns_lead_on c older r (legal_older c newer older (subst (IsLegalHistory c) is legal)) (turns_before newer older (subst AreInTurn is turns)) few)

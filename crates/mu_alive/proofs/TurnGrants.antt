@@ -22,19 +22,21 @@ use Rattle.mu_model.proofs.Basics.{same_number, same_some}
 use Rattle.mu_model.proofs.Parts.{filter-append}
 use Rattle.mu_agree.proofs.Legal.{event_after, legal_older}
 use Rattle.mu_alive.specs.Turns.{AreInTurn, HostsGrantInTurn}
-use Rattle.mu_alive.proofs.Alone.{owner-part, seen-part}
 use Rattle.mu_alive.proofs.Beginning.{cut_at, grants_before, reads_before}
 use Rattle.mu_alive.proofs.Calm.{count_adds, count_few}
 use Rattle.mu_alive.proofs.Cutting.{Located, located, met, more_pass}
-use Rattle.mu_alive.proofs.TurnOwners.{IsHighest, StaysOpen, Waits, no_grant, stays_open, served-part, top_induction, waiter_begun, waits}
-use Rattle.mu_alive.proofs.Turns.{not_begun}
+use Rattle.mu_alive.proofs.TurnOwners.{IsHighest, StaysOpen, Waits, no_grant, stays_open, served-part, top_induction, waiter_begun, waits, owner-part, seen-part}
+use Rattle.mu_alive.proofs.Turns.{not_begun, turns_before}
 use Rattle.mu_pace.proofs.Pasts.{has_later, begun_still, cut, reads_ask}
-use Rattle.mu_alive.proofs.Granting.{none_before}
 
--- what came before some events in turn was in turn
-pub turns_before : (newer older : List Event) → AreInTurn (newer ++ older) → AreInTurn older
-turns_before [] older turns = turns
-turns_before (e ∷ newer) older turns = turns_before newer older turns.0
+-- what comes before an event that never comes is nothing
+none_before : (test : Event → Bool) (mine : List Event) → has test mine ≡ false → before test mine ≡ []
+none_before test [] none = refl
+none_before test (e ∷ mine) none = go (test e) none (none_before test mine)
+  where
+    go : (t : Bool) → cond t true (has test mine) ≡ false → (has test mine ≡ false → before test mine ≡ []) → cond t mine (before test mine) ≡ []
+    go true none ih = absurd (true≢false none)
+    go false none ih = ih none
 
 pub highest_older : (r : ℕ) (newer older : List Event) → IsHighest r (newer ++ older) → IsHighest r older
 highest_older r [] older high = high

@@ -1,5 +1,5 @@
 -- If replicas ask in turn, the last one keeps the regions that are granted to it.
-use Rattle.std.proofs.Common.{◌≡◌, ◌⊎◌, ℕ, ◌<◌, ◌≤◌, inl, inr, Bool, true, false, cond, ◌&&◌, not, ◌==◌, List, [], ◌∷◌, refl, sym, ◌∙◌, ap, arith, Some, None, subst, eqb-true, true≢false}
+use Rattle.std.proofs.Common.{◌≡◌, ◌≢◌, ◌++◌, ◌⊎◌, ℕ, ◌<◌, ◌≤◌, inl, inr, Bool, true, false, cond, ◌&&◌, not, ◌==◌, List, [], ◌∷◌, refl, sym, ◌∙◌, ap, arith, Some, None, subst, eqb-true, true≢false, ◌≢◌, zero, suc}
 use Rattle.std.specs.declared.option.Option.{Option}
 use Rattle.std.specs.Prelude.{max, nat_lt}
 use Rattle.std.proofs.lemmas.Bool.{and_from, and_parts, cases_eq, cases_lt, cases_order, eq-eqb, lt-ltb, ltb-true, ne_eqb}
@@ -11,21 +11,61 @@ use Rattle.mu_model.specs.Allowed.{Allowed, Needs}
 use Rattle.mu_model.specs.Histories.{all_below, before, has, newer_or, or_zero, part, since}
 use Rattle.mu_model.specs.Leaderships.{grant_for, has_begun, is_first_ask, noted_grant, owner_is}
 use Rattle.mu_model.specs.Legal.{IsLegalHistory}
-use Rattle.mu_model.specs.Regions.{asks, fence, fence_closing, fence_grant, fence_owner, is_close_of, is_grant_of}
-use Rattle.mu_model.specs.Serving.{has_unserved_ask, is_grant_to, read_while_owner, seen_asks, served, served_as_owner, served_by_grant}
+use Rattle.mu_model.specs.Regions.{asks, fence, fence_closing, fence_grant, fence_owner, is_close_of, is_grant_of, granted_by}
+use Rattle.mu_model.specs.Serving.{has_unserved_ask, is_grant_to, read_while_owner, seen_asks, served, served_as_owner, served_by_grant, ask_read}
 use Rattle.mu_model.proofs.Basics.{same_number, same_some}
-use Rattle.mu_model.proofs.Owned.{IsOwnTest, before-part, has-part, since-part}
+use Rattle.mu_model.proofs.Owned.{IsOwnTest, before-part, has-part, since-part, IsOwn, newest-part}
 use Rattle.mu_model.proofs.Scans.{all_at}
 use Rattle.mu_agree.proofs.Access.{grant_needs, closes-own, grants-own}
 use Rattle.mu_agree.proofs.Legal.{event_after, legal_induction}
 use Rattle.mu_alive.specs.Turns.{AreInTurn, IsInTurn}
-use Rattle.mu_alive.proofs.Alone.{owner-part, owner_named, seen-part, some_passes}
 use Rattle.mu_alive.proofs.Turns.{none_seen, not_begun, turn_induction}
 use Rattle.mu_pace.proofs.Pasts.{begun_on}
+
+ask_read-own : (r w : ℕ) → IsOwn r (λ e. ask_read r w e.by e.verb e.answer)
+ask_read-own r w = record { own = λ e h. go e.by e.verb e.answer h }
+  where
+    go : (by : ℕ) (v : Verb) (a : Answer) → (by == r) ≡ false → ask_read r w by v a ≡ None
+    go by (Verb.ReadAsk q) (Answer.Number x) h = rw h refl
+    go by v a h = refl
+
+granted_by-own : (r : ℕ) → IsOwn r (λ e. granted_by r e.by e.verb)
+granted_by-own r = record { own = λ e h. go e.by e.verb h }
+  where
+    go : (by : ℕ) (v : Verb) → (by == r) ≡ false → granted_by r by v ≡ None
+    go by (Verb.Grant w) h = rw h refl
+    go by v h = refl
+
+pub owner-part : (p : ℕ) (past : List Event) → fence_owner p (part p past) ≡ fence_owner p past
+owner-part p past = newest-part (λ e. granted_by p e.by e.verb) p (granted_by-own p) past
+
+pub seen-part : (p w : ℕ) (past : List Event) → seen_asks p w (part p past) ≡ seen_asks p w past
+seen-part p w past = ap or_zero (newest-part (λ e. ask_read p w e.by e.verb e.answer) p (ask_read-own p w) past)
+
+-- some number below n passes if not all fail
+some_passes : (n : ℕ) (f : ℕ → Bool) → all_below n (λ w. not (f w)) ≡ false → (w : ℕ) × (f w ≡ true)
+some_passes zero f none = absurd (true≢false none)
+some_passes (suc n) f none = go (f n) refl none (some_passes n f)
+  where
+    go : (t : Bool) → f n ≡ t → (not t && all_below n (λ w. not (f w))) ≡ false → (all_below n (λ w. not (f w)) ≡ false → (w : ℕ) × (f w ≡ true)) → (w : ℕ) × (f w ≡ true)
+    go true is rest ih = (n, is)
+    go false is rest ih = ih rest
+
+pub owner_named : (a : ℕ) (o : Option ℕ) → owner_is a o ≡ true → o ≡ Some a
+owner_named a None h = absurd (true≢false (sym h))
+owner_named a (Some w) h = ap Some (eqb-true w a h)
 
 -- nobody above r has asked
 abbrev pub IsHighest : ℕ → List Event → Type 0
 IsHighest r past = (w : ℕ) → r < w → has_begun w past ≡ false
+
+-- no other than r has asked
+abbrev pub IsLone : ℕ → List Event → Type 0
+IsLone r past = (w : ℕ) → w ≢ r → has_begun w past ≡ false
+
+pub lone_before : (r : ℕ) (newer older : List Event) → IsLone r (newer ++ older) → IsLone r older
+lone_before r [] older lone = lone
+lone_before r (e ∷ newer) older lone = lone_before r newer older (λ w other. not_begun w e (newer ++ older) (lone w other))
 
 highest_before : (r : ℕ) (e : Event) (past : List Event) → IsHighest r (e ∷ past) → IsHighest r past
 highest_before r e past high w above = not_begun w e past (high w above)
@@ -111,7 +151,7 @@ rests p w past is = elim (cases_lt (served p w past) (seen_asks p w past)) [
     ]
 
 -- an owner has asked
-abbrev OwnerBegun : ℕ → List Event → Type 0
+abbrev pub OwnerBegun : ℕ → List Event → Type 0
 OwnerBegun p past = (w : ℕ) → fence_owner p past ≡ Some w → has_begun w past ≡ true
 
 pub waiter_begun : (c : Config) (p w : ℕ) (past : List Event) → IsLegalHistory c past → Waits p w past → has_begun w past ≡ true
@@ -133,7 +173,7 @@ owner_begun_step c p by (Verb.Grant q) past legal may s = go (by == p) refl
 owner_begun_step c p by (Verb.Ask q) past legal may s = λ w is. begun_on w (event_after c past by (Verb.Ask q)) past (s w is)
 owner_begun_step c p by v past legal may s = s
 
-owner_begun : (c : Config) (p : ℕ) (past : List Event) → IsLegalHistory c past → OwnerBegun p past
+pub owner_begun : (c : Config) (p : ℕ) (past : List Event) → IsLegalHistory c past → OwnerBegun p past
 owner_begun c p = legal_induction c (OwnerBegun p) (λ w is. cc) (λ past by v h may s. owner_begun_step c p by v past h may.may s)
 
 -- an owner's asks are served

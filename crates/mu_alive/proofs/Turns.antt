@@ -1,5 +1,5 @@
 -- If replicas ask in turn, no leadership ends: what they note, and what numbers they put.
-use Rattle.std.proofs.Common.{◌≡◌, ℕ, ◌+◌, inl, inr, Bool, true, false, cond, ◌&&◌, ◌||◌, ◌==◌, List, [], ◌∷◌, refl, sym, ◌∙◌, ap, Some, None, subst, eqb-true, true≢false}
+use Rattle.std.proofs.Common.{◌≡◌, ℕ, ◌+◌, inl, inr, Bool, true, false, cond, ◌&&◌, ◌||◌, ◌==◌, List, [], ◌∷◌, refl, sym, ◌∙◌, ap, Some, None, subst, eqb-true, true≢false, ◌++◌}
 use Rattle.std.specs.declared.option.Option.{Option}
 use Rattle.std.specs.Prelude.{is_some}
 use Rattle.std.proofs.lemmas.Bool.{and_from, eq-eqb}
@@ -25,6 +25,11 @@ use Rattle.mu_agree.proofs.Numbers.{greatest_own_put}
 use Rattle.mu_alive.specs.Turns.{AreInTurn, IsInTurn, is_own_min}
 use Rattle.mu_pace.proofs.Pasts.{begun_on, min_on}
 use Rattle.mu_model.proofs.Putting.{MayEnter}
+
+-- what came before some events in turn was in turn
+pub turns_before : (newer older : List Event) → AreInTurn (newer ++ older) → AreInTurn older
+turns_before [] older turns = turns
+turns_before (e ∷ newer) older turns = turns_before newer older turns.0
 
 -- an induction over the legal histories in turn
 pub turn_induction : (c : Config) (P : List Event → Type 0) → P []

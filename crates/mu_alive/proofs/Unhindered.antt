@@ -16,7 +16,7 @@ use Rattle.mu_pace.proofs.Growing.{members_on, stays_less}
 use Rattle.mu_alive.proofs.Enough.{first_is_milestone}
 use Rattle.mu_alive.specs.Unhindered.{CommitsWithin, IsConfirming, UnhinderedCommit, is_hindrance}
 use Rattle.mu_pace.proofs.Pasts.{begun_on, begun_still, min_on, min_now}
-use Rattle.mu_alive.proofs.Waiting.{stays_newer, stays_older}
+use Rattle.mu_alive.proofs.Waiting.{stays_newer, stays_older, steps_both}
 
 -- what passes in a part of a stretch passes in the whole
 some_newer : (test : List Event → Event → Bool) (newer rest older : List Event) → some_step test newer (rest ++ older) ≡ true → some_step test (newer ++ rest) older ≡ true
@@ -53,18 +53,6 @@ each_older test (x ∷ newer) rest older each = go (test ((newer ++ rest) ++ old
     go : (t : Bool) → (if t then each_step test (newer ++ rest) older else false) ≡ true → (each_step test (newer ++ rest) older ≡ true → each_step test rest older ≡ true) → each_step test rest older ≡ true
     go true each ih = ih each
     go false each ih = absurd (true≢false (sym each))
-
--- the steps of two parts
-steps_both : (test : List Event → Event → Bool) (newer rest older : List Event) → steps test (newer ++ rest) older ≡ steps test newer (rest ++ older) + steps test rest older
-steps_both test [] rest older = omega arith
-steps_both test (x ∷ newer) rest older =
-    subst (λ past. (if test past x then steps test (newer ++ rest) older + 1 else steps test (newer ++ rest) older) ≡ (if test (newer ++ (rest ++ older)) x then steps test newer (rest ++ older) + 1 else steps test newer (rest ++ older)) + steps test rest older) (sym (append_assoc newer rest older))
-    (go (test (newer ++ (rest ++ older)) x) (steps_both test newer rest older))
-  where
-    go : (t : Bool) → steps test (newer ++ rest) older ≡ steps test newer (rest ++ older) + steps test rest older
-        → (if t then steps test (newer ++ rest) older + 1 else steps test (newer ++ rest) older) ≡ (if t then steps test newer (rest ++ older) + 1 else steps test newer (rest ++ older)) + steps test rest older
-    go true ih = omega (arith, ih)
-    go false ih = ih
 
 step_adds : (test : List Event → Event → Bool) (x : Event) (window older : List Event) → (steps test window older ≤ steps test (x ∷ window) older) × (steps test (x ∷ window) older ≤ steps test window older + 1)
 step_adds test x window older = go (test (window ++ older) x)

@@ -22,15 +22,17 @@ each_both test (e ∷ xs) ys base x y = go (test (xs ++ (ys ++ base)) e) (test (
     go true false is x ih = absurd (true≢false (sym is))
     go false true is x ih = absurd (true≢false is)
 
-pub more_steps : (test : List Event → Event → Bool) (xs ys base : List Event) → steps test xs (ys ++ base) ≤ steps test (xs ++ ys) base
-more_steps test [] ys base = omega arith
-more_steps test (e ∷ xs) ys base = go (test (xs ++ (ys ++ base)) e) (test ((xs ++ ys) ++ base) e) (ap (λ l. test l e) (append_assoc xs ys base)) (more_steps test xs ys base)
+-- the steps of two parts
+pub steps_both : (test : List Event → Event → Bool) (newer rest older : List Event) → steps test (newer ++ rest) older ≡ steps test newer (rest ++ older) + steps test rest older
+steps_both test [] rest older = omega arith
+steps_both test (x ∷ newer) rest older =
+    subst (λ past. (if test past x then steps test (newer ++ rest) older + 1 else steps test (newer ++ rest) older) ≡ (if test (newer ++ (rest ++ older)) x then steps test newer (rest ++ older) + 1 else steps test newer (rest ++ older)) + steps test rest older) (sym (append_assoc newer rest older))
+    (go (test (newer ++ (rest ++ older)) x) (steps_both test newer rest older))
   where
-    go : (t u : Bool) → u ≡ t → steps test xs (ys ++ base) ≤ steps test (xs ++ ys) base → (if t then steps test xs (ys ++ base) + 1 else steps test xs (ys ++ base)) ≤ (if u then steps test (xs ++ ys) base + 1 else steps test (xs ++ ys) base)
-    go true true is ih = omega (arith, ih)
-    go false false is ih = ih
-    go true false is ih = absurd (true≢false (sym is))
-    go false true is ih = absurd (true≢false is)
+    go : (t : Bool) → steps test (newer ++ rest) older ≡ steps test newer (rest ++ older) + steps test rest older
+        → (if t then steps test (newer ++ rest) older + 1 else steps test (newer ++ rest) older) ≡ (if t then steps test newer (rest ++ older) + 1 else steps test newer (rest ++ older)) + steps test rest older
+    go true ih = omega (arith, ih)
+    go false ih = ih
 
 pub stays_both : (r : ℕ) (xs ys : List Event) → stays r xs ≡ true → stays r ys ≡ true → stays r (xs ++ ys) ≡ true
 stays_both r [] ys x y = y
@@ -95,7 +97,7 @@ open_short r w most window base held k open_yet =
     let all = each_both (λ past e. not (w.closes past e)) window k.window k.opened rest k.unclosed in
     let whole : window ++ base ≡ (window ++ k.window) ++ k.opened = ap (λ l. window ++ l) k.is ∙ sym (append_assoc window k.window k.opened) in
     let less = shorter w k.amount (window ++ base) (window ++ k.window) k.opened held (record { newer = []; is = whole }) k.allows all in
-    let more = more_steps w.counts window k.window k.opened in
+    let more = steps_both w.counts window k.window k.opened in
     let same = ap (steps w.counts window) k.is in
     let few = k.few in
     omega (arith, less, more, same, few)

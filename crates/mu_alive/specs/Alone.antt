@@ -1,21 +1,12 @@
 -- asks alone, writes alone: no other replica asks for a region; no other replica writes rows.
-use Rattle.std.specs.Prelude.{List, [], false, ℕ, ◌∷◌, ◌≡◌}
-use Rattle.mu_model.specs.declared.config.Config.{Config}
+use Rattle.std.specs.Prelude.{List, [], ℕ, ◌∷◌, ◌≡◌}
 use Rattle.mu_model.specs.declared.event.Event.{Event}
 use Rattle.mu_model.specs.declared.event.Verb.{Verb}
-use Rattle.mu_model.specs.Leaderships.{is_over}
-use Rattle.mu_model.specs.Legal.{IsLegalHistory}
 
 -- no replica but a asks for a region
 abbrev pub AsksAlone : ℕ → List Event → Type 0
 AsksAlone a [] = Unit {0}
 AsksAlone a (e ∷ past) = AsksAlone a past × ((p : ℕ) → e.verb ≡ Verb.Ask p → e.by ≡ a)
-
--- the leaderships of a replica that asks alone never end
-abbrev pub LoneAskersLead : Type 0
-LoneAskersLead =
-    (c : Config) (a : ℕ) (past : List Event) → IsLegalHistory c past → AsksAlone a past
-    → is_over a past ≡ false
 
 -- no replica but a writes its rows
 abbrev pub WritesAlone : ℕ → List Event → Type 0

@@ -1,17 +1,11 @@
 -- steps enough, large ring: the steps after which a replica that asks alone knows every command;
 -- the ring has a place for each row and for twice the reserve.
-use Rattle.std.specs.Prelude.{Bool, List, length, true, ℕ, ◌*◌, ◌+◌, ◌≡◌, ◌≤◌}
+use Rattle.std.specs.Prelude.{ℕ, ◌*◌, ◌+◌, ◌≤◌}
 use Rattle.mu_model.specs.declared.config.Config.{Config}
-use Rattle.mu_model.specs.declared.event.Event.{Event}
 use Rattle.mu_model.specs.Bounds.{cycle}
-use Rattle.mu_model.specs.Contents.{IsConfig, holds_all, row_count}
-use Rattle.mu_model.specs.Histories.{part}
-use Rattle.mu_model.specs.Knowledge.{applied}
+use Rattle.mu_model.specs.Contents.{row_count}
 use Rattle.mu_model.specs.Room.{reserve}
-use Rattle.mu_model.specs.Steps.{knows_all}
-use Rattle.mu_alive.specs.Alone.{WritesAlone}
 use Rattle.mu_alive.specs.Calm.{calm_steps}
-use Rattle.mu_alive.specs.Lone.{LeadsAlone}
 
 -- the steps in which a replica that has to ask asks every region
 abbrev pub asking_steps : Config → ℕ
@@ -32,19 +26,3 @@ steps_enough c = beginning_steps c + 2 * calm_steps c (row_count c + reserve c)
 -- every entry of the job has a place of its own in the ring
 abbrev pub HasLargeRing : Config → Type 0
 HasLargeRing c = row_count c + 2 * reserve c ≤ c.ring
-
--- a replica that asks alone, while a majority keeps up with it, knows every command after
--- `steps_enough`
-abbrev pub LoneLeadersKnowAll : Type 0
-LoneLeadersKnowAll =
-    (c : Config) (live : ℕ → Bool) (a : ℕ) (past : List Event) → IsConfig c → HasLargeRing c
-    → LeadsAlone c live a past
-    → steps_enough c ≤ length (part a past) → knows_all c a (part a past) ≡ true
-
--- and if no other wrote rows, it has applied them
-abbrev pub LoneLeadersApplyAll : Type 0
-LoneLeadersApplyAll =
-    (c : Config) (live : ℕ → Bool) (a : ℕ) (past : List Event) → IsConfig c → HasLargeRing c
-    → LeadsAlone c live a past
-    → WritesAlone a past → steps_enough c ≤ length (part a past)
-    → holds_all c (applied c a (part a past)) ≡ true

@@ -1,7 +1,7 @@
--- finds beats, keeps up, is fair, keeps pace: each read of the beats of a replica by others finds new
--- ones, and so they hold it alive in time; in any stretch of some events in which it takes so many
--- steps each other one takes some. What follows if each takes one in any few of another, if the
--- replica is no slower than the others, and if all keep step.
+-- finds beats, keeps up, keeps pace: each read of the beats of a replica by others finds new ones, and
+-- so they hold it alive in time; in any stretch of some events in which it takes so many steps each
+-- other one takes some. What follows if the replica is no slower than the others, and if all keep
+-- step.
 use Rattle.std.specs.Prelude.{Bool, List, length, true, ℕ, ◌*◌, ◌++◌, ◌+◌, ◌<◌, ◌∷◌, ◌≡◌, ◌≢◌, ◌≤◌}
 use Rattle.mu_model.specs.declared.config.Config.{Config}
 use Rattle.mu_model.specs.declared.event.Event.{Event}
@@ -26,13 +26,6 @@ KeepsUp c live ratio lag a events =
     → events ≡ newer ++ (window ++ older) → ratio * k + lag ≤ length (part a window)
     → k ≤ length (part q window)
 
--- in each stretch in which a takes so many steps each other one of these replicas takes a step
-abbrev pub IsFair : Config → (ℕ → Bool) → ℕ → ℕ → List Event → Type 0
-IsFair c live ratio a events =
-    (q : ℕ) (newer window older : List Event) → q < c.replicas → q ≢ a → live q ≡ true
-    → events ≡ newer ++ (window ++ older) → ratio ≤ length (part a window)
-    → 1 ≤ length (part q window)
-
 -- in each stretch each of these replicas takes at most one step more than a
 abbrev pub KeepsPace : Config → (ℕ → Bool) → ℕ → List Event → Type 0
 KeepsPace c live a events =
@@ -52,12 +45,6 @@ HeldAliveInTime =
     → IsLegalHistory c (newer ++ older)
     → ((r : ℕ) → r < c.replicas → live r ≡ true → ReadsInTime c r (part r (newer ++ older)))
     → FindsBeats c live a newer → HoldAlive c live a newer older
-
--- if each other one takes a step in any so many of a, they keep up at that ratio with no lag
-abbrev pub FairOnesKeepUp : Type 0
-FairOnesKeepUp =
-    (c : Config) (live : ℕ → Bool) (ratio a : ℕ) (events : List Event) → 1 ≤ ratio
-    → IsFair c live ratio a events → KeepsUp c live ratio 0 a events
 
 -- if they keep step, they keep up at the ratio 1 with a lag of 1
 abbrev pub EvenOnesKeepUp : Type 0

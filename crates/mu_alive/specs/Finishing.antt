@@ -13,12 +13,10 @@ use Rattle.mu_model.specs.Knowledge.{applied}
 use Rattle.mu_model.specs.Regions.{region_head}
 use Rattle.mu_model.specs.Steps.{has_min, is_asking, is_min, is_named}
 use Rattle.mu_pace.specs.Counters.{AtEachMoment, AtEachStep}
-use Rattle.mu_alive.specs.Alone.{WritesAlone}
 use Rattle.mu_alive.specs.Bringing.{joining_steps}
 use Rattle.mu_alive.specs.Enough.{HasLargeRing, steps_enough}
 use Rattle.mu_alive.specs.Following.{RaisesToAll, following_steps}
 use Rattle.mu_alive.specs.Last.{FetchesInTime, LeadsLast, last_steps}
-use Rattle.mu_alive.specs.Lone.{LeadsAlone}
 use Rattle.mu_alive.specs.Opens.{OpensInTime}
 
 -- before it reads its first minimum, a asks each region
@@ -61,13 +59,6 @@ lagging_steps c = 2 * cycle c + 2 + spreading_steps c
 -- before that it knows all
 abbrev pub raising_steps : Config → ℕ
 raising_steps c = steps_enough c + lagging_steps c
-
--- after `raising_steps` of a all that keep up with it have done so
-abbrev pub LoneLeadersRaiseAll : Type 0
-LoneLeadersRaiseAll =
-    (c : Config) (live : ℕ → Bool) (a : ℕ) (past : List Event) → IsConfig c → HasLargeRing c
-    → LeadsAlone c live a past → WritesAlone a past → KeepUp c live a past
-    → raising_steps c ≤ length (part a past) → HaveAllRaised c live past
 
 -- the steps of the last that asks, from when it began to name itself: it knows all, and brings it to
 -- the others while it fetches the rows that it lacks

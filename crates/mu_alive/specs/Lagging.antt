@@ -14,7 +14,8 @@ use Rattle.mu_alive.specs.Alone.{WritesAlone}
 use Rattle.mu_alive.specs.Bringing.{bringing_steps, joining_steps}
 use Rattle.mu_alive.specs.Enough.{beginning_steps}
 use Rattle.mu_alive.specs.Finishing.{HaveAllRaised, KeepUp, lagging_steps}
-use Rattle.mu_alive.specs.Lone.{LeadsAlone}
+use Rattle.mu_alive.specs.Last.{FetchesInTime, LeadsLast}
+use Rattle.mu_alive.specs.Opens.{OpensInTime}
 
 -- the steps of the leader in which each replica that lags gains an entry or a row, all at once
 abbrev pub gain_steps : Config → ℕ
@@ -38,14 +39,15 @@ steps_in_any_ring c =
     settling_steps c + (row_count c + reserve c) * commit_steps c
     + (c.width + 1) * (row_count c + reserve c) * gain_steps c
 
--- a replica that asks alone, and that all others keep up with, has applied every command then
+-- replica 0 has applied every command then, if it is the last that asks from the start on, writes
+-- rows alone, and all others keep up with it
 abbrev pub LoneLeadersApplyAllInAnyRing : Type 0
 LoneLeadersApplyAllInAnyRing =
-    (c : Config) (live : ℕ → Bool) (a : ℕ) (past : List Event) → IsConfig c
-    → ((r : ℕ) → r < c.replicas → live r ≡ true) → LeadsAlone c live a past
-    → WritesAlone a past → KeepUp c live a past
-    → steps_in_any_ring c ≤ length (part a past)
-    → holds_all c (applied c a (part a past)) ≡ true
+    (c : Config) (live : ℕ → Bool) (past : List Event) → IsConfig c
+    → ((r : ℕ) → r < c.replicas → live r ≡ true) → LeadsLast c live 0 0 past
+    → OpensInTime c 0 (part 0 past) → WritesAlone 0 past → KeepUp c live 0 past
+    → steps_in_any_ring c ≤ length (part 0 past)
+    → holds_all c (applied c 0 (part 0 past)) ≡ true
 
 -- with the steps until all others have too, and have raised their heads to it
 abbrev pub raising_in_any_ring : Config → ℕ
@@ -53,7 +55,8 @@ raising_in_any_ring c = steps_in_any_ring c + lagging_steps c
 
 abbrev pub LoneLeadersRaiseAllInAnyRing : Type 0
 LoneLeadersRaiseAllInAnyRing =
-    (c : Config) (live : ℕ → Bool) (a : ℕ) (past : List Event) → IsConfig c
-    → ((r : ℕ) → r < c.replicas → live r ≡ true) → LeadsAlone c live a past
-    → WritesAlone a past → KeepUp c live a past
-    → raising_in_any_ring c ≤ length (part a past) → HaveAllRaised c live past
+    (c : Config) (live : ℕ → Bool) (past : List Event) → IsConfig c
+    → ((r : ℕ) → r < c.replicas → live r ≡ true) → LeadsLast c live 0 0 past
+    → OpensInTime c 0 (part 0 past) → FetchesInTime c 0 (part 0 past) → WritesAlone 0 past
+    → KeepUp c live 0 past
+    → raising_in_any_ring c ≤ length (part 0 past) → HaveAllRaised c live past

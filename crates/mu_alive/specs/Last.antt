@@ -18,8 +18,9 @@ use Rattle.mu_pace.specs.Collecting.{LeaderKeeps}
 use Rattle.mu_pace.specs.Counters.{AtEachMoment, AtEachStep}
 use Rattle.mu_alive.specs.Calm.{calm_steps}
 use Rattle.mu_alive.specs.Enough.{HasLargeRing, asking_steps}
-use Rattle.mu_alive.specs.Lone.{IsNear}
+use Rattle.mu_alive.specs.Near.{IsNear}
 use Rattle.mu_alive.specs.Turns.{AreInTurn}
+use Rattle.mu_alive.specs.Alone.{WritesAlone}
 
 -- a names itself once it has asked, and also once it has taken `start` steps
 abbrev pub NamesItself : Config → ℕ → ℕ → List Event → Type 0
@@ -81,4 +82,12 @@ LastLeadersApplyAll =
     (c : Config) (live : ℕ → Bool) (a start : ℕ) (past : List Event) → IsConfig c → HasLargeRing c
     → LeadsLast c live a start past → FetchesInTime c a (part a past)
     → start + last_steps c a + fetching_steps c ≤ length (part a past)
+    → holds_all c (applied c a (part a past)) ≡ true
+
+-- if no other wrote rows, it has applied every command as soon as it knows it
+abbrev pub LoneWritersApplyAll : Type 0
+LoneWritersApplyAll =
+    (c : Config) (live : ℕ → Bool) (a start : ℕ) (past : List Event) → IsConfig c → HasLargeRing c
+    → LeadsLast c live a start past → WritesAlone a past
+    → start + last_steps c a ≤ length (part a past)
     → holds_all c (applied c a (part a past)) ≡ true

@@ -9,7 +9,7 @@ pub mod Finishing
 pub mod Following
 pub mod Lagging
 pub mod Last
-pub mod Lone
+pub mod Near
 pub mod Opens
 pub mod Resuming
 pub mod Settling

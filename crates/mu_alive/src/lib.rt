@@ -1,42 +1,25 @@
-//! The laws of availability: a replica that asks alone gets its commands applied.
+//! The laws of availability: a leader that keeps its paces, and that a majority keeps up with, gets
+//! the commands applied.
 #![tactic(auto)]
 
-ghost use Rattle.mu_alive.specs.Alone.{LoneAskersLead};
 ghost use Rattle.mu_alive.specs.Bringing.{FollowersAreBroughtUp};
 ghost use Rattle.mu_alive.specs.Calm.{CalmLeadersCommit};
 ghost use Rattle.mu_alive.specs.Clearing.{LeastIsGranted, LeastKeepsRegions, OldAsksAreServed};
-ghost use Rattle.mu_alive.specs.Enough.{LoneLeadersApplyAll, LoneLeadersKnowAll};
 ghost use Rattle.mu_alive.specs.Failing.{HeldFailedInTime};
-ghost use Rattle.mu_alive.specs.Fair.{EvenOnesKeepUp, FairOnesKeepUp, FastOnesAreFound, HeldAliveInTime};
-ghost use Rattle.mu_alive.specs.Finishing.{LastLeadersRaiseAll, LoneLeadersRaiseAll};
+ghost use Rattle.mu_alive.specs.Fair.{EvenOnesKeepUp, FastOnesAreFound, HeldAliveInTime};
+ghost use Rattle.mu_alive.specs.Finishing.{LastLeadersRaiseAll};
 ghost use Rattle.mu_alive.specs.Following.{FollowersCatchUp};
 ghost use Rattle.mu_alive.specs.Lagging.{LoneLeadersApplyAllInAnyRing, LoneLeadersRaiseAllInAnyRing};
-ghost use Rattle.mu_alive.specs.Last.{LastLeadersApplyAll, LastLeadersKnowAll};
+ghost use Rattle.mu_alive.specs.Last.{LastLeadersApplyAll, LastLeadersKnowAll, LoneWritersApplyAll};
 ghost use Rattle.mu_alive.specs.Resuming.{ResumedLeadersApplyAll, ResumedLeadersKnowAll};
 ghost use Rattle.mu_alive.specs.Settling.{LeastIsNamed, OnlyLeastAsks};
 ghost use Rattle.mu_alive.specs.Stopping.{LastLeadersApplyAllInAnyRing, LastLeadersRaiseAllInAnyRing};
 ghost use Rattle.mu_alive.specs.Turns.{HostsGrantInTurn, TurnsLeadOn};
 ghost use Rattle.mu_alive.specs.Unhindered.{UnhinderedCommit};
 
-/// The leaderships of a replica that asks alone never end.
-pub fn lone_askers_lead()
-    ensures { LoneAskersLead }
-{}
-
 /// A leader that nothing interrupts commits in time.
 pub fn calm_leaders_commit()
     ensures { CalmLeadersCommit }
-{}
-
-/// A replica that asks alone, while a majority keeps up with it, knows every command in time.
-pub fn lone_leaders_know_all()
-    ensures { LoneLeadersKnowAll }
-{}
-
-/// A replica that asks alone, while a majority keeps up with it, has also applied every command if
-/// no other replica wrote rows.
-pub fn lone_leaders_apply_all()
-    ensures { LoneLeadersApplyAll }
 {}
 
 /// If replicas ask in turn, no leadership ends.
@@ -67,6 +50,11 @@ pub fn last_leaders_apply_all()
     ensures { LastLeadersApplyAll }
 {}
 
+/// And if no other replica wrote rows, it has applied each command as soon as it knows it.
+pub fn lone_writers_apply_all()
+    ensures { LoneWritersApplyAll }
+{}
+
 /// A leader that is confirmed, that nobody challenges and that has room commits within the bound.
 pub fn unhindered_leaders_commit()
     ensures { UnhinderedCommit }
@@ -82,19 +70,14 @@ pub fn followers_are_brought_up()
     ensures { FollowersAreBroughtUp }
 {}
 
-/// All that keep up with a replica that asks alone have applied all, and raised their heads to it.
-pub fn lone_leaders_raise_all()
-    ensures { LoneLeadersRaiseAll }
-{}
-
 /// All that keep up with the last of the replicas that ask in turn have applied all, and raised
 /// their heads to it.
 pub fn last_leaders_raise_all()
     ensures { LastLeadersRaiseAll }
 {}
 
-/// A replica that asks alone, and that all others keep up with, has applied every command in time,
-/// in any ring.
+/// Replica 0, if it leads and writes rows alone and all others keep up with it, has applied every
+/// command in time, in any ring.
 pub fn lone_leaders_apply_all_in_any_ring()
     ensures { LoneLeadersApplyAllInAnyRing }
 {}
@@ -143,11 +126,6 @@ pub fn least_keeps_regions()
 /// And it grants its region to the least two rounds after that asked for it.
 pub fn least_is_granted()
     ensures { LeastIsGranted }
-{}
-
-/// Replicas each of which takes a step in any few of one keep up with it at that ratio.
-pub fn fair_ones_keep_up()
-    ensures { FairOnesKeepUp }
 {}
 
 /// Replicas that keep step keep up.

@@ -35,7 +35,7 @@ use Rattle.mu_pace.proofs.Pasts.{not_false, not_true}
 use Rattle.mu_alive.specs.Enough.{HasLargeRing, steps_enough}
 use Rattle.mu_alive.specs.Failing.{failing_steps}
 use Rattle.mu_alive.specs.Lagging.{steps_in_any_ring}
-use Rattle.mu_alive.proofs.Applying.{applies_all}
+use Rattle.mu_alive.proofs.Applying.{writer_applies_all}
 use Rattle.mu_alive.proofs.Fetching.{applied_on, last_applies_all}
 use Rattle.mu_alive.proofs.Lagging.{applies_in_any_ring}
 use Rattle.mu_alive.proofs.Stopping.{last_applies}
@@ -51,7 +51,7 @@ use Rattle.mu_cluster.proofs.Naming.{AreUnpaused, unpaused_of}
 use Rattle.mu_cluster.proofs.Onward.{AreNodes, journal_part, nodes_of}
 use Rattle.mu_cluster.proofs.Outliving.{leads_last}
 use Rattle.mu_cluster.proofs.Pausing.{AreRun, HoldsBy, holds_after_pauses, none_outrun_in_large, paused_run}
-use Rattle.mu_cluster.proofs.Raised.{LoneAt, RaisedBy, full_holds, holds_whole, least_or_none, lone_at, one_before}
+use Rattle.mu_cluster.proofs.Raised.{RaisedBy, alone_at, full_holds, holds_whole, late_or_raised, least_or_none}
 use Rattle.mu_cluster.proofs.Taken.{GoOn, TakenAt, fetches_at, taken_at}
 use Rattle.mu_cluster.proofs.Turning.{least_most}
 use Rattle.mu_cluster.proofs.Unblocking.{StopBy, lower_stop, unblocked_at}
@@ -75,7 +75,7 @@ stop_within (s ∷ ss) r steps is = go (s.replica == r) (s.steps == steps) refl 
     go false u at is ih = ((ih is).0, later (ih is).1)
 
 -- and one of a replica below s is at most the greatest of those
-pub stop_below : (stops : List Stop) (r steps s : ℕ) → r < s → stops_at r steps stops ≡ true → steps ≤ last_stop_below stops s
+stop_below : (stops : List Stop) (r steps s : ℕ) → r < s → stops_at r steps stops ≡ true → steps ≤ last_stop_below stops s
 stop_below [] r steps s low is = absurd (true≢false (sym is))
 stop_below (x ∷ xs) r steps s low is = go (x.replica == r) refl (x.steps == steps) refl is (stop_below xs r steps s low)
   where
@@ -113,7 +113,7 @@ rounds_within pauses (suc n) r low =
     ]
 
 -- a line stopped whoever was stopped
-pub line_there : (o : Outcome) → IsRun o → (r : ℕ) → r < o.job.config.replicas → was_stopped o r ≡ true → stops_at r (length (journal_of o r)) o.job.script.stops ≡ true
+line_there : (o : Outcome) → IsRun o → (r : ℕ) → r < o.job.config.replicas → was_stopped o r ≡ true → stops_at r (length (journal_of o r)) o.job.script.stops ≡ true
 line_there o run r low was = go (run.ended r low).0 (run.ended r low).1 (run.ended r low).2.ends
   where
     go : (end : End) → slice_get o.ends r ≡ Some end → EndsBy o.job.config o.job.script r (history (journal_of o r)) end → stops_at r (length (journal_of o r)) o.job.script.stops ≡ true
@@ -184,12 +184,9 @@ first_on o good run left first =
     let some : 0 < o.job.config.replicas = omega (arith, few) in
     record { inside = some; left = left_goes o run 0 some first; lower = λ r low. absurd (omega (arith, low)); majority = majority_goes o run left }
 
--- the greater the least that goes on, the more steps
-steps_more : (c : Config) (s q : ℕ) → s ≤ q → steps_after c s ≤ steps_after c q
-steps_more c s q low = let next : s + 1 ≤ q + 1 = omega (arith, low) in let more = mul-le-mul_right (2 * cycle c) next in omega (arith, more)
-
-steps_more_in_any_ring : (c : Config) (s q : ℕ) → s ≤ q → steps_after_in_any_ring c s ≤ steps_after_in_any_ring c q
-steps_more_in_any_ring c s q low = let next : s + 1 ≤ q + 1 = omega (arith, low) in let more = mul-le-mul_right (2 * cycle c) next in omega (arith, more)
+-- the greater the least that goes on, the more steps until the regions are granted to it
+pub granting_more : (c : Config) (s q : ℕ) → s ≤ q → (s + 1) * (2 * cycle c) ≤ (q + 1) * (2 * cycle c)
+granting_more c s q low = let next : s + 1 ≤ q + 1 = omega (arith, low) in mul-le-mul_right (2 * cycle c) next
 
 -- which case a job is
 data Case (c : Config) (script : Script) (m : ℕ) : Type 0 where
@@ -235,59 +232,42 @@ none_in (x ∷ xs) is = absurd (let low = leb-false 1 (length (x ∷ xs)) is in 
 
 -- without a pause: if all that go on take m steps; else one finished before, and so had all
 unpaused_by : (c : Config) (live : ℕ → Bool) (s : ℕ) (events : List Event) (lengths : List ℕ) (rounds m : ℕ) → AreUnpaused c events lengths rounds → GoOn c live s events → m ≤ c.budget → (((r : ℕ) → r < c.replicas → live r ≡ true → m ≤ slice_index lengths r) → HoldsBy c s m events) → HoldsBy c s m events
-unpaused_by c live s events lengths rounds m run on within late = elim (least_or_none c.replicas live (λ r. slice_index lengths r)) [
-  | inr none ↦ absurd (true≢false (sym on.lives ∙ none s on.inside))
-  | inl q ↦ elim (cases_lt (slice_index lengths q.at) m) [
-    | inr more ↦ late (λ r low lives. let l = q.least r low lives in omega (arith, l, more))
-    | inl early ↦ elim (on.ended q.at q.low q.lives) [
-      | inl spent ↦ absurd (let taken = run.taken q.at q.low in omega (arith, spent, taken, early, within))
-      | inr finished ↦ before (one_before c live events lengths rounds m run q (omega (arith, early)) finished)
-    ]
-  ]
-]
+unpaused_by c live s events lengths rounds m run on within late = elim (late_or_raised c live s events lengths rounds m run on within) [ inl more ↦ late more | inr by ↦ before by ]
   where
     before : RaisedBy c live events m → HoldsBy c s m events
     before b = record { front = b.front; past = b.past; is = b.is; few = b.few s on.inside on.lives; holds = holds_whole c b.raised.upto (applied c s (part s b.past)) (b.raised.held s on.inside on.lives) }
 
+-- s has every row at such a moment
+holds_at : (c : Config) (live : ℕ → Bool) (s m : ℕ) (events : List Event) (t : TakenAt c live s events m) → holds_all c (applied c s (part s (t.last ∷ t.older))) ≡ true → HoldsBy c s m events
+holds_at c live s m events t holds = record { front = t.front; past = t.last ∷ t.older; is = t.is; few = (let n = t.taken in omega (arith, n)); holds = holds }
+
 -- replica 0 goes on, in a large ring
-first_by : (c : Config) (live : ℕ → Bool) (events : List Event) (lengths : List ℕ) (rounds m : ℕ) → IsConfig c → HasLargeRing c → AreUnpaused c events lengths rounds → GoOn c live 0 events → steps_enough c ≤ m → ((r : ℕ) → r < c.replicas → live r ≡ true → m ≤ slice_index lengths r) → HoldsBy c 0 m events
-first_by c live events lengths rounds m good large run on enough late = at (lone_at c live events lengths rounds m good run on (omega (arith, enough)) late)
-  where
-    at : LoneAt c live events m → HoldsBy c 0 m events
-    at l = let n = l.moment.taken in record { front = l.moment.front; past = l.moment.last ∷ l.moment.older; is = l.moment.is; few = omega (arith, n); holds = applies_all c live 0 (l.moment.last ∷ l.moment.older) good large l.lone l.writes (omega (arith, n, enough)) }
+first_by : (c : Config) (live : ℕ → Bool) (events : List Event) (lengths : List ℕ) (rounds m : ℕ) → IsConfig c → HasLargeRing c → AreUnpaused c events lengths rounds → AreNodes c events → GoOn c live 0 events → steps_enough c ≤ m → ((r : ℕ) → r < c.replicas → live r ≡ true → m ≤ slice_index lengths r)
+    → HoldsBy c 0 m events
+first_by c live events lengths rounds m good large run nodes on enough late =
+    let a = alone_at c live events lengths rounds m good run nodes on (omega (arith, enough)) late in
+    holds_at c live 0 m events a.moment (writer_applies_all c live 0 0 (a.moment.last ∷ a.moment.older) good large a.leads a.writes (let n = a.moment.taken in omega (arith, n, enough)))
 
 -- nobody stops, in any ring
-unstopped_by : (c : Config) (live : ℕ → Bool) (events : List Event) (lengths : List ℕ) (rounds m : ℕ) → IsConfig c → ((r : ℕ) → r < c.replicas → live r ≡ true) → AreUnpaused c events lengths rounds → GoOn c live 0 events → steps_in_any_ring c ≤ m → ((r : ℕ) → r < c.replicas → live r ≡ true → m ≤ slice_index lengths r) → HoldsBy c 0 m events
-unstopped_by c live events lengths rounds m good all run on enough late = at (lone_at c live events lengths rounds m good run on (omega (arith, enough)) late)
-  where
-    at : LoneAt c live events m → HoldsBy c 0 m events
-    at l = let n = l.moment.taken in record { front = l.moment.front; past = l.moment.last ∷ l.moment.older; is = l.moment.is; few = omega (arith, n); holds = applies_in_any_ring c live 0 (l.moment.last ∷ l.moment.older) good all l.lone l.writes l.keep (omega (arith, n, enough)) }
+unstopped_by : (c : Config) (live : ℕ → Bool) (events : List Event) (lengths : List ℕ) (rounds m : ℕ) → IsConfig c → ((r : ℕ) → r < c.replicas → live r ≡ true) → AreUnpaused c events lengths rounds → AreNodes c events → GoOn c live 0 events → steps_in_any_ring c ≤ m
+    → ((r : ℕ) → r < c.replicas → live r ≡ true → m ≤ slice_index lengths r) → HoldsBy c 0 m events
+unstopped_by c live events lengths rounds m good all run nodes on enough late =
+    let a = alone_at c live events lengths rounds m good run nodes on (omega (arith, enough)) late in
+    holds_at c live 0 m events a.moment (applies_in_any_ring c live (a.moment.last ∷ a.moment.older) good all a.leads a.opens a.writes a.keep (let n = a.moment.taken in omega (arith, n, enough)))
 
 -- others go on, in a large ring
 last_by : (c : Config) (live : ℕ → Bool) (s : ℕ) (events : List Event) (lengths : List ℕ) (rounds k m : ℕ) → IsConfig c → HasLargeRing c → AreUnpaused c events lengths rounds → AreNodes c events → GoOn c live s events → ((q : ℕ) → q < s → length (part_of q events) ≤ k) → k + steps_after c s ≤ m → ((r : ℕ) → r < c.replicas → live r ≡ true → m ≤ slice_index lengths r) → HoldsBy c s m events
-last_by c live s events lengths rounds k m good large run nodes on short enough late = at (taken_at c live s events lengths rounds m run on.inside on.lives (omega (arith, enough)) late)
-  where
-    at : TakenAt c live s events m → HoldsBy c s m events
-    at t = let n = t.taken in record {
-      front = t.front;
-      past = t.last ∷ t.older;
-      is = t.is;
-      few = omega (arith, n);
-      holds = last_applies_all c live s (k + failing_steps c) (t.last ∷ t.older) good large (leads_last c live events lengths rounds s k m good run nodes on.inside on.lives on.majority short on.diligent t) (fetches_at c live s events lengths rounds m s good run on.inside t) (omega (arith, n, enough));
-    }
+last_by c live s events lengths rounds k m good large run nodes on short enough late =
+    let t = taken_at c live s events lengths rounds m run on.inside on.lives (omega (arith, enough)) late in
+    holds_at c live s m events t
+    (last_applies_all c live s (k + failing_steps c) (t.last ∷ t.older) good large (leads_last c live events lengths rounds s k m good run nodes on short t) (fetches_at c live s events lengths rounds m s good run on.inside t) (let n = t.taken in omega (arith, n, enough)))
 
 -- others go on, in any ring, in version 2
 second_by : (c : Config) (live : ℕ → Bool) (s : ℕ) (events : List Event) (lengths : List ℕ) (rounds k m : ℕ) → IsConfig c → c.version ≡ 2 → AreUnpaused c events lengths rounds → AreNodes c events → GoOn c live s events → StopBy c live events k → k + steps_after_in_any_ring c s ≤ m → ((r : ℕ) → r < c.replicas → live r ≡ true → m ≤ slice_index lengths r) → HoldsBy c s m events
-second_by c live s events lengths rounds k m good two run nodes on stop enough late = at (taken_at c live s events lengths rounds m run on.inside on.lives (omega (arith, enough)) late)
-  where
-    at : TakenAt c live s events m → HoldsBy c s m events
-    at t = let n = t.taken in record {
-      front = t.front;
-      past = t.last ∷ t.older;
-      is = t.is;
-      few = omega (arith, n);
-      holds = last_applies c live s (k + failing_steps c) (t.last ∷ t.older) good two (leads_last c live events lengths rounds s k m good run nodes on.inside on.lives on.majority (lower_stop c live s events k on stop) on.diligent t) (unblocked_at c live s events lengths rounds k m good run nodes on stop t late) (omega (arith, n, enough));
-    }
+second_by c live s events lengths rounds k m good two run nodes on stop enough late =
+    let t = taken_at c live s events lengths rounds m run on.inside on.lives (omega (arith, enough)) late in
+    holds_at c live s m events t
+    (last_applies c live s (k + failing_steps c) (t.last ∷ t.older) good two (leads_last c live events lengths rounds s k m good run nodes on (lower_stop c live s events k on stop) t) (unblocked_at c live s events lengths rounds k m good run nodes on stop t late) (let n = t.taken in omega (arith, n, enough)))
 
 -- the first m steps of a journal reach as far back as any of its pasts with at most m
 first_steps : (m : ℕ) (journal front past : List Event) → history journal ≡ front ++ past → length past ≤ m → (more : List Event) × (history (take m journal) ≡ more ++ past)
@@ -337,6 +317,23 @@ early_by o run q m none large paused low goes early within = by_end (run.ended q
         holds : holds_all c (applied c q mine) ≡ true
         holds = holds_whole c (full_length c q mine) (applied c q mine) (full_holds c q mine full)
 
+journal_long : (o : Outcome) (run : IsRun o) (r : ℕ) → r < o.job.config.replicas → length (part_of r run.order.events) ≡ length (journal_of o r)
+journal_long o run r low = ap length (sym (journal_part o run r low)) ∙ length-reverse (journal_of o r)
+
+-- whoever was stopped took at most so many steps
+pub stopped_by : (o : Outcome) (run : IsRun o) → StopBy o.job.config (λ r. not (was_stopped o r)) run.order.events (last_stop_step o.job.script.stops)
+stopped_by o run q low gone = let few = (stopped_there o run q low (not_false (was_stopped o q) gone)).1 in let same = journal_long o run q low in omega (arith, few, same)
+
+-- and whoever is below the least that goes on, at most so many
+pub lower_stopped : (o : Outcome) (run : IsRun o) (s : LeastOn o) (q : ℕ) → q < s.who → length (part_of q run.order.events) ≤ last_stop_below o.job.script.stops (least_left o.job.config o.job.script)
+lower_stopped o run s q below =
+    let inside = s.on.inside in
+    let low : q < o.job.config.replicas = omega (arith, below, inside) in
+    let most = s.low in
+    let few = stop_below o.job.script.stops q (length (journal_of o q)) (least_left o.job.config o.job.script) (omega (arith, below, most)) (line_there o run q low (s.on.lower q below)) in
+    let same = journal_long o run q low in
+    omega (arith, few, same)
+
 -- in what a replay leaves
 pub all_by_then : (o : Outcome) (order : Record) (seats : List Seat) (rounds : ℕ) → IsConfig o.job.config → (run : IsRun o) → o.order ≡ Some order → Played o.job.config o.job.script order.events seats rounds 0 → AreDiligent o → AppliesAllByThen o
 all_by_then o order seats rounds good run given played diligent m is within = by_case (case_of c script m is)
@@ -359,10 +356,6 @@ all_by_then o order seats rounds good run given played diligent m is within = by
     nodes : AreNodes c events
     nodes = nodes_of o order seats rounds run given played diligent
 
-    -- whoever was stopped took at most so many steps
-    stop : StopBy c live events (last_stop_step script.stops)
-    stop q low gone = let few = (stopped_there o run q low (not_false (was_stopped o q) gone)).1 in let same = ap length (journal_part o run q low) in let long = length-reverse (journal_of o q) in omega (arith, few, same, long)
-
     in_unpaused : has_pause script ≡ false → (s : ℕ) → GoesOnWith o s → (AreUnpaused c events lengths run.turns.rounds → GoOn c live s events → ((r : ℕ) → r < c.replicas → live r ≡ true → m ≤ slice_index lengths r) → HoldsBy c s m events) → HasAllBy o m
     in_unpaused none s on then_holds =
         let unpaused = none_in script.pauses none in
@@ -374,14 +367,14 @@ all_by_then o order seats rounds good run given played diligent m is within = by
     after_last least large none number =
         in_unpaused none least.who least.on
         (λ all goes_on late. last_by c live least.who events lengths run.turns.rounds (last_stop_below script.stops (least_left c script)) m good large all nodes goes_on
-        (λ q below. (let inside = least.on.inside in let low : q < c.replicas = omega (arith, below, inside) in let most = least.low in let few = stop_below script.stops q (length (journal_of o q)) (least_left c script) (omega (arith, below, most)) (line_there o run q low (least.on.lower q below)) in let same = ap length (journal_part o run q low) in let long = length-reverse (journal_of o q) in omega (arith, few, same, long)))
-        (let more = steps_more c least.who (least_left c script) least.low in omega (arith, more, number)) late)
+        (lower_stopped o run least)
+        (let more = granting_more c least.who (least_left c script) least.low in omega (arith, more, number)) late)
 
     after_last_in_any_ring : LeastOn o → has_pause script ≡ false → c.version ≡ 2 → m ≡ last_stop_step script.stops + steps_after_in_any_ring c (least_left c script) → HasAllBy o m
     after_last_in_any_ring least none two number =
         in_unpaused none least.who least.on
-        (λ all goes_on late. second_by c live least.who events lengths run.turns.rounds (last_stop_step script.stops) m good two all nodes goes_on stop
-        (let more = steps_more_in_any_ring c least.who (least_left c script) least.low in omega (arith, more, number)) late)
+        (λ all goes_on late. second_by c live least.who events lengths run.turns.rounds (last_stop_step script.stops) m good two all nodes goes_on (stopped_by o run)
+        (let more = granting_more c least.who (least_left c script) least.low in omega (arith, more, number)) late)
 
     after_pauses : LeastOn o → HasLargeRing c → has_pause script ≡ true → m ≡ disturbed_until c script + steps_after_pauses c → HasAllBy o m
     after_pauses least large paused number = elim (least_or_none c.replicas live (λ r. slice_index lengths r)) [
@@ -396,7 +389,7 @@ all_by_then o order seats rounds good run given played diligent m is within = by
         all = paused_run o order seats rounds run given played
 
         taken : (r : ℕ) → r < c.replicas → slice_index lengths r ≡ length (journal_of o r)
-        taken r low = all.taken r low ∙ ap length (sym (journal_part o run r low)) ∙ length-reverse (journal_of o r)
+        taken r low = all.taken r low ∙ journal_long o run r low
 
         stops_by : last_stop_step script.stops ≤ last_line_step script
         stops_by = le-max_left (last_stop_step script.stops) (last_pause_step script.pauses)
@@ -419,12 +412,12 @@ all_by_then o order seats rounds good run given played diligent m is within = by
 
     by_case : (is_majority_left c script ≡ true) × Case c script m → HasAllBy o m
     by_case (left, Case.by_pauses large paused number) = after_pauses (least_on o run left) large paused number
-    by_case (left, Case.by_first large none first number) = in_unpaused none 0 (first_on o good run left first) (λ all goes_on late. first_by c live events lengths run.turns.rounds m good large all goes_on (omega (arith, number)) late)
+    by_case (left, Case.by_first large none first number) = in_unpaused none 0 (first_on o good run left first) (λ all goes_on late. first_by c live events lengths run.turns.rounds m good large all nodes goes_on (omega (arith, number)) late)
     by_case (left, Case.by_last large none number) = after_last (least_on o run left) large none number
     by_case (left, Case.by_none none unstopped number) =
         let stops = none_in script.stops unstopped in
         let all_left : (r : ℕ) → is_left script.stops r ≡ true = λ r. ap (λ l. is_left l r) stops in
-        in_unpaused none 0 (first_on o good run left (all_left 0)) (λ all goes_on late. unstopped_by c live events lengths run.turns.rounds m good (λ r low. ap not (left_goes o run r low (all_left r))) all goes_on (omega (arith, number)) late)
+        in_unpaused none 0 (first_on o good run left (all_left 0)) (λ all goes_on late. unstopped_by c live events lengths run.turns.rounds m good (λ r low. ap not (left_goes o run r low (all_left r))) all nodes goes_on (omega (arith, number)) late)
     by_case (left, Case.by_marks none two number) = after_last_in_any_ring (least_on o run left) none two number
 
 -- so the longest log has every command

@@ -29,12 +29,14 @@ use Rattle.mu_outcome.proofs.Completing.{all_from_log}
 use Rattle.shared_fabric.proofs.Gathers.{some_at}
 use Rattle.mu_cluster.specs.Branches.{AreLeft}
 use Rattle.mu_cluster.specs.Fair.{AppliesAllIfFair, HasAllIfFair}
-use Rattle.mu_cluster.specs.Paces.{AreDiligentBy}
+use Rattle.mu_cluster.specs.Paces.{AreDiligentBy, AreEager}
 use Rattle.mu_cluster.specs.Rounds.{part_of}
 use Rattle.mu_cluster.proofs.Agreeing.{agrees_over}
 use Rattle.mu_cluster.proofs.Branching.{mine_part}
 use Rattle.mu_cluster.proofs.Fair.{AreRunNodes, applies_in, leads_in}
 use Rattle.mu_cluster.proofs.Pausing.{none_outrun_large}
+use Rattle.mu_node.specs.Journal.{IsListed}
+use Rattle.mu_outcome.proofs.Journals.{journal_is}
 
 -- an eager node stands for the part of each replica, in any list that has the parts
 left_node : (c : Config) (script : Script) (parts : List (List Event)) (nodes : List Node) (events : List Event) → AreLeft c script parts nodes → HasParts c events parts → (r : ℕ) → r < c.replicas → (node : Node) × StandsForNode c r (part_of r events) node × (node.zeal ≡ Zeal.Eager)
@@ -43,6 +45,12 @@ left_node c script parts nodes events left has r low =
     let found = some_at nodes r (omega (arith, low, count)) in
     let l = left.each r found.0 found.1 in
     (found.0, subst (λ m. StandsForNode c r m found.0) (mine_part c events parts r l.0 low has l.1) l.2.stands, l.2.zeal)
+
+-- so in each turn it did what is due to one
+pub eager_left : (o : Outcome) (events : List Event) (nodes : List Node) → HasParts o.job.config events (journals_of o) → AreLeft o.job.config o.job.script (journals_of o) nodes → AreEager o
+eager_left o events nodes has left r low =
+    let node = left_node o.job.config o.job.script (journals_of o) nodes events left has r low in
+    subst (λ h. AtEachStep (IsListed Zeal.Eager o.job.config r) h) (sym (journal_is o events has r low)) (subst (λ z. AtEachStep (IsListed z o.job.config r) (part_of r events)) node.2 node.1.listed)
 
 left_nodes : (c : Config) (script : Script) (parts : List (List Event)) (nodes : List Node) (events : List Event) → AreLeft c script parts nodes → IsLegal c events → HasParts c events parts → ((r : ℕ) → r < c.replicas → IsDiligentBy true c r (part_of r events)) → AreRunNodes true c events
 left_nodes c script parts nodes events left legal has diligent = record {

@@ -1,10 +1,9 @@
 -- By the second number of its job each replica of a replay that isn't stopped has finished.
-use Rattle.std.proofs.Common.{◌≡◌, ◌∙◌, ℕ, ◌+◌, ◌*◌, ◌<◌, ◌≤◌, ◌==◌, Bool, true, false, None, Some, List, ap, arith, eqb-true, length, refl, sym}
+use Rattle.std.proofs.Common.{◌≡◌, ◌∙◌, ℕ, ◌+◌, ◌*◌, ◌<◌, ◌≤◌, ◌==◌, Bool, true, false, None, Some, List, ap, arith, eqb-true, length, refl, sym, ◌∷◌}
 use Rattle.std.specs.declared.option.Option.{Option}
 use Rattle.std.specs.Prelude.{if◌then◌else◌, max, not, slice_index}
-use Rattle.std.proofs.Math.Nat.{le-max_left, le-max_right, mul-le-mul_right}
+use Rattle.std.proofs.Math.Nat.{le-max_left, le-max_right}
 use Rattle.std.proofs.lemmas.Bool.{leb-true, true≢false}
-use Rattle.std.proofs.lemmas.List.{length-reverse}
 use Rattle.mu_model.specs.declared.config.Config.{Config}
 use Rattle.mu_model.specs.declared.event.Event.{Event}
 use Rattle.mu_model.specs.declared.script.Script.{Script}
@@ -15,35 +14,27 @@ use Rattle.mu_model.specs.Room.{reserve}
 use Rattle.mu_model.proofs.Basics.{same_some}
 use Rattle.mu_outcome.specs.declared.outcome.Outcome.{Outcome}
 use Rattle.mu_outcome.specs.Outcomes.{IsRun, journal_of}
-use Rattle.mu_pace.proofs.Pasts.{not_false}
 use Rattle.mu_alive.specs.Enough.{HasLargeRing}
 use Rattle.mu_alive.specs.Failing.{failing_steps}
 use Rattle.mu_alive.specs.Finishing.{last_raising_steps, raising_steps}
 use Rattle.mu_alive.specs.Lagging.{raising_in_any_ring}
 use Rattle.mu_alive.specs.Stopping.{last_raising_in_any_ring}
-use Rattle.mu_alive.proofs.Finishing.{raise_all}
+use Rattle.mu_alive.proofs.LastRaising.{last_raises_all}
 use Rattle.mu_alive.proofs.Lagging.{raises_in_any_ring}
 use Rattle.mu_cluster.specs.declared.rounds.Seat.{Seat}
 use Rattle.mu_cluster.specs.Finishing.{AppliesEachByThen, HasApplied}
 use Rattle.mu_cluster.specs.Outliving.{GoesOnWith, was_stopped}
 use Rattle.mu_cluster.specs.Paces.{AreDiligent}
 use Rattle.mu_cluster.specs.Rounds.{Played, part_of}
-use Rattle.mu_cluster.proofs.Committing.{LeastOn, first_on, least_on, left_goes, line_there, none_in, stop_below, stopped_there}
+use Rattle.mu_cluster.proofs.Committing.{first_on, granting_more, least_on, left_goes, lower_stopped, none_in, stopped_by}
 use Rattle.mu_cluster.proofs.Finishing.{finishes_from, goes_on_of, lengths_of}
 use Rattle.mu_cluster.proofs.Naming.{AreUnpaused, unpaused_of}
-use Rattle.mu_cluster.proofs.Onward.{AreNodes, journal_part, nodes_of}
-use Rattle.mu_cluster.proofs.Raised.{RaisedBy, raised_alone, raised_last}
+use Rattle.mu_cluster.proofs.Onward.{AreNodes, nodes_of}
+use Rattle.mu_cluster.proofs.Raised.{RaisedBy, alone_at, raised_at, raised_last}
 use Rattle.mu_cluster.proofs.Taken.{GoOn}
-use Rattle.mu_cluster.proofs.Unblocking.{StopBy, raised_last_in_any_ring}
+use Rattle.mu_cluster.proofs.Unblocking.{raised_last_in_any_ring}
 use Rattle.mu_enough.specs.Finished.{finished_by, finishing_after, finishing_after_in_any_ring, finishing_in_any_ring, finishing_steps}
 use Rattle.mu_enough.specs.Lines.{has_large_ring, has_pause, has_stop, is_left, is_majority_left, last_stop_below, last_stop_step, least_left}
-
--- the greater the least that goes on, the more steps
-steps_more : (c : Config) (s q : ℕ) → s ≤ q → finishing_after c s ≤ finishing_after c q
-steps_more c s q low = let next : s + 1 ≤ q + 1 = omega (arith, low) in let more = mul-le-mul_right (2 * cycle c) next in omega (arith, more)
-
-steps_more_in_any_ring : (c : Config) (s q : ℕ) → s ≤ q → finishing_after_in_any_ring c s ≤ finishing_after_in_any_ring c q
-steps_more_in_any_ring c s q low = let next : s + 1 ≤ q + 1 = omega (arith, low) in let more = mul-le-mul_right (2 * cycle c) next in omega (arith, more)
 
 -- which case a job is
 data Case (c : Config) (script : Script) (m : ℕ) : Type 0 where
@@ -110,25 +101,9 @@ each_by_then o order seats rounds good run given played diligent m is within = b
     nodes : AreNodes c events
     nodes = nodes_of o order seats rounds run given played diligent
 
-    long : (r : ℕ) → r < c.replicas → length (part_of r events) ≡ length (journal_of o r)
-    long r low = ap length (sym (journal_part o run r low)) ∙ length-reverse (journal_of o r)
-
-    -- whoever was stopped took at most so many steps
-    stop : StopBy c live events (last_stop_step script.stops)
-    stop q low gone = let few = (stopped_there o run q low (not_false (was_stopped o q) gone)).1 in let same = long q low in omega (arith, few, same)
-
-    stop_lower : (s : LeastOn o) (q : ℕ) → q < s.who → length (part_of q events) ≤ last_stop_below script.stops (least_left c script)
-    stop_lower s q below =
-        let inside = s.on.inside in
-        let low : q < c.replicas = omega (arith, below, inside) in
-        let most = s.low in
-        let few = stop_below script.stops q (length (journal_of o q)) (least_left c script) (omega (arith, below, most)) (line_there o run q low (s.on.lower q below)) in
-        let same = long q low in
-        omega (arith, few, same)
-
-    -- so it is held failed in time
+    -- whoever was stopped is held failed in time
     failing : (k : ℕ) → last_stop_step script.stops + failing_steps c ≤ k → (q : ℕ) → q < c.replicas → live q ≡ false → length (part_of q events) + failing_steps c ≤ k
-    failing k enough q low gone = let few = stop q low gone in omega (arith, few, enough)
+    failing k enough q low gone = let few = stopped_by o run q low gone in omega (arith, few, enough)
 
     -- each finishes, if all raise their heads in time
     from : has_pause script ≡ false → (s most : ℕ) → GoesOnWith o s
@@ -144,26 +119,30 @@ each_by_then o order seats rounds good run given played diligent m is within = b
     by_case : (is_majority_left c script ≡ true) × (has_pause script ≡ false) × Case c script m → (r : ℕ) → r < c.replicas → was_stopped o r ≡ false → HasApplied o r × (length (journal_of o r) ≤ m)
     by_case (left, none, Case.by_first large first enough failed) =
         from none 0 (raising_steps c) (first_on o good run left first)
-        (λ all goes_on late. raised_alone c live events lengths run.turns.rounds (raising_steps c) good all goes_on (omega arith) (λ past lone writes keep many. raise_all c live 0 past good large lone writes keep many) late)
+        (λ all goes_on late.
+        let a = alone_at c live events lengths run.turns.rounds (raising_steps c) good all nodes goes_on (omega arith) late in
+        raised_at c live 0 events (raising_steps c) a.moment (last_raises_all c live 0 0 (a.moment.last ∷ a.moment.older) good large a.leads a.opens a.fetches a.keep (let n = a.moment.taken in omega (arith, n))))
         (omega (arith, enough)) (failing m failed)
     by_case (left, none, Case.by_last large enough failed) =
         let s = least_on o run left in
         let k = last_stop_below script.stops (least_left c script) in
-        let more = steps_more c s.who (least_left c script) s.low in
+        let more = granting_more c s.who (least_left c script) s.low in
         from none s.who (k + failing_steps c + last_raising_steps c s.who) s.on
-        (λ all goes_on late. raised_last c live s.who events lengths run.turns.rounds k good large all nodes goes_on (stop_lower s) late)
+        (λ all goes_on late. raised_last c live s.who events lengths run.turns.rounds k good large all nodes goes_on (lower_stopped o run s) late)
         (omega (arith, more, enough)) (failing m failed)
     by_case (left, none, Case.by_none unstopped enough) =
         let stops = none_in script.stops unstopped in
         let all_left : (r : ℕ) → is_left script.stops r ≡ true = λ r. ap (λ l. is_left l r) stops in
         let all_go : (r : ℕ) → r < c.replicas → live r ≡ true = λ r low. ap not (left_goes o run r low (all_left r)) in
         from none 0 (raising_in_any_ring c) (first_on o good run left (all_left 0))
-        (λ all goes_on late. raised_alone c live events lengths run.turns.rounds (raising_in_any_ring c) good all goes_on (omega arith) (λ past lone writes keep many. raises_in_any_ring c live 0 past good all_go lone writes keep many) late)
+        (λ all goes_on late.
+        let a = alone_at c live events lengths run.turns.rounds (raising_in_any_ring c) good all nodes goes_on (omega arith) late in
+        raised_at c live 0 events (raising_in_any_ring c) a.moment (raises_in_any_ring c live (a.moment.last ∷ a.moment.older) good all_go a.leads a.opens a.fetches a.writes a.keep (let n = a.moment.taken in omega (arith, n))))
         (omega (arith, enough)) (λ q low gone. absurd (true≢false (sym (all_go q low) ∙ gone)))
     by_case (left, none, Case.by_marks two enough) =
         let s = least_on o run left in
         let k = last_stop_step script.stops in
-        let more = steps_more_in_any_ring c s.who (least_left c script) s.low in
+        let more = granting_more c s.who (least_left c script) s.low in
         from none s.who (k + failing_steps c + last_raising_in_any_ring c s.who) s.on
-        (λ all goes_on late. raised_last_in_any_ring c live s.who events lengths run.turns.rounds k good two all nodes goes_on stop late)
+        (λ all goes_on late. raised_last_in_any_ring c live s.who events lengths run.turns.rounds k good two all nodes goes_on (stopped_by o run) late)
         (omega (arith, more, enough)) (failing m (omega (arith, enough)))

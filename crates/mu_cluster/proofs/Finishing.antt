@@ -48,7 +48,7 @@ use Rattle.mu_cluster.proofs.Naming.{AreUnpaused, unpaused_of}
 use Rattle.mu_cluster.proofs.Onward.{journal_part, nodes_of}
 use Rattle.mu_cluster.proofs.Outliving.{After, after, fails_then}
 use Rattle.mu_cluster.proofs.Outrunning.{none_outrun}
-use Rattle.mu_cluster.proofs.Raised.{RaisedBy, full_holds, holds_whole, raised_by}
+use Rattle.mu_cluster.proofs.Raised.{RaisedBy, full_holds, holds_whole, late_or_raised}
 use Rattle.mu_cluster.proofs.Taken.{GoOn}
 use Rattle.mu_cluster.proofs.Turning.{least_most}
 use Rattle.mu_agree.proofs.Sessions.{same_list}
@@ -285,7 +285,7 @@ finishes_from o order seats rounds s most m good run given played unpaused goes_
     all = unpaused_of o order seats rounds run given played unpaused
 
     raised : RaisedBy c live events most
-    raised = raised_by c live s events lengths run.turns.rounds most all goes_on raises (omega (arith, enough, within))
+    raised = elim (late_or_raised c live s events lengths run.turns.rounds most all goes_on (omega (arith, enough, within))) [ inl late ↦ raises late | inr by ↦ by ]
 
     -- it can't have gone on
     longer : DoneAfter c r m (part_of r events) → ⊥

@@ -1,6 +1,6 @@
 -- If the script has no pause, a lower replica is a step ahead of a higher one at each step of the
 -- higher one, and a higher one is in step with a lower one.
-use Rattle.std.proofs.Common.{◌≡◌, ◌∙◌, ◌≢◌, ℕ, suc, zero, ◌+◌, ◌<◌, ◌≤◌, ◌==◌, ◌&&◌, inl, inr, Bool, true, false, cond, List, [], ◌∷◌, ◌++◌, ap, append-nil, append_assoc, arith, eq-eqb, length, map, refl, subst, sym}
+use Rattle.std.proofs.Common.{◌≡◌, ◌∙◌, ◌≢◌, ℕ, suc, zero, ◌+◌, ◌<◌, ◌≤◌, ◌&&◌, inl, inr, Bool, true, false, cond, List, [], ◌∷◌, ◌++◌, ap, append-nil, append_assoc, arith, eq-eqb, length, map, refl, subst, sym}
 use Rattle.std.specs.Prelude.{if◌then◌else◌, nat_lt, not, reverse, slice_index}
 use Rattle.std.proofs.lemmas.Bool.{cases_eq, cases_lt, le-ltb, lt-ltb, ltb-true, ne_eqb}
 use Rattle.std.proofs.lemmas.List.{map-append, reverse-append}
@@ -9,6 +9,7 @@ use Rattle.mu_model.specs.Histories.{history, part}
 use Rattle.mu_pace.specs.Counters.{AtEachStep}
 use Rattle.mu_cluster.specs.Rounds.{id_of}
 use Rattle.mu_outcome.specs.Turns.{Pace, ids_after, ids_in_round, is_due, pace, pace_after}
+use Rattle.mu_cluster.proofs.Paused.{count_of, count_part}
 
 -- x is the lesser of two numbers
 abbrev pub IsLesser : ℕ → ℕ → ℕ → Type 0
@@ -56,21 +57,16 @@ idle_steps r all round idle = elim (cases_lt round all) [
     differ : true ≡ false → ⊥
     differ e = cc
 
--- how often an id is among these
-abbrev times : ℕ → List ℕ → ℕ
-times s [] = 0
-times s (i ∷ ids) = if i == s then times s ids + 1 else times s ids
-
 -- of ids with the last one first: at each r there are as many of q as of r before it and the lead,
 -- up to all that there are
 abbrev AreInStep : ℕ → ℕ → ℕ → ℕ → List ℕ → Type 0
 AreInStep lead q most r [] = Unit {0}
-AreInStep lead q most r (i ∷ ids) = AreInStep lead q most r ids × (i ≡ r → IsLesser (times r ids + lead) most (times q ids))
+AreInStep lead q most r (i ∷ ids) = AreInStep lead q most r ids × (i ≡ r → IsLesser (count_of r ids + lead) most (count_of q ids))
 
 -- the ids of this many rounds and of the first k replicas in the next one
 record AreTurns (lengths : List ℕ) (round k : ℕ) (ids : List ℕ) : Type 0 where
-  had : (s : ℕ) → s < k → IsLesser (suc round) (slice_index lengths s) (times s ids)
-  waits : (s : ℕ) → k ≤ s → s < length lengths → IsLesser round (slice_index lengths s) (times s ids)
+  had : (s : ℕ) → s < k → IsLesser (suc round) (slice_index lengths s) (count_of s ids)
+  waits : (s : ℕ) → k ≤ s → s < length lengths → IsLesser round (slice_index lengths s) (count_of s ids)
   ahead : (q r : ℕ) → q < r → AreInStep 1 q (slice_index lengths q) r ids
   behind : (q r : ℕ) → r < q → q < length lengths → AreInStep 0 q (slice_index lengths q) r ids
 
@@ -87,22 +83,22 @@ whole_round lengths round ids was = record {
 more_turns : (lengths : List ℕ) (round k : ℕ) (ids : List ℕ) → k < length lengths → round < slice_index lengths k → AreTurns lengths round k ids → AreTurns lengths round (suc k) (k ∷ ids)
 more_turns lengths round k ids inside left was = record { had = had; waits = waits; ahead = ahead; behind = behind }
   where
-    taken : times k ids ≡ round
+    taken : count_of k ids ≡ round
     taken = (was.waits k (omega arith) inside).0 (omega (arith, left))
 
-    others : (s : ℕ) → s ≢ k → times s (k ∷ ids) ≡ times s ids
-    others s other = ap (λ t. if t then times s ids + 1 else times s ids) (ne_eqb k s (λ same. other (sym same)))
+    others : (s : ℕ) → s ≢ k → count_of s (k ∷ ids) ≡ count_of s ids
+    others s other = ap (λ t. cond t (count_of s ids + 1) (count_of s ids)) (ne_eqb k s (λ same. other (sym same)))
 
-    own : times k (k ∷ ids) ≡ round + 1
-    own = ap (λ t. if t then times k ids + 1 else times k ids) (eq-eqb k k refl) ∙ ap (λ n. n + 1) taken
+    own : count_of k (k ∷ ids) ≡ round + 1
+    own = ap (λ t. cond t (count_of k ids + 1) (count_of k ids)) (eq-eqb k k refl) ∙ ap (λ n. n + 1) taken
 
-    had : (s : ℕ) → s < suc k → IsLesser (suc round) (slice_index lengths s) (times s (k ∷ ids))
+    had : (s : ℕ) → s < suc k → IsLesser (suc round) (slice_index lengths s) (count_of s (k ∷ ids))
     had s low = elim (cases_eq s k) [
-      | inl same ↦ subst (λ i. IsLesser (suc round) (slice_index lengths i) (times i (k ∷ ids))) (sym same) (λ _. omega (arith, own), λ over. omega (arith, own, over, left))
+      | inl same ↦ subst (λ i. IsLesser (suc round) (slice_index lengths i) (count_of i (k ∷ ids))) (sym same) (λ _. omega (arith, own), λ over. omega (arith, own, over, left))
       | inr other ↦ subst (λ n. IsLesser (suc round) (slice_index lengths s) n) (sym (others s other)) (was.had s (omega (arith, low, other)))
     ]
 
-    waits : (s : ℕ) → suc k ≤ s → s < length lengths → IsLesser round (slice_index lengths s) (times s (k ∷ ids))
+    waits : (s : ℕ) → suc k ≤ s → s < length lengths → IsLesser round (slice_index lengths s) (count_of s (k ∷ ids))
     waits s above low = subst (λ n. IsLesser round (slice_index lengths s) n) (sym (others s (λ same. omega (arith, same, above)))) (was.waits s (omega (arith, above)) low)
 
     behind : (q r : ℕ) → r < q → q < length lengths → AreInStep 0 q (slice_index lengths q) r (k ∷ ids)
@@ -110,8 +106,8 @@ more_turns lengths round k ids inside left was = record { had = had; waits = wai
       was.behind q r above low,
       λ here.
           let waited = was.waits q (omega (arith, above, here)) low in
-          let none : round ≡ times r ids + 0 = omega (arith, taken, ap (λ i. times i ids) here) in
-          subst (λ n. IsLesser n (slice_index lengths q) (times q ids)) none waited,
+          let none : round ≡ count_of r ids + 0 = omega (arith, taken, ap (λ i. count_of i ids) here) in
+          subst (λ n. IsLesser n (slice_index lengths q) (count_of q ids)) none waited,
     )
 
     ahead : (q r : ℕ) → q < r → AreInStep 1 q (slice_index lengths q) r (k ∷ ids)
@@ -119,8 +115,8 @@ more_turns lengths round k ids inside left was = record { had = had; waits = wai
       was.ahead q r below,
       λ here.
           let had = was.had q (omega (arith, below, here)) in
-          let one : suc round ≡ times r ids + 1 = omega (arith, taken, ap (λ i. times i ids) here) in
-          subst (λ n. IsLesser n (slice_index lengths q) (times q ids)) one had,
+          let one : suc round ≡ count_of r ids + 1 = omega (arith, taken, ap (λ i. count_of i ids) here) in
+          subst (λ n. IsLesser n (slice_index lengths q) (count_of q ids)) one had,
     )
 
 -- a turn of who has ended
@@ -128,7 +124,7 @@ no_turn : (lengths : List ℕ) (round k : ℕ) (ids : List ℕ) → k < length l
 no_turn lengths round k ids inside none was = record {
   had = λ s low. elim (cases_eq s k) [
     | inl same ↦ (let all = (was.waits k (omega arith) inside).1 none in
-        subst (λ i. IsLesser (suc round) (slice_index lengths i) (times i ids)) (sym same) (λ over. absurd (omega (arith, over, none)), λ _. all))
+        subst (λ i. IsLesser (suc round) (slice_index lengths i) (count_of i ids)) (sym same) (λ over. absurd (omega (arith, over, none)), λ _. all))
     | inr other ↦ was.had s (omega (arith, low, other))
   ];
   waits = λ s above low. was.waits s (omega (arith, above)) low;
@@ -165,18 +161,10 @@ are_turns lengths round (suc k) low = go (is_due [] k (slice_index lengths k) (p
 abbrev pub StaysAhead : ℕ → ℕ → ℕ → ℕ → List Event → Event → Type 0
 StaysAhead lead q most r before e = e.by ≡ r → IsLesser (length (part r before) + lead) most (length (part q before))
 
-times_part : (s : ℕ) (past : List Event) → times s (map id_of past) ≡ length (part s past)
-times_part s [] = refl
-times_part s (e ∷ past) = go (e.by == s) (times_part s past)
-  where
-    go : (t : Bool) → times s (map id_of past) ≡ length (part s past) → (if t then times s (map id_of past) + 1 else times s (map id_of past)) ≡ length (cond t (e ∷ part s past) (part s past))
-    go true ih = omega (arith, ih)
-    go false ih = ih
-
 events_in_step : (lead q most r : ℕ) (past : List Event) → AreInStep lead q most r (map id_of past) → AtEachStep (StaysAhead lead q most r) past
 events_in_step lead q most r [] held = tt
 events_in_step lead q most r (e ∷ past) held =
-    (events_in_step lead q most r past held.0, λ own. subst (λ n. IsLesser n most (length (part q past))) (ap (λ n. n + lead) (times_part r past)) (subst (λ n. IsLesser (times r (map id_of past) + lead) most n) (times_part q past) (held.1 own)))
+    (events_in_step lead q most r past held.0, λ own. subst (λ n. IsLesser n most (length (part q past))) (ap (λ n. n + lead) (count_part r past)) (subst (λ n. IsLesser (count_of r (map id_of past) + lead) most n) (count_part q past) (held.1 own)))
 
 pub map_reverse : {A : Type 0} {B : Type 0} (f : A → B) (xs : List A) → map f (reverse xs) ≡ reverse (map f xs)
 map_reverse f [] = refl

@@ -15,7 +15,7 @@ use Rattle.mu_model.specs.Steps.{is_named}
 use Rattle.mu_node.specs.Journal.{WasMade}
 use Rattle.mu_node.proofs.Naming.{first_named, is_row_write, writer_named}
 use Rattle.mu_pace.specs.Counters.{AtEachMoment, AtEachStep}
-use Rattle.mu_alive.specs.Alone.{AsksAlone, WritesAlone}
+use Rattle.mu_alive.specs.Alone.{WritesAlone}
 use Rattle.mu_cluster.specs.Naming.{IsReached, NamesFirst}
 use Rattle.mu_cluster.proofs.InStep.{StaysAhead}
 use Rattle.mu_cluster.proofs.Passes.{has_history}
@@ -67,12 +67,6 @@ reached events front older e is some = record {
 
 pub more_front : (events front older : List Event) (e : Event) → history events ≡ front ++ e ∷ older → history events ≡ (front ++ e ∷ []) ++ older
 more_front events front older e is = is ∙ sym (append_assoc front (e ∷ []) older)
-
--- up to there no other asks
-pub asks_alone : (c : Config) (events front past : List Event) → NamesFirst c events → history events ≡ front ++ past → has (λ f. f.by == 0) front ≡ true → AsksAlone 0 past
-asks_alone c events front [] names is some = tt
-asks_alone c events front (e ∷ past) names is some =
-    (asks_alone c events (front ++ e ∷ []) past names (more_front events front past e is) (has_newer (λ f. f.by == 0) front (e ∷ []) some), λ p asked. names.asks (history past) e p (reached events front past e is some) asked)
 
 -- and no other writes rows
 pub writes_alone : (c : Config) (events front past : List Event) (lengths : List ℕ) (rounds : ℕ) → NamesFirst c events → AreUnpaused c events lengths rounds → history events ≡ front ++ past → has (λ f. f.by == 0) front ≡ true → WritesAlone 0 past

@@ -1,5 +1,5 @@
 -- In a replay whose script has no pause no leadership is ever over.
-use Rattle.std.proofs.Common.{◌≡◌, ◌∙◌, ℕ, suc, zero, ◌+◌, ◌*◌, ◌-◌, ◌<◌, ◌≤◌, ◌==◌, ◌&&◌, inl, inr, Bool, true, false, cond, None, Some, List, [], ◌∷◌, ◌++◌, ap, append_assoc, arith, eqb-true, length, map, refl, subst, sym}
+use Rattle.std.proofs.Common.{◌≡◌, ◌∙◌, ℕ, ◌+◌, ◌*◌, ◌-◌, ◌<◌, ◌≤◌, ◌==◌, ◌&&◌, inl, inr, Bool, true, false, cond, None, Some, List, [], ◌∷◌, ◌++◌, ap, append_assoc, arith, eqb-true, length, map, refl, subst, sym}
 use Rattle.std.specs.declared.option.Option.{Option}
 use Rattle.std.specs.Prelude.{nat_lt, not}
 use Rattle.std.proofs.lemmas.Bool.{cases_lt, eq-eqb, le-ltb, lt-ltb, ne_eqb, true≢false}
@@ -19,14 +19,14 @@ use Rattle.mu_model.specs.Journals.{Record}
 use Rattle.mu_model.specs.Leaderships.{begins_leadership, is_over}
 use Rattle.mu_model.specs.Legal.{IsLegalHistory}
 use Rattle.mu_model.specs.Regions.{beats}
-use Rattle.mu_model.specs.Scores.{alive_after, beat_read, leader, least_below, next_score, points_after, score, score_after_read}
+use Rattle.mu_model.specs.Scores.{alive_after, beat_read, leader, next_score, points_after, score, score_after_read}
 use Rattle.mu_model.specs.Steps.{is_asking, is_asking_verb, is_beat_read, is_named}
 use Rattle.mu_model.specs.Stretches.{is_replication}
 use Rattle.mu_model.proofs.Basics.{same_number, same_some}
 use Rattle.mu_model.proofs.Lists.{item_below}
 use Rattle.mu_model.proofs.Parts.{history-part}
 use Rattle.mu_detect.proofs.Leaders.{failed_follows, may_lead, own_leads}
-use Rattle.mu_model.proofs.Least.{least_found, least_next}
+use Rattle.mu_model.proofs.Least.{least_found}
 use Rattle.mu_detect.specs.Stands.{last_count}
 use Rattle.mu_grant.specs.Pace.{InCycleOrder}
 use Rattle.mu_node.specs.Due.{is_eager}
@@ -40,7 +40,7 @@ use Rattle.mu_pace.proofs.Counting.{last_moment, moments_before, steps_before}
 use Rattle.mu_alive.specs.Turns.{AreInTurn, is_own_min}
 use Rattle.mu_alive.proofs.Beginning.{begins_now, cause_is}
 use Rattle.mu_alive.proofs.Cutting.{Located, located, met}
-use Rattle.mu_alive.proofs.Settling.{score-part}
+use Rattle.mu_alive.proofs.Settling.{score-part, least_none}
 use Rattle.mu_alive.proofs.Failing.{beat_verb, quiet_beats, quiet_last}
 use Rattle.mu_alive.proofs.TurnFences.{lead_on_moments, turns_lead_on}
 use Rattle.mu_alive.proofs.Turns.{begun-part, min_begun, min_leads}
@@ -159,12 +159,8 @@ count_settled c events lengths rounds front older a q run reads is asks below =
                 (subst (λ y. last_count a.by q (record { by = by; verb = Verb.ReadBeat q; answer = y } ∷ o) ≡ beats q o) (sym says) (rw (eq-eqb by a.by own, same_number q) refl))
 
 -- who holds all lower ones to be failed names itself
-none_least : (n : ℕ) (test : ℕ → Bool) → ((q : ℕ) → q < n → test q ≡ false) → least_below n test ≡ n
-none_least zero test fails = refl
-none_least (suc n) test fails = let one : n + 1 ≡ suc n = omega arith in subst (λ m. least_below m test ≡ m) one (least_next test n (none_least n test (λ q low. fails q (omega (arith, low)))) (fails n (omega arith)))
-
 pub names_own : (c : Config) (r : ℕ) (mine : List Event) → r < c.replicas → ((q : ℕ) → q < r → (score r q mine).1 ≡ false) → leader c r mine ≡ r
-names_own c r mine inside failed = least_found (may_lead r mine) c.replicas r (none_least r (may_lead r mine) (λ q below. failed_follows r q mine below (failed q below))) (own_leads r mine) inside
+names_own c r mine inside failed = least_found (may_lead r mine) c.replicas r (least_none r (may_lead r mine) (λ q below. failed_follows r q mine below (failed q below))) (own_leads r mine) inside
 
 -- who asked names itself from then on
 pub stays_named : (c : Config) (events : List Event) (lengths : List ℕ) (rounds : ℕ) (front newer older : List Event) (a : Event) → AreUnpaused c events lengths rounds → ((p : ℕ) → p < c.replicas → ReadsInTime c p (part_of p events)) → history events ≡ front ++ (newer ++ a ∷ older) → is_asking 0 a ≡ true

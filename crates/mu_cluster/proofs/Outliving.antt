@@ -8,17 +8,17 @@ use Rattle.mu_agree.proofs.Legal.{legal_older}
 use Rattle.mu_model.specs.declared.config.Config.{Config}
 use Rattle.mu_model.specs.declared.event.Event.{Event}
 use Rattle.mu_model.specs.Contents.{IsConfig}
-use Rattle.mu_model.specs.Diligence.{AsksInTime, GrantsInTime, IsDiligent, ReadsInTime}
+use Rattle.mu_model.specs.Diligence.{AsksInTime, GrantsInTime, ReadsInTime}
 use Rattle.mu_model.specs.Ends.{outrun}
-use Rattle.mu_model.specs.Histories.{count_below, history, part}
-use Rattle.mu_model.specs.Leaderships.{begins_leadership, has_begun, majority_of}
+use Rattle.mu_model.specs.Histories.{history, part}
+use Rattle.mu_model.specs.Leaderships.{begins_leadership, has_begun}
 use Rattle.mu_model.specs.Legal.{IsLegalHistory}
 use Rattle.mu_model.specs.Scores.{is_failed, leader, score}
 use Rattle.mu_model.proofs.Parts.{filter-append}
 use Rattle.mu_node.specs.Journal.{WasMade}
 use Rattle.mu_node.proofs.Naming.{asker_named}
 use Rattle.mu_pace.specs.Collecting.{LeaderKeeps}
-use Rattle.mu_pace.specs.Counters.{AtEachStep}
+use Rattle.mu_pace.specs.Counters.{AtEachStep, AtEachMoment}
 use Rattle.mu_pace.proofs.Counting.{steps_before}
 use Rattle.mu_alive.specs.Failing.{failing_steps}
 use Rattle.mu_alive.specs.Last.{LeadsLast, NamesItself}
@@ -27,18 +27,19 @@ use Rattle.mu_alive.proofs.Beginning.{grants_before, reads_before}
 use Rattle.mu_alive.proofs.Cutting.{Located, located, moments_of}
 use Rattle.mu_alive.proofs.Failing.{held_failed}
 use Rattle.mu_alive.proofs.Enough.{asks_before, outrun_before}
-use Rattle.mu_alive.proofs.TurnGrants.{turns_before}
-use Rattle.mu_alive.proofs.Turns.{begun-part}
+use Rattle.mu_alive.proofs.Turns.{begun-part, turns_before}
 use Rattle.mu_cluster.specs.Rounds.{part_of}
 use Rattle.mu_cluster.proofs.InTurn.{asked, begins_ask, insider, none_left}
-use Rattle.mu_cluster.proofs.Living.{none_of}
+use Rattle.mu_cluster.proofs.Living.{names_itself, none_of}
 use Rattle.mu_cluster.proofs.Naming.{AreUnpaused, part_before, part_step}
 use Rattle.mu_cluster.proofs.Onward.{AreNodes, in_turn, names_own, stays_named}
 use Rattle.mu_cluster.proofs.Outrunning.{none_outrun}
-use Rattle.mu_cluster.proofs.Taken.{TakenAt}
+use Rattle.mu_cluster.proofs.Taken.{GoOn, TakenAt}
 use Rattle.mu_cluster.proofs.Turning.{outlasted}
 use Rattle.mu_pace.proofs.Pasts.{cut}
 use Rattle.mu_alive.proofs.Settling.{score-part}
+use Rattle.mu_model.specs.Steps.{is_named}
+use Rattle.mu_alive.proofs.Spreading.{moments_more}
 
 -- who makes no events has none
 none_there : (events : List Event) → length events ≡ 0 → events ≡ []
@@ -106,23 +107,23 @@ begun_named c events lengths rounds a newer older run nodes is begun =
     let named = asker_named c k.event.by 0 (part k.event.by k.older) k.event made k.asks in
     ap (λ l. leader c a (part a l)) k.is ∙ subst (λ i. leader c i (part i (k.newer ++ k.event ∷ k.older)) ≡ i) k.own (stays_named c events lengths rounds newer k.newer k.older k.event run nodes.reads whole k.asks named)
 
--- so it leads last up to each of its events
-pub leads_last : (c : Config) (live : ℕ → Bool) (events : List Event) (lengths : List ℕ) (rounds a k most : ℕ) → IsConfig c → AreUnpaused c events lengths rounds → AreNodes c events → a < c.replicas → live a ≡ true → majority_of c.replicas ≤ count_below c.replicas live
-    → ((q : ℕ) → q < a → length (part_of q events) ≤ k) → ((r : ℕ) → r < c.replicas → IsDiligent c r (part_of r events)) → (t : TakenAt c live a events most) → LeadsLast c live a (k + failing_steps c) (t.last ∷ t.older)
-leads_last c live events lengths rounds a k most good run nodes inside lives majority short diligent t = record {
-  inside = inside;
-  lives = lives;
-  majority = majority;
+-- so who names itself from some step on leads last up to each of its events
+leads_from : (c : Config) (live : ℕ → Bool) (events : List Event) (lengths : List ℕ) (rounds a start most : ℕ) → IsConfig c → AreUnpaused c events lengths rounds → AreNodes c events → GoOn c live a events → (t : TakenAt c live a events most)
+    → AtEachMoment (NamesItself c a start) (part a (t.last ∷ t.older)) → LeadsLast c live a start (t.last ∷ t.older)
+leads_from c live events lengths rounds a start most good run nodes on t named = record {
+  inside = on.inside;
+  lives = on.lives;
+  majority = on.majority;
   legal = legal_older c t.front past (subst (IsLegalHistory c) t.is run.legal);
   turns = turns;
   highest = λ w above. none_higher w above (begins_leadership w t.last) refl;
   near = t.near;
-  reads = λ r low _. reads_before c r (part r t.front) (part r past) (subst (ReadsInTime c r) (split r) (diligent r low).heartbeat_pace);
-  grants = λ r low _. grants_before c r (part r t.front) (part r past) (subst (GrantsInTime c r) (split r) (diligent r low).grant_pace);
-  asks = asks_before c a (part a t.front) (part a past) (subst (AsksInTime c a) (split a) (diligent a inside).election_pace);
-  led = steps_before (LeaderKeeps c a) (part a t.front) (part a past) (subst (AtEachStep (LeaderKeeps c a)) (split a) (nodes.led a inside));
-  named = moments_of a (NamesItself c a (k + failing_steps c)) past (λ newer before split. itself newer before split);
-  going = outrun_before c a (part a t.front) (part a past) (sym (ap (outrun c a) (split a)) ∙ none_of c a (part_of a events) (outrun c a (part_of a events)) refl (λ p i. none_outrun c events lengths rounds a p i good run inside));
+  reads = λ r low _. reads_before c r (part r t.front) (part r past) (subst (ReadsInTime c r) (split r) (on.diligent r low).heartbeat_pace);
+  grants = λ r low _. grants_before c r (part r t.front) (part r past) (subst (GrantsInTime c r) (split r) (on.diligent r low).grant_pace);
+  asks = asks_before c a (part a t.front) (part a past) (subst (AsksInTime c a) (split a) (on.diligent a on.inside).election_pace);
+  led = steps_before (LeaderKeeps c a) (part a t.front) (part a past) (subst (AtEachStep (LeaderKeeps c a)) (split a) on.led);
+  named = named;
+  going = outrun_before c a (part a t.front) (part a past) (sym (ap (outrun c a) (split a)) ∙ none_of c a (part_of a events) (outrun c a (part_of a events)) refl (λ p i. none_outrun c events lengths rounds a p i good run on.inside));
 }
   where
     past : List Event
@@ -138,10 +139,20 @@ leads_last c live events lengths rounds a k most good run nodes inside lives maj
     split : (r : ℕ) → part_of r events ≡ part r t.front ++ part r past
     split r = ap (part r) t.is ∙ filter-append (λ e. e.by == r) t.front past
 
-    itself : (newer before : List Event) → past ≡ newer ++ before → NamesItself c a (k + failing_steps c) (part a before)
+-- replica 0 does so from the start on
+pub leads_first : (c : Config) (live : ℕ → Bool) (events : List Event) (lengths : List ℕ) (rounds most : ℕ) → IsConfig c → AreUnpaused c events lengths rounds → AreNodes c events → GoOn c live 0 events → (t : TakenAt c live 0 events most) → LeadsLast c live 0 0 (t.last ∷ t.older)
+leads_first c live events lengths rounds most good run nodes on t =
+    leads_from c live events lengths rounds 0 0 most good run nodes on t (moments_more (λ now. is_named c 0 now ≡ true) (NamesItself c 0 0) (λ now named _. named) (part 0 (t.last ∷ t.older)) (names_itself c (part 0 (t.last ∷ t.older)) on.inside))
+
+-- the least that goes on does once the lower ones are held failed
+pub leads_last : (c : Config) (live : ℕ → Bool) (events : List Event) (lengths : List ℕ) (rounds a k most : ℕ) → IsConfig c → AreUnpaused c events lengths rounds → AreNodes c events → GoOn c live a events → ((q : ℕ) → q < a → length (part_of q events) ≤ k) → (t : TakenAt c live a events most)
+    → LeadsLast c live a (k + failing_steps c) (t.last ∷ t.older)
+leads_last c live events lengths rounds a k most good run nodes on short t = leads_from c live events lengths rounds a (k + failing_steps c) most good run nodes on t (moments_of a (NamesItself c a (k + failing_steps c)) (t.last ∷ t.older) (λ newer before split. itself newer before split))
+  where
+    itself : (newer before : List Event) → t.last ∷ t.older ≡ newer ++ before → NamesItself c a (k + failing_steps c) (part a before)
     itself newer before cuts (inl late) =
         eq-eqb (leader c a (part a before)) a
-        (named_then c events lengths rounds a (t.front ++ newer) before run (nodes.reads a inside) (t.is ∙ ap (λ l. t.front ++ l) cuts ∙ sym (append_assoc t.front newer before)) inside
+        (named_then c events lengths rounds a (t.front ++ newer) before run (nodes.reads a on.inside) (t.is ∙ ap (λ l. t.front ++ l) cuts ∙ sym (append_assoc t.front newer before)) on.inside
         (λ q below. let few = short q below in omega (arith, few, late)))
     itself newer before cuts (inr begun) =
         eq-eqb (leader c a (part a before)) a (begun_named c events lengths rounds a (t.front ++ newer) before run nodes (t.is ∙ ap (λ l. t.front ++ l) cuts ∙ sym (append_assoc t.front newer before)) begun)

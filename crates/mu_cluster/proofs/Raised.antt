@@ -12,42 +12,35 @@ use Rattle.mu_model.specs.declared.event.Event.{Event}
 use Rattle.mu_model.specs.declared.event.Verb.{Verb}
 use Rattle.mu_model.specs.Allowed.{Needs}
 use Rattle.mu_model.specs.Contents.{IsConfig, holds_all}
-use Rattle.mu_model.specs.Diligence.{AsksInTime, GrantsInTime, ReadsInTime}
-use Rattle.mu_model.specs.Ends.{full_length, is_at_least, is_finished, is_full, outrun}
-use Rattle.mu_model.specs.Histories.{all_below, has, history, max_with, newest, or_zero, part}
+use Rattle.mu_model.specs.Ends.{full_length, is_at_least, is_finished, is_full}
+use Rattle.mu_model.specs.Histories.{all_below, history, max_with, newest, or_zero, part}
 use Rattle.mu_model.specs.Knowledge.{applied, has_entry, known}
 use Rattle.mu_model.specs.Legal.{IsLegalHistory}
 use Rattle.mu_model.specs.Regions.{head_raised, region_head}
 use Rattle.mu_model.specs.Room.{head_read}
 use Rattle.mu_model.specs.Scores.{is_failed}
 use Rattle.mu_model.proofs.Owned.{greatest-part}
-use Rattle.mu_model.proofs.Parts.{filter-append}
 use Rattle.mu_model.proofs.Putting.{head_applied}
 use Rattle.mu_model.proofs.Scans.{all_at}
-use Rattle.mu_pace.specs.Collecting.{LeaderKeeps}
-use Rattle.mu_pace.specs.Counters.{AtEachStep}
-use Rattle.mu_pace.proofs.Counting.{steps_before}
 use Rattle.mu_alive.specs.Alone.{WritesAlone}
 use Rattle.mu_alive.specs.Enough.{HasLargeRing}
 use Rattle.mu_alive.specs.Failing.{failing_steps}
 use Rattle.mu_alive.specs.Finishing.{HaveAllRaised, KeepUp, last_raising_steps}
-use Rattle.mu_alive.specs.Lone.{LeadsAlone}
-use Rattle.mu_alive.proofs.Beginning.{grants_before, reads_before}
-use Rattle.mu_alive.proofs.Enough.{asks_before, holds_more, outrun_before}
+use Rattle.mu_alive.proofs.Enough.{holds_more}
 use Rattle.mu_alive.proofs.Fetching.{applied_grows}
 use Rattle.mu_alive.proofs.LastRaising.{last_raises_all}
 use Rattle.mu_alive.proofs.Spreading.{get_of_front, get_take, heads-own}
 use Rattle.mu_cluster.specs.Rounds.{part_of}
-use Rattle.mu_cluster.specs.Naming.{NamesFirst}
-use Rattle.mu_cluster.proofs.Living.{asks_alone, more_front, names_itself, none_of, writes_alone}
+use Rattle.mu_cluster.proofs.Living.{more_front, writes_alone}
 use Rattle.mu_cluster.proofs.Naming.{AreUnpaused, few_steps, names_in, trusts_then}
 use Rattle.mu_cluster.proofs.Onward.{AreNodes}
-use Rattle.mu_cluster.proofs.Outliving.{leads_last}
-use Rattle.mu_cluster.proofs.Outrunning.{none_outrun}
+use Rattle.mu_cluster.proofs.Outliving.{leads_first, leads_last}
 use Rattle.mu_cluster.proofs.Taken.{GoOn, TakenAt, fetches_at, keep_at, opens_at, taken_at}
 use Rattle.mu_agree.proofs.Sessions.{same_list}
 use Rattle.mu_outcome.proofs.Completing.{least_passes}
 use Rattle.mu_pace.proofs.Pasts.{has_later}
+use Rattle.mu_alive.specs.Last.{FetchesInTime, LeadsLast}
+use Rattle.mu_alive.specs.Opens.{OpensInTime}
 
 -- the least of the numbers of those that pass
 pub record Least (n : ℕ) (live : ℕ → Bool) (f : ℕ → ℕ) : Type 0 where
@@ -122,75 +115,47 @@ pub record RaisedBy (c : Config) (live : ℕ → Bool) (events : List Event) (mo
   pub few : (r : ℕ) → r < c.replicas → live r ≡ true → length (part r past) ≤ most
   pub raised : HaveAllRaised c live past
 
--- replica 0 leads alone up to some moment, and all keep up with it
-pub record LoneAt (c : Config) (live : ℕ → Bool) (events : List Event) (most : ℕ) : Type 0 where
+-- at the moment at which replica 0 has taken this many steps it has led and written rows alone, and
+-- all kept up with it
+pub record AloneAt (c : Config) (live : ℕ → Bool) (events : List Event) (most : ℕ) : Type 0 where
   pub moment : TakenAt c live 0 events most
-  pub lone : LeadsAlone c live 0 (moment.last ∷ moment.older)
+  pub leads : LeadsLast c live 0 0 (moment.last ∷ moment.older)
+  pub opens : OpensInTime c 0 (part 0 (moment.last ∷ moment.older))
+  pub fetches : FetchesInTime c 0 (part 0 (moment.last ∷ moment.older))
   pub writes : WritesAlone 0 (moment.last ∷ moment.older)
   pub keep : KeepUp c live 0 (moment.last ∷ moment.older)
 
--- if none finished before replica 0 has taken this many steps
-pub lone_at : (c : Config) (live : ℕ → Bool) (events : List Event) (lengths : List ℕ) (rounds most : ℕ) → IsConfig c → AreUnpaused c events lengths rounds → GoOn c live 0 events → 1 ≤ most → ((r : ℕ) → r < c.replicas → live r ≡ true → most ≤ slice_index lengths r) → LoneAt c live events most
-lone_at c live events lengths rounds most good run on one_more late = record { moment = t; lone = lone; writes = writes; keep = keep_at c live 0 events lengths rounds most run on t late }
+-- if none finished before
+pub alone_at : (c : Config) (live : ℕ → Bool) (events : List Event) (lengths : List ℕ) (rounds most : ℕ) → IsConfig c → AreUnpaused c events lengths rounds → AreNodes c events → GoOn c live 0 events → 1 ≤ most → ((r : ℕ) → r < c.replicas → live r ≡ true → most ≤ slice_index lengths r) → AloneAt c live events most
+alone_at c live events lengths rounds most good run nodes on one_more late = record {
+  moment = t;
+  leads = leads_first c live events lengths rounds most good run nodes on t;
+  opens = opens_at c live 0 events lengths rounds most run on.inside t;
+  fetches = fetches_at c live 0 events lengths rounds most 0 good run on.inside t;
+  writes = (writes_alone c events (t.front ++ t.last ∷ []) t.older lengths rounds (names_in c events lengths rounds run) run (more_front events t.front t.older t.last t.is) (has_later (λ f. f.by == 0) t.front (t.last ∷ []) (ap (λ t. cond t true false) (eq-eqb t.last.by 0 t.own))), λ j k x wrote. t.own);
+  keep = keep_at c live 0 events lengths rounds most run on t late;
+}
   where
-    some : 0 < c.replicas
-    some = (let l = good.replicas.0 in omega (arith, l))
-
     t : TakenAt c live 0 events most
-    t = taken_at c live 0 events lengths rounds most run some on.lives one_more late
+    t = taken_at c live 0 events lengths rounds most run on.inside on.lives one_more late
 
-    split : (r : ℕ) → part_of r events ≡ part r t.front ++ part r (t.last ∷ t.older)
-    split r = ap (part r) t.is ∙ filter-append (λ e. e.by == r) t.front (t.last ∷ t.older)
-
-    names : NamesFirst c events
-    names = names_in c events lengths rounds run
-
-    first_there : has (λ f. f.by == 0) (t.front ++ t.last ∷ []) ≡ true
-    first_there = has_later (λ f. f.by == 0) t.front (t.last ∷ []) (ap (λ t. cond t true false) (eq-eqb t.last.by 0 t.own))
-
-    lone : LeadsAlone c live 0 (t.last ∷ t.older)
-    lone = record {
-      inside = some;
-      lives = on.lives;
-      majority = on.majority;
-      legal = legal_older c t.front (t.last ∷ t.older) (subst (IsLegalHistory c) t.is run.legal);
-      alone = (asks_alone c events (t.front ++ t.last ∷ []) t.older names (more_front events t.front t.older t.last t.is) first_there, λ p asked. t.own);
-      near = t.near;
-      reads = λ r low _. reads_before c r (part r t.front) (part r (t.last ∷ t.older)) (subst (ReadsInTime c r) (split r) (on.diligent r low).heartbeat_pace);
-      grants = λ r low _. grants_before c r (part r t.front) (part r (t.last ∷ t.older)) (subst (GrantsInTime c r) (split r) (on.diligent r low).grant_pace);
-      asks = asks_before c 0 (part 0 t.front) (part 0 (t.last ∷ t.older)) (subst (AsksInTime c 0) (split 0) (on.diligent 0 some).election_pace);
-      led = steps_before (LeaderKeeps c 0) (part 0 t.front) (part 0 (t.last ∷ t.older)) (subst (AtEachStep (LeaderKeeps c 0)) (split 0) on.led);
-      named = names_itself c (part 0 (t.last ∷ t.older)) some;
-      going = outrun_before c 0 (part 0 t.front) (part 0 (t.last ∷ t.older)) (sym (ap (outrun c 0) (split 0)) ∙ none_of c 0 (part_of 0 events) (outrun c 0 (part_of 0 events)) refl (λ p i. none_outrun c events lengths rounds 0 p i good run some));
-    }
-
-    writes : WritesAlone 0 (t.last ∷ t.older)
-    writes = (writes_alone c events (t.front ++ t.last ∷ []) t.older lengths rounds names run (more_front events t.front t.older t.last t.is) first_there, λ j k x wrote. t.own)
-
--- if replica 0 leads alone for this many steps, all have raised their heads
-abbrev pub RaisesAll : Config → (ℕ → Bool) → ℕ → Type 0
-RaisesAll c live most = (past : List Event) → LeadsAlone c live 0 past → WritesAlone 0 past → KeepUp c live 0 past → most ≤ length (part 0 past) → HaveAllRaised c live past
-
--- so they have if none finished before
-pub raised_alone : (c : Config) (live : ℕ → Bool) (events : List Event) (lengths : List ℕ) (rounds most : ℕ) → IsConfig c → AreUnpaused c events lengths rounds → GoOn c live 0 events → 1 ≤ most → RaisesAll c live most → ((r : ℕ) → r < c.replicas → live r ≡ true → most ≤ slice_index lengths r) → RaisedBy c live events most
-raised_alone c live events lengths rounds most good run on one raises late =
-    let l = lone_at c live events lengths rounds most good run on one late in
-    record { front = l.moment.front; past = (l.moment.last ∷ l.moment.older); is = l.moment.is; few = l.moment.few; raised = raises (l.moment.last ∷ l.moment.older) l.lone l.writes l.keep (let n = l.moment.taken in omega (arith, n)) }
+-- all have raised their heads at such a moment
+pub raised_at : (c : Config) (live : ℕ → Bool) (s : ℕ) (events : List Event) (most : ℕ) (t : TakenAt c live s events most) → HaveAllRaised c live (t.last ∷ t.older) → RaisedBy c live events most
+raised_at c live s events most t raised = record { front = t.front; past = t.last ∷ t.older; is = t.is; few = t.few; raised = raised }
 
 -- and so they have if s leads last
 pub raised_last : (c : Config) (live : ℕ → Bool) (s : ℕ) (events : List Event) (lengths : List ℕ) (rounds k : ℕ) → IsConfig c → HasLargeRing c → AreUnpaused c events lengths rounds → AreNodes c events → GoOn c live s events → ((q : ℕ) → q < s → length (part_of q events) ≤ k)
     → ((r : ℕ) → r < c.replicas → live r ≡ true → k + failing_steps c + last_raising_steps c s ≤ slice_index lengths r) → RaisedBy c live events (k + failing_steps c + last_raising_steps c s)
-raised_last c live s events lengths rounds k good large run nodes on short late = record {
-  front = t.front;
-  past = (t.last ∷ t.older);
-  is = t.is;
-  few = t.few;
-  raised = last_raises_all c live s (k + failing_steps c) (t.last ∷ t.older) good large (leads_last c live events lengths rounds s k (k + failing_steps c + last_raising_steps c s) good run nodes on.inside on.lives on.majority short on.diligent t)
-      (opens_at c live s events lengths rounds (k + failing_steps c + last_raising_steps c s) run on.inside t) (fetches_at c live s events lengths rounds (k + failing_steps c + last_raising_steps c s) s good run on.inside t) (keep_at c live s events lengths rounds (k + failing_steps c + last_raising_steps c s) run on t late) (let n = t.taken in omega (arith, n));
-}
+raised_last c live s events lengths rounds k good large run nodes on short late =
+    raised_at c live s events most t
+    (last_raises_all c live s (k + failing_steps c) (t.last ∷ t.older) good large (leads_last c live events lengths rounds s k most good run nodes on short t) (opens_at c live s events lengths rounds most run on.inside t)
+    (fetches_at c live s events lengths rounds most s good run on.inside t) (keep_at c live s events lengths rounds most run on t late) (let n = t.taken in omega (arith, n)))
   where
-    t : TakenAt c live s events (k + failing_steps c + last_raising_steps c s)
-    t = taken_at c live s events lengths rounds (k + failing_steps c + last_raising_steps c s) run on.inside on.lives (omega arith) late
+    most : ℕ
+    most = k + failing_steps c + last_raising_steps c s
+
+    t : TakenAt c live s events most
+    t = taken_at c live s events lengths rounds most run on.inside on.lives (omega arith) late
 
 -- the history up to the last event of q
 record UpTo (q : ℕ) (whole : List Event) : Type 0 where
@@ -209,7 +174,7 @@ up_to q (e ∷ whole) = go (e.by == q) refl (up_to q whole)
     go false other k = record { front = e ∷ k.front; past = k.past; is = ap (λ l. e ∷ l) k.is; all = k.all ∙ sym (ap (λ t. cond t (e ∷ part q whole) (part q whole)) other); ends = k.ends }
 
 -- if one finished before, all had
-pub one_before : (c : Config) (live : ℕ → Bool) (events : List Event) (lengths : List ℕ) (rounds most : ℕ) → AreUnpaused c events lengths rounds → (q : Least c.replicas live (λ r. slice_index lengths r)) → slice_index lengths q.at ≤ most → is_finished c q.at (part_of q.at events) ≡ true → RaisedBy c live events most
+one_before : (c : Config) (live : ℕ → Bool) (events : List Event) (lengths : List ℕ) (rounds most : ℕ) → AreUnpaused c events lengths rounds → (q : Least c.replicas live (λ r. slice_index lengths r)) → slice_index lengths q.at ≤ most → is_finished c q.at (part_of q.at events) ≡ true → RaisedBy c live events most
 one_before c live events lengths rounds most run least short finished = at (up_to q (history events))
   where
     q : ℕ
@@ -281,14 +246,15 @@ one_before c live events lengths rounds most run least short finished = at (up_t
         held : (r : ℕ) → r < c.replicas → live r ≡ true → holds_all c (take upto (applied c r (part r u.past))) ≡ true
         held r low lives = ap (holds_all c) (same_taken c r q upto u.past legal (reached r low lives) (reached q least.low least.lives)) ∙ full_holds c q (part q u.past) full
 
-pub raised_by : (c : Config) (live : ℕ → Bool) (s : ℕ) (events : List Event) (lengths : List ℕ) (rounds most : ℕ) → AreUnpaused c events lengths rounds → GoOn c live s events → (((r : ℕ) → r < c.replicas → live r ≡ true → most ≤ slice_index lengths r) → RaisedBy c live events most) → most ≤ c.budget → RaisedBy c live events most
-raised_by c live s events lengths rounds most run on raised enough = elim (least_or_none c.replicas live (λ r. slice_index lengths r)) [
+-- so by these steps of each that goes on, or at such a moment before
+pub late_or_raised : (c : Config) (live : ℕ → Bool) (s : ℕ) (events : List Event) (lengths : List ℕ) (rounds most : ℕ) → AreUnpaused c events lengths rounds → GoOn c live s events → most ≤ c.budget → ((r : ℕ) → r < c.replicas → live r ≡ true → most ≤ slice_index lengths r) ⊎ RaisedBy c live events most
+late_or_raised c live s events lengths rounds most run on enough = elim (least_or_none c.replicas live (λ r. slice_index lengths r)) [
   | inr none ↦ absurd (true≢false (sym on.lives ∙ none s on.inside))
   | inl q ↦ elim (cases_lt (slice_index lengths q.at) most) [
-    | inr late ↦ raised (λ r low lives. let l = q.least r low lives in omega (arith, l, late))
+    | inr late ↦ inl (λ r low lives. let l = q.least r low lives in omega (arith, l, late))
     | inl early ↦ elim (on.ended q.at q.low q.lives) [
       | inl spent ↦ absurd (let taken = run.taken q.at q.low in omega (arith, spent, taken, early, enough))
-      | inr finished ↦ one_before c live events lengths rounds most run q (omega (arith, early)) finished
+      | inr finished ↦ inr (one_before c live events lengths rounds most run q (omega (arith, early)) finished)
     ]
   ]
 ]

@@ -38,12 +38,12 @@ use Rattle.mu_node.proofs.Fetching.{rows_fetched}
 use Rattle.mu_node.proofs.Reading.{reads_in_order}
 use Rattle.mu_alive.specs.Finishing.{AsksAllFirst}
 use Rattle.mu_alive.specs.Last.{FetchesInTime}
-use Rattle.mu_alive.specs.Lone.{IsNear}
+use Rattle.mu_alive.specs.Near.{IsNear}
 use Rattle.mu_alive.specs.Opens.{OpensInTime}
 use Rattle.mu_alive.specs.Stopping.{ReadsInOrder}
-use Rattle.mu_alive.proofs.Finishing.{heads_before, replays_before}
 use Rattle.mu_cluster.proofs.Turning.{least_most}
 use Rattle.mu_pace.proofs.Pasts.{cut, Cut}
+use Rattle.mu_alive.proofs.LastRaising.{heads_before, replays_before}
 
 -- the moment at which a has taken this many steps: none that goes on has taken more, and all are near a
 pub record TakenAt (c : Config) (live : ℕ → Bool) (a : ℕ) (events : List Event) (most : ℕ) : Type 0 where

@@ -13,7 +13,7 @@ use Rattle.mu_cluster.specs.Rounds.{part_of}
 use Rattle.mu_cluster.proofs.Naming.{AreUnpaused}
 use Rattle.mu_cluster.proofs.Onward.{AreNodes}
 use Rattle.mu_cluster.proofs.Outliving.{fails_then, leads_last}
-use Rattle.mu_cluster.proofs.Raised.{RaisedBy}
+use Rattle.mu_cluster.proofs.Raised.{RaisedBy, raised_at}
 use Rattle.mu_cluster.proofs.Taken.{GoOn, TakenAt, fetches_at, keep_at, opens_at, ordered_at, taken_at}
 use Rattle.mu_alive.proofs.Settling.{score-part}
 use Rattle.mu_alive.proofs.Cutting.{moments_of}
@@ -45,13 +45,7 @@ lower_stop c live s events k on stop q below = stop q (let inside = on.inside in
 -- and all have raised their heads
 pub raised_last_in_any_ring : (c : Config) (live : ℕ → Bool) (s : ℕ) (events : List Event) (lengths : List ℕ) (rounds k : ℕ) → IsConfig c → c.version ≡ 2 → AreUnpaused c events lengths rounds → AreNodes c events → GoOn c live s events → StopBy c live events k
     → ((r : ℕ) → r < c.replicas → live r ≡ true → k + failing_steps c + last_raising_in_any_ring c s ≤ slice_index lengths r) → RaisedBy c live events (k + failing_steps c + last_raising_in_any_ring c s)
-raised_last_in_any_ring c live s events lengths rounds k good two run nodes on stop late = record {
-  front = t.front;
-  past = (t.last ∷ t.older);
-  is = t.is;
-  few = t.few;
-  raised = last_raises c live s (k + failing_steps c) (t.last ∷ t.older) good two (leads_last c live events lengths rounds s k most good run nodes on.inside on.lives on.majority (lower_stop c live s events k on stop) on.diligent t) (unblocked_at c live s events lengths rounds k most good run nodes on stop t late) (let n = t.taken in omega (arith, n));
-}
+raised_last_in_any_ring c live s events lengths rounds k good two run nodes on stop late = raised_at c live s events most t (last_raises c live s (k + failing_steps c) (t.last ∷ t.older) good two (leads_last c live events lengths rounds s k most good run nodes on (lower_stop c live s events k on stop) t) (unblocked_at c live s events lengths rounds k most good run nodes on stop t late) (let n = t.taken in omega (arith, n)))
   where
     most : ℕ
     most = k + failing_steps c + last_raising_in_any_ring c s

@@ -9,6 +9,7 @@ pub mod Living
 pub mod Naming
 pub mod Outliving
 pub mod Paces
+pub mod Pauses
 pub mod Pausing
 pub mod Resting
 pub mod Rounds

@@ -12,6 +12,7 @@ use Rattle.mu_node.specs.declared.zeal.Zeal.{Zeal}
 use Rattle.mu_node.specs.Node.{StandsForNode}
 use Rattle.mu_cluster.specs.declared.rounds.Seat.{Seat}
 use Rattle.mu_outcome.specs.Turns.{ids_after, ids_in_round, is_due, pace}
+use Rattle.mu_cluster.specs.Pauses.{IsNextPause}
 
 -- the events of r among these, newest first
 abbrev pub part_of : ℕ → List Event → List Event
@@ -40,6 +41,7 @@ pub record Sits (kind : Zeal) (c : Config) (script : Script) (r : ℕ) (mine : L
   pub stands : StandsForNode c r mine seat.node
   pub stops : seat.node.stops.items ≡ script.stops
   pub zeal : seat.node.zeal ≡ kind
+  pub next : IsNextPause script.pauses r (length mine) seat.next
   pub keeps : KeepsPace script.pauses r seat.ended (length mine) seat.waited rounds
   pub ended : seat.ended ≡ true → (end : End) × EndsBy c script r mine end
   pub before : EndsNowhereBefore c script r mine

@@ -16,8 +16,8 @@ ghost use Rattle.mu_cluster.specs.Resting.{IsNap, yields_for};
 ghost use Rattle.mu_cluster.specs.Silences.{silence as silence_of};
 
 use crate::idling::Idling;
+use crate::pauses::{next_pause, pause_after, rounds_at};
 use crate::resting::{Rested, rest};
-use crate::rounds::rounds_paused;
 use crate::silences::Silences;
 use mu_gate::Gate;
 use mu_input::Job;
@@ -68,16 +68,19 @@ fn drive<R: Wait + Clock, G: Gate>(rt: &R, branch: &mut Branch, script: &Script,
     let Branch { node, port } = branch;
     let mut silences = Silences::new();
     let mut idling = Idling::new();
+    let pauses = script.pauses.as_slice();
+    let mut next = next_pause(pauses, node.id(), 0);
     for _ in rt.forever() {
         let steps = node.steps();
-        let paused = rounds_paused(script.pauses.as_slice(), node.id(), steps);
+        let paused = rounds_at(next, steps);
         let rested = rest(rt, paused, silences.shown(), idling.ended());
         gate.pass(node.id(), steps);
         match turn_rested(node, port, script, &rested) {
             Turn::Took(_) => {
                 let events = port.part();
                 silences.take_newest(events);
-                idling.note_newest(events);
+                idling.take_newest(events);
+                next = pause_after(next, pauses, node.id(), node.steps());
             }
             Turn::Ended(_) => break,
         }

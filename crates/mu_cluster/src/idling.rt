@@ -25,7 +25,7 @@ pub(crate) struct Idling {
 
 /// Whether the event got something done, after events that left these heads.
 #[inline(always)]
-fn is_progress(heads: &Published, event: &Event) -> bool
+fn gets_done(heads: &Published, event: &Event) -> bool
     ensures { (mine : List SomeEvent) → ReadsHeadsWithin 7 event.now.verb
         → HoldsPublished event.now.by mine heads.now
         → result ≡ gets_done event.now.by mine event.now.verb event.now.answer }
@@ -84,14 +84,14 @@ impl Idling {
 
     /// Takes the newest of the replica's own events.
     #[inline(always)]
-    pub(crate) fn note_newest(&mut self, events: &[Event])
+    pub(crate) fn take_newest(&mut self, events: &[Event])
         ensures { (event : SomeEvent) → (past : List SomeEvent) → history events.now ≡ event ∷ past
             → ReadsHeadsWithin 7 event.verb → StandsForIdling event.by past self.old
             → StandsForIdling event.by (event ∷ past) self.new }
     {
         if let Some(event) = events.last() {
             let ends = ends_cycle(event.verb);
-            self.cycles = cycles_after(is_progress(&self.heads, event), ends, self.cycles);
+            self.cycles = cycles_after(gets_done(&self.heads, event), ends, self.cycles);
             self.ended = if ends { self.cycles } else { 0 };
             self.heads.note(event.by, event);
         }

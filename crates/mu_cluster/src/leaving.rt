@@ -8,7 +8,7 @@ ghost use Rattle.mu_cluster.specs.Branches.{AreLeft};
 ghost use Rattle.mu_cluster.specs.Fair.{AppliesAllIfFair};
 ghost use Rattle.mu_cluster.specs.Lists.{HasRoom, HoldsLists, IsOutcomeRoom};
 ghost use Rattle.mu_follow.specs.Groups.{AreSpelled};
-ghost use Rattle.mu_cluster.specs.Paces.{AreDiligentBy};
+ghost use Rattle.mu_cluster.specs.Paces.{AreDiligentBy, AreEager};
 ghost use Rattle.mu_outcome.specs.Runs.{IsThreadRun};
 
 use crate::lists::{Lists, OutcomeRoom, printed};
@@ -33,6 +33,7 @@ pub(crate) fn gathered_outcome(
     ensures job { result.job ≡ job }
     ensures run { IsThreadRun result }
     ensures diligent { AreDiligentBy true result }
+    ensures eager { AreEager result }
     ensures applies { AppliesAllIfFair result }
 {
     let OutcomeRoom {

@@ -5,6 +5,7 @@ mod branch;
 mod idling;
 mod leaving;
 mod lists;
+mod pauses;
 mod playing;
 mod resting;
 mod rounds;

@@ -111,10 +111,8 @@ fn nap(silence: u8, cycles: u8) -> Duration
 {
     if cycles > 0 {
         idle_nap(cycles)
-    } else if silence > 0 {
-        silence_nap(silence)
     } else {
-        Duration::from_micros(0)
+        silence_nap(silence)
     }
 }
 

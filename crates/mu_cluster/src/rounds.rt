@@ -11,8 +11,8 @@ ghost use Rattle.mu_node.specs.Due.{is_eager};
 ghost use Rattle.mu_node.specs.Turns.{IsResult, TellsEnd};
 ghost use Rattle.mu_cluster.specs.declared.rounds.Seat.{Seat};
 ghost use Rattle.mu_cluster.specs.Rounds.{PlayedBy, Plays, Sits, all_left, left_of, one_if_going, part_of};
-ghost use Rattle.mu_outcome.specs.Turns.{rounds_paused as rounds_paused_of};
 
+use crate::pauses::{next_pause, pause_after, rounds_at};
 use mu_input::Job;
 use mu_model::{NoMemory, Pause};
 use mu_node::{Node, NodeResult, Turn, Zeal};
@@ -28,31 +28,23 @@ pub(crate) struct Seat {
     waited: u32,
     /// Whether its journal has an end.
     ended: bool,
-}
-
-/// For how many rounds the replica is passed over once it has taken this many steps.
-pub(crate) fn rounds_paused(pauses: &[Pause], replica: u8, steps: u32) -> u32
-    ensures { result ≡ rounds_paused_of pauses.now replica steps }
-{
-    for pause in pauses {
-        if pause.replica == replica && pause.steps == steps {
-            return pause.rounds;
-        }
-    }
-    0
+    /// Its next pause.
+    next: Option<Pause>,
 }
 
 impl Seat {
-    /// A replica that has taken no step.
-    fn new(node: Node) -> Seat
+    /// A replica that has taken no step, with its first pause.
+    fn new(node: Node, next: Option<Pause>) -> Seat
         ensures node { result.node ≡ node }
         ensures going { result.ended ≡ false }
         ensures waited { result.waited ≡ 0 }
+        ensures next { result.next ≡ next }
     {
         Seat {
             node,
             waited: 0,
             ended: false,
+            next,
         }
     }
 
@@ -71,6 +63,7 @@ impl Seat {
             node,
             waited: _,
             ended: _,
+            next: _,
         } = self;
         node.into_result()
     }
@@ -102,13 +95,16 @@ impl Seat {
             return;
         }
         let id = self.node.id();
-        if self.waited < rounds_paused(pauses, id, self.node.steps()) {
+        if self.waited < rounds_at(self.next, self.node.steps()) {
             self.waited = self.waited.saturating_add(1);
             return;
         }
         port.pass_to(id);
         match self.node.turn(port) {
-            Turn::Took(_) => self.waited = 0,
+            Turn::Took(_) => {
+                self.waited = 0;
+                self.next = pause_after(self.next, pauses, id, self.node.steps());
+            }
             Turn::Ended(_) => self.ended = true,
         }
     }
@@ -123,7 +119,10 @@ pub(crate) fn seats(alloc: Global, job: &Job, kind: Zeal) -> Result<Vec<Seat>, N
 {
     let mut seats = Vec::with_capacity(alloc, usize::from(job.config.replicas))?;
     for id in 0..job.config.replicas {
-        seats.push_reserved(Seat::new(Node::new(alloc, job, id, kind)?));
+        seats.push_reserved(Seat::new(
+            Node::new(alloc, job, id, kind)?,
+            next_pause(job.script.pauses.as_slice(), id, 0),
+        ));
     }
     Ok(seats)
 }

@@ -4,7 +4,7 @@ ghost use Rattle.mu_input.specs.Heads.{HaveHeads};
 ghost use Rattle.mu_follow.specs.Groups.{AreSpelled};
 ghost use Rattle.mu_model.specs.Contents.{IsConfig};
 ghost use Rattle.mu_cluster.specs.Fair.{HasAllIfFair};
-ghost use Rattle.mu_cluster.specs.Paces.{AreDiligentBy};
+ghost use Rattle.mu_cluster.specs.Paces.{AreDiligentBy, AreEager};
 ghost use Rattle.mu_outcome.specs.Outcomes.{Agrees, IsWithinJob};
 ghost use Rattle.mu_outcome.specs.Runs.{IsThreadRun};
 
@@ -39,6 +39,7 @@ pub fn run<R: Threads + Wait + Clock + Sync, G: Gate + Sync>(
     ensures job { IfOk result (λ outcome. outcome.job ≡ job) }
     ensures run { IfOk result IsThreadRun }
     ensures diligent { IfOk result (λ outcome. AreDiligentBy true outcome) }
+    ensures eager { IfOk result AreEager }
     ensures agrees { IfOk result Agrees }
     ensures reach { IfOk result IsWithinJob }
     ensures lives_if_fair { IfOk result HasAllIfFair }

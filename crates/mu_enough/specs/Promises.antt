@@ -12,9 +12,10 @@ use Rattle.mu_model.specs.declared.script.Script.{Script}
 use Rattle.mu_model.specs.Contents.{row_count}
 use Rattle.mu_model.specs.Room.{reserve}
 
--- why no number is promised in a ring that lacks a place for some entry, if no line pauses
-abbrev pub why_not_stopped : Config → Script → Option Cause
-why_not_stopped c script =
+-- why no number is promised after stops, in a ring that lacks a place for some entry, if no line
+-- pauses
+abbrev pub why_not_after_stops : Config → Script → Option Cause
+why_not_after_stops c script =
     if not (has_stop script) then None
     else
     if c.version == 2 then None else Some Cause.StoppedInSmallRing
@@ -22,7 +23,7 @@ why_not_stopped c script =
 -- the same, if a line may pause
 abbrev pub why_not_in_small_ring : Config → Script → Option Cause
 why_not_in_small_ring c script =
-    if has_pause script then Some Cause.PausedInSmallRing else why_not_stopped c script
+    if has_pause script then Some Cause.PausedInSmallRing else why_not_after_stops c script
 
 -- why no replica is promised to have every command
 abbrev pub why_not_committed : Config → Script → Option Cause
@@ -39,17 +40,12 @@ why_not_finished c script =
     if has_pause script then Some Cause.Paused
     else
     if has_large_ring c then None
-    else why_not_stopped c script
+    else why_not_after_stops c script
 
 -- either this number is promised and there is no cause, or none is and this is the cause
 abbrev pub IsPromise : Option ℕ → Option Cause → Promise → Type 0
 IsPromise number why (Promise.By steps) = (number ≡ Some steps) × (why ≡ None)
 IsPromise number why (Promise.Nothing cause) = (number ≡ None) × (why ≡ Some cause)
-
--- the number of a promise
-abbrev pub number_of : Promise → Option ℕ
-number_of (Promise.By steps) = Some steps
-number_of (Promise.Nothing cause) = None
 
 -- this is what the job promises of its replay, with its budget and the places of a large ring
 pub record ArePromises (c : Config) (script : Script) (promises : Promises) : Type 0 where

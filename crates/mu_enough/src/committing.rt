@@ -14,17 +14,9 @@ use crate::promises::{Cause, Promise};
 use crate::small_rings::{last_steps_in_any_ring, steps_in_any_ring};
 use mu_model::{Config, Script};
 
-/// By how many of its steps a replica has every command in its log, if the job promises that.
-pub fn committed_by(config: &Config, script: &Script) -> Option<u64>
-    requires config { IsConfig config.now }
-    requires few { length script.now.pauses ≤ 100 }
-    ensures { result ≡ committed_by config.now script.now }
-{
-    committed(config, script).number()
-}
-
-/// The same, or why the job doesn't promise it.
-pub fn committed(config: &Config, script: &Script) -> Promise
+/// By how many of its steps a replica has every command in its log, or why the job doesn't promise
+/// that.
+pub(crate) fn committed(config: &Config, script: &Script) -> Promise
     requires config { IsConfig config.now }
     requires few { length script.now.pauses ≤ 100 }
     ensures { IsPromise (committed_by config.now script.now)

@@ -1,7 +1,7 @@
 //! By when each replica that isn't stopped has finished.
 ghost use Rattle.std.specs.Prelude.{◌*◌, ◌<◌, ◌≡◌, ◌^◌};
 ghost use Rattle.mu_enough.specs.Finished.{finished_by, finished_in_any_ring, finished_in_large_ring, finishing_after, finishing_after_in_any_ring, finishing_in_any_ring, finishing_in_large_ring, finishing_steps};
-ghost use Rattle.mu_enough.specs.Promises.{IsPromise, why_not_finished, why_not_stopped};
+ghost use Rattle.mu_enough.specs.Promises.{IsPromise, why_not_finished, why_not_after_stops};
 ghost use Rattle.mu_model.specs.Bounds.{cycle};
 ghost use Rattle.mu_model.specs.Contents.{IsConfig};
 
@@ -16,16 +16,9 @@ use crate::small_rings::{
 };
 use mu_model::{Config, Script};
 
-/// By how many of its steps each replica that isn't stopped has finished, if the job promises that.
-pub fn finished_by(config: &Config, script: &Script) -> Option<u64>
-    requires { IsConfig config.now }
-    ensures { result ≡ finished_by config.now script.now }
-{
-    finished(config, script).number()
-}
-
-/// The same, or why the job doesn't promise it.
-pub fn finished(config: &Config, script: &Script) -> Promise
+/// By how many of its steps each replica that isn't stopped has finished, or why the job doesn't
+/// promise that.
+pub(crate) fn finished(config: &Config, script: &Script) -> Promise
     requires { IsConfig config.now }
     ensures { IsPromise (finished_by config.now script.now)
         (why_not_finished config.now script.now) result }
@@ -68,7 +61,7 @@ fn finishing_in_large_ring(config: &Config, script: &Script) -> u64
 fn finished_in_any_ring(config: &Config, script: &Script) -> Promise
     requires { IsConfig config.now }
     ensures { IsPromise (finished_in_any_ring config.now script.now)
-        (why_not_stopped config.now script.now) result }
+        (why_not_after_stops config.now script.now) result }
 {
     if !has_stop(script) {
         Promise::By(finishing_in_any_ring(config))

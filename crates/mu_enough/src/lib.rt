@@ -10,6 +10,4 @@ mod lines;
 mod promises;
 mod small_rings;
 
-pub use committing::{committed, committed_by};
-pub use finishing::{finished, finished_by};
 pub use promises::{Cause, Promise, Promises, promises_of};

@@ -1,6 +1,6 @@
 //! What a job promises of its replay, or why it promises nothing.
-ghost use Rattle.std.specs.Prelude.{◌≡◌, ◌≤◌, length};
-ghost use Rattle.mu_enough.specs.Promises.{ArePromises, number_of};
+ghost use Rattle.std.specs.Prelude.{◌≤◌, length};
+ghost use Rattle.mu_enough.specs.Promises.{ArePromises};
 ghost use Rattle.mu_model.specs.Contents.{IsConfig};
 
 use crate::committing::committed;
@@ -41,18 +41,6 @@ pub struct Promises {
     pub budget: u32,
     /// With how many places a ring has one for each entry.
     pub large_ring: u64,
-}
-
-impl Promise {
-    /// The number, if there is one.
-    pub(crate) fn number(self) -> Option<u64>
-        ensures { result ≡ number_of self }
-    {
-        match self {
-            Promise::By(steps) => Some(steps),
-            Promise::Nothing(_) => None,
-        }
-    }
 }
 
 /// What the job of this configuration and script promises.

@@ -28,7 +28,8 @@ pub record KeepsRounds (c : Config) (r : ℕ) (now : List Event) : Type 0 where
       × ((k < (c.replicas - 1) * cycle c)
       × IsMadeAt ((c.replicas - 1) * cycle c) k (is_head_of q) now)
 
--- what the leader keeps with the event, which asks again if it may
+-- what the leader keeps with the event; `again` tells whether it may ask again for a region that has
+-- gone astray
 pub record LeaderKeepsBy (again : Bool) (c : Config) (r : ℕ) (past : List Event) (e : Event)
     : Type 0 where
   pub asks : AsksLately c r past e
@@ -39,6 +40,7 @@ pub record LeaderKeepsBy (again : Bool) (c : Config) (r : ℕ) (past : List Even
   pub raises : (p : ℕ) → p < c.replicas → IsInTime (raising c r p) (e ∷ past)
   pub joins : (p : ℕ) → p < c.replicas → IsInTime (joining c r p) (e ∷ past)
 
+-- the same of a leader that never does
 abbrev pub LeaderKeeps : Config → ℕ → List Event → Event → Type 0
 LeaderKeeps c r past e = LeaderKeepsBy false c r past e
 

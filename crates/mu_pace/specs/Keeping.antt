@@ -35,12 +35,14 @@ pub record AsksLately (c : Config) (r : ℕ) (past : List Event) (e : Event) : T
       (p : ℕ) → p < c.replicas
       → steps_since (asks_or_rests c r (is_fencing p)) (e ∷ past) < 17 * c.replicas + 1
 
--- ask discipline: r asks only if it is named, and asks again only with cause
+-- ask discipline: r asks only if it is named, and asks anew only with cause; a region that has gone
+-- astray is one only if `again` holds
 pub record HasCauseBy (again : Bool) (c : Config) (r : ℕ) (past : List Event) (e : Event) : Type 0
   where
     pub named : (p : ℕ) → is_asking p e ≡ true → is_named c r past ≡ true
     pub anew : is_asking 0 e ≡ true → may_begin again c r past ≡ true
 
+-- the same of a replica that never asks again for a region that has gone astray
 abbrev pub HasCause : Config → ℕ → List Event → Event → Type 0
 HasCause c r past e = HasCauseBy false c r past e
 
@@ -60,7 +62,8 @@ pub record HeadsInTime (c : Config) (r : ℕ) (past : List Event) (e : Event) : 
   pub reads :
       (q : ℕ) → q < c.replicas → q ≢ r → CameLately (is_head_of q) (c.replicas * cycle c) (e ∷ past)
 
--- the event keeps every pace of r's journal, and asks again if it may
+-- the event keeps every pace of r's journal; `again` tells whether r may ask again for a region that
+-- has gone astray
 pub record KeepsPaceBy (again : Bool) (c : Config) (r : ℕ) (past : List Event) (e : Event) : Type 0
   where
     pub heartbeat_pace : ReadsLately c r past e
@@ -77,14 +80,8 @@ pub record KeepsPaceBy (again : Bool) (c : Config) (r : ℕ) (past : List Event)
     pub replayer_pace : ReplaysInTime c r past e
     pub head_pace : HeadsInTime c r past e
 
-abbrev pub KeepsPace : Config → ℕ → List Event → Event → Type 0
-KeepsPace c r past e = KeepsPaceBy false c r past e
-
 -- each event of the journal keeps every pace
 abbrev pub IsDiligentAtEachMomentBy : Bool → Config → ℕ → List Event → Type 0
 IsDiligentAtEachMomentBy again c r [] = Unit {0}
 IsDiligentAtEachMomentBy again c r (e ∷ past) =
     IsDiligentAtEachMomentBy again c r past × KeepsPaceBy again c r past e
-
-abbrev pub IsDiligentAtEachMoment : Config → ℕ → List Event → Type 0
-IsDiligentAtEachMoment c r past = IsDiligentAtEachMomentBy false c r past

@@ -3,13 +3,13 @@ ghost use Rattle.std.specs.Prelude.{IfOk, length, ◌≤◌};
 ghost use Rattle.snap_reads.specs.Lives.{told_commands};
 
 use crate::replays::{TWO_CLIENTS, job_of};
+use crate::runs::reaches;
 use kv_store::{Command, Key, Op, Text};
 use mu_cluster::{Gate, Outcome, replay, rows_spell_commands};
 use snap_reads::{Lived, Sight, live, start};
 use std::alloc::Global;
 use std::sync::atomic::{AtomicU64, Ordering};
 use std::test::Fail;
-use std::thread;
 use std::thread::Threads;
 
 /// The put of a text at a key of client 0, with its number.
@@ -72,15 +72,11 @@ impl Crossed {
         mine.store(1, Ordering::SeqCst);
     }
 
-    /// Waits until the other was called, for this many turns at most.
+    /// Waits until the other was called.
     fn hold(&self, other: &AtomicU64) {
-        for _ in 0..100_000_000u64 {
-            if other.load(Ordering::SeqCst) > 0 {
-                return;
-            }
-            thread::yield_now();
+        if !reaches(other, 1) {
+            self.failures.store(1, Ordering::SeqCst);
         }
-        self.failures.store(1, Ordering::SeqCst);
     }
 
     /// Marks that one was called, and waits until the other was.

@@ -37,16 +37,21 @@ impl Pair {
     }
 }
 
-/// Marks that a call was entered, and waits for the other one of its pair. Whether that one came.
-fn meet(mine: &AtomicU64, other: &AtomicU64) -> bool {
-    mine.store(1, Ordering::SeqCst);
+/// Waits until a count has come so far. Whether it has.
+pub(crate) fn reaches(count: &AtomicU64, least: u64) -> bool {
     for _ in 0..100_000_000u64 {
-        if other.load(Ordering::SeqCst) > 0 {
+        if count.load(Ordering::SeqCst) >= least {
             return true;
         }
         thread::yield_now();
     }
     false
+}
+
+/// Marks that a call was entered, and waits for the other one of its pair. Whether that one came.
+fn meet(mine: &AtomicU64, other: &AtomicU64) -> bool {
+    mine.store(1, Ordering::SeqCst);
+    reaches(other, 1)
 }
 
 impl Gate for Crossed {
@@ -105,17 +110,6 @@ struct FairAtLast {
     one: AtomicU64,
     two: AtomicU64,
     failures: AtomicU64,
-}
-
-/// Waits until a replica has taken so many steps. Whether it has.
-fn reaches(taken: &AtomicU64, least: u64) -> bool {
-    for _ in 0..100_000_000u64 {
-        if taken.load(Ordering::SeqCst) >= least {
-            return true;
-        }
-        thread::yield_now();
-    }
-    false
 }
 
 /// The step after those that a replica takes alone and those in turns.

@@ -1,6 +1,8 @@
 use Rattle.shared_fabric.specs.Gathering.{IsSamePort}
 use Rattle.mu_cluster.specs.Branches.{Drives}
+use Rattle.std.proofs.Common.{length}
 use Rattle.mu_cluster.specs.Idling.{StandsForIdling}
+use Rattle.mu_cluster.specs.Pauses.{IsNextPause}
 use Rattle.mu_cluster.specs.Silences.{StandsForSilences}
 use Rattle.mu_cluster.proofs.branch.drive.Given as goal
 
@@ -11,3 +13,4 @@ invariant-loop g l =
     × IsSamePort l.initial.port l.port
     × StandsForSilences l.port.part l.silences
     × StandsForIdling l.port.id l.port.part l.idling
+    × IsNextPause l.script.pauses l.port.id (length l.port.part) l.next

@@ -4,7 +4,7 @@ use Rattle.mu_outcome.specs.declared.outcome.Outcome.{Outcome}
 use Rattle.mu_cluster.specs.Branches.{AreLeft}
 use Rattle.mu_outcome.specs.Runs.{IsRunOver}
 use Rattle.mu_cluster.proofs.Branching.{one_list}
-use Rattle.mu_cluster.proofs.FairRuns.{applies_if_fair}
+use Rattle.mu_cluster.proofs.FairRuns.{applies_if_fair, eager_left}
 use Rattle.mu_cluster.proofs.Filling.{diligent_of, printed_fit, printed_is, run_over}
 use Rattle.mu_cluster.proofs.leaving.gathered_outcome.Goals as goal
 
@@ -54,6 +54,17 @@ returns-clause-diligent c =
     let o : Outcome = record { job = job; logs = c.from_vec.result; commits = c.from_vec-2.result; replies = c.printed-printed.result; own_replies = c.from_vec-3.result; ends = c.from_vec-4.result; order = None; gathered = Some g } in
     let has : HasParts k one.0 g.parts = subst (λ l. HasParts k one.0 l) c.parts.ensures.parts one.1.1 in
     diligent_of true o one.0 lists has held
+
+pub returns-clause-eager : goal.returns-clause-eager
+returns-clause-eager c =
+    let job = c.args.job in
+    let k = job.config in
+    let lists = c.left_by-lists.result in
+    let g = c.args.gathered in
+    let one = one_list k g (map (λ j. j.events) c.parts.result.now) c.requires.config c.parts.ensures.parts c.parts.ensures.list in
+    let o : Outcome = record { job = job; logs = c.from_vec.result; commits = c.from_vec-2.result; replies = c.printed-printed.result; own_replies = c.from_vec-3.result; ends = c.from_vec-4.result; order = None; gathered = Some g } in
+    let has : HasParts k one.0 g.parts = subst (λ l. HasParts k one.0 l) c.parts.ensures.parts one.1.1 in
+    eager_left o one.0 c.args.nodes.items has c.requires.left
 
 pub returns-clause-applies : goal.returns-clause-applies
 returns-clause-applies c =

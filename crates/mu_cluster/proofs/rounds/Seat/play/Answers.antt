@@ -10,6 +10,7 @@ use Rattle.mu_outcome.specs.Turns.{rounds_paused}
 use Rattle.mu_cluster.proofs.Seats.{ends_here, fewer_left, steps_here}
 use Rattle.mu_cluster.proofs.Ports.{turned}
 use Rattle.mu_cluster.proofs.rounds.Seat.play.Goals as goal
+use Rattle.mu_cluster.specs.Pauses.{IsNextPause}
 
 pub returns-in-Took-clause-plays : goal.returns-in-Took-clause-plays
 returns-in-Took-clause-plays g c kind script rounds same sits =
@@ -21,13 +22,16 @@ returns-in-Took-clause-plays g c kind script rounds same sits =
     let t = turned k old new c.pass_to.new.self c.turn.new.port r c.id-id.result script c.turn.result c.turn.new.self c.pass_to.ensures.replica c.id-id.ensures c.pass_to.ensures.config c.pass_to.ensures.events c.turn.ensures.same.1 c.turn.ensures.same.0 refl
     (record { stands = c.turn.ensures.stands; possible = c.turn.ensures.possible; did = c.turn.ensures.turn script (sym sits.stops) }) in
     let stops = ap (λ v. v.items) c.turn.ensures.stops ∙ sits.stops in
-    let paused : c.rounds_paused.result ≡ rounds_paused script.pauses r (length (part_of r old)) = c.rounds_paused.ensures ∙ (ap (λ p. rounds_paused p c.id-id.result c.steps.result) same
-    ∙ (ap (λ i. rounds_paused script.pauses i c.steps.result) c.id-id.ensures ∙ ap (λ n. rounds_paused script.pauses r n) (c.steps.ensures k r (part_of r old) sits.stands))) in
-    let long : rounds_paused script.pauses r (length (part_of r old)) ≤ before.waited = omega (arith, paused, c.if-self-rounds_paused.false) in
+    let taken = c.steps.ensures k r (part_of r old) sits.stands in
+    let paused = c.rounds_at.ensures script.pauses r (subst (λ n. IsNextPause script.pauses r n before.next) (sym taken) sits.next) ∙ ap (rounds_paused script.pauses r) taken in
+    let long : rounds_paused script.pauses r (length (part_of r old)) ≤ before.waited = omega (arith, paused, c.if-self-rounds_at.false) in
     let did = subst (λ u. IsTurn k script r (part_of r old) (part_of r new) (Some old) (Some new) u) c.in-Took.is t.did in
     let e : Event = record { by = r; verb = did.1.verb; answer = did.1.answer } in
     let list = same_some new (old ++ e ∷ []) did.1.told.list in
-    steps_here k script r old new e before _ rounds sits c.if-self.false long c.if-self.false refl t.stands stops (c.turn.ensures.zeal ∙ sits.zeal) did.0 list refl did.1.part
+    let later = c.steps-in-Took.ensures k r (part_of r new) t.stands in
+    let next = subst (λ n. IsNextPause script.pauses r n c.pause_after-self.result) later
+    (subst (λ p. IsNextPause p r c.steps-in-Took.result c.pause_after-self.result) same (subst (λ i. IsNextPause c.args.pauses.now i c.steps-in-Took.result c.pause_after-self.result) c.id-id.ensures (c.pause_after-self.ensures (length (part_of r old)) (later ∙ (ap length did.1.part ∙ omega arith)) (subst (λ i. IsNextPause c.args.pauses.now i (length (part_of r old)) before.next) (sym c.id-id.ensures) (subst (λ p. IsNextPause p r (length (part_of r old)) before.next) (sym same) sits.next))))) in
+    steps_here k script r old new e before _ rounds sits c.if-self.false long c.if-self.false refl next t.stands stops (c.turn.ensures.zeal ∙ sits.zeal) did.0 list refl did.1.part
 
 pub returns-in-Took-clause-left : goal.returns-in-Took-clause-left
 returns-in-Took-clause-left g c kind script rounds sits =
@@ -39,7 +43,7 @@ returns-in-Took-clause-left g c kind script rounds sits =
     let t = turned k old new c.pass_to.new.self c.turn.new.port r c.id-id.result script c.turn.result c.turn.new.self c.pass_to.ensures.replica c.id-id.ensures c.pass_to.ensures.config c.pass_to.ensures.events c.turn.ensures.same.1 c.turn.ensures.same.0 refl
     (record { stands = c.turn.ensures.stands; possible = c.turn.ensures.possible; did = c.turn.ensures.turn script (sym sits.stops) }) in
     let one = ap one_if_going c.if-self.false in
-    let after : Seat = record { node = c.turn.new.self; waited = 0; ended = before.ended } in
+    let after : Seat = record { node = c.turn.new.self; waited = 0; ended = before.ended; next = c.pause_after-self.result } in
     let did = subst (λ u. IsTurn k script r (part_of r old) (part_of r new) (Some old) (Some new) u) c.in-Took.is t.did in
     let more : length (part_of r new) ≡ length (part_of r old) + 1 = ap length did.1.part ∙ omega arith in
     let within = steps_within k r (part_of r new) t.possible in
@@ -59,6 +63,6 @@ returns-in-Ended-clause-plays g c kind script rounds same sits =
     let did = subst (λ u. IsTurn k script r (part_of r old) (part_of r new) (Some old) (Some new) u) c.in-Ended.is t.did in
     let list : new ≡ old = same_some new old did.2 in
     let stands = subst (λ l. StandsForNode k r (part_of r l) c.turn.new.self) list t.stands in
-    let after : Seat = record { node = c.turn.new.self; waited = before.waited; ended = true } in
+    let after : Seat = record { node = c.turn.new.self; waited = before.waited; ended = true; next = before.next } in
     subst (λ l. Plays kind k script r old l before after rounds) (sym list)
-    (ends_here k script r old before after rounds _ sits c.if-self.false refl refl stands stops (c.turn.ensures.zeal ∙ sits.zeal) did.0)
+    (ends_here k script r old before after rounds _ sits c.if-self.false refl refl refl stands stops (c.turn.ensures.zeal ∙ sits.zeal) did.0)
