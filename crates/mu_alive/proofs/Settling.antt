@@ -9,9 +9,10 @@ use Rattle.mu_model.specs.declared.event.Verb.{Verb}
 use Rattle.mu_model.specs.Diligence.{AsksWithCauseBy, GrantsInTime, ReadsInTime}
 use Rattle.mu_model.specs.Histories.{newest, or_zero, part}
 use Rattle.mu_model.specs.Legal.{IsLegalHistory}
-use Rattle.mu_model.specs.Scores.{beat_read, is_failed, leader, least_below, score, score_after_read}
+use Rattle.mu_model.specs.Scores.{beat_read, is_failed, leader, score, score_after_read}
 use Rattle.mu_model.specs.Steps.{is_asking_verb}
 use Rattle.mu_model.proofs.Basics.{same_number}
+use Rattle.mu_model.proofs.Least.{least_found, least_none}
 use Rattle.mu_model.proofs.Owned.{IsOwn, newest-part}
 use Rattle.mu_model.proofs.Parts.{filter-append}
 use Rattle.mu_agree.proofs.Legal.{legal_older}
@@ -79,20 +80,10 @@ score-part r q (e ∷ past) = go (e.by == r) refl (score-part r q past)
         ∙ ap (λ o. score_after_read (score r q past) (or_zero o) (beat_read r q e.by e.verb e.answer)) last
     go false other ih = ih ∙ sym (ap (λ o. score_after_read (score r q past) (or_zero (newest (λ f. beat_read r q f.by f.verb f.answer) past)) o) ((beat_read-own r q).own e other))
 
--- the least that passes
-pub least_none : (n : ℕ) (test : ℕ → Bool) → ((q : ℕ) → q < n → test q ≡ false) → least_below n test ≡ n
-least_none zero test fails = refl
-least_none (suc n) test fails = rw (eq-eqb (least_below n test) n (least_none n test (λ q low. fails q (omega (arith, low)))), fails n (omega arith)) (omega arith)
-
-least_is : (n a : ℕ) (test : ℕ → Bool) → a < n → ((q : ℕ) → q < a → test q ≡ false) → test a ≡ true → least_below n test ≡ a
-least_is zero a test low fails passes = absurd (omega (arith, low))
-least_is (suc n) a test low fails passes = elim (cases_eq a n) [
-  | inl same ↦ rw (eq-eqb (least_below n test) n (least_none n test (λ q l. fails q (omega (arith, same, l)))), subst (λ x. test x ≡ true) same passes) (sym same)
-  | inr other ↦ (let ih = least_is n a test (omega (arith, low, other)) fails passes in rw (ne_eqb (least_below n test) n (λ is. omega (arith, is, ih, other))) ih)
-]
-
 pub least_named : LeastIsNamed
-least_named c live a r newer older on low lives long = least_is c.replicas a (λ q. (q == r) || not (is_failed r q (part r (newer ++ older)))) on.inside lower own
+least_named c live a r newer older on low lives long =
+    let named : ℕ → Bool = λ q. (q == r) || not (is_failed r q (part r (newer ++ older))) in
+    least_found named c.replicas a (least_none a named lower) own on.inside
   where
     of_part : (q : ℕ) → is_failed r q (part r (newer ++ older)) ≡ is_failed r q (newer ++ older)
     of_part q = ap (λ s. not s.1) (score-part r q (newer ++ older))

@@ -23,10 +23,10 @@ use Rattle.mu_model.specs.Scores.{alive_after, beat_read, leader, next_score, po
 use Rattle.mu_model.specs.Steps.{is_asking, is_asking_verb, is_beat_read, is_named}
 use Rattle.mu_model.specs.Stretches.{is_replication}
 use Rattle.mu_model.proofs.Basics.{same_number, same_some}
+use Rattle.mu_model.proofs.Least.{least_found, least_none}
 use Rattle.mu_model.proofs.Lists.{item_below}
 use Rattle.mu_model.proofs.Parts.{history-part}
 use Rattle.mu_detect.proofs.Leaders.{failed_follows, may_lead, own_leads}
-use Rattle.mu_model.proofs.Least.{least_found}
 use Rattle.mu_detect.specs.Stands.{last_count}
 use Rattle.mu_grant.specs.Pace.{InCycleOrder}
 use Rattle.mu_node.specs.Due.{is_eager}
@@ -40,7 +40,7 @@ use Rattle.mu_pace.proofs.Counting.{last_moment, moments_before, steps_before}
 use Rattle.mu_alive.specs.Turns.{AreInTurn, is_own_min}
 use Rattle.mu_alive.proofs.Beginning.{begins_now, cause_is}
 use Rattle.mu_alive.proofs.Cutting.{Located, located, met}
-use Rattle.mu_alive.proofs.Settling.{score-part, least_none}
+use Rattle.mu_alive.proofs.Settling.{score-part}
 use Rattle.mu_alive.proofs.Failing.{beat_verb, quiet_beats, quiet_last}
 use Rattle.mu_alive.proofs.TurnFences.{lead_on_moments, turns_lead_on}
 use Rattle.mu_alive.proofs.Turns.{begun-part, min_begun, min_leads}
