@@ -1,5 +1,5 @@
--- stays alive: a replay has every command, and each replica that isn't stopped finishes, by numbers of
--- steps of its job alone, if the budget is enough for them.
+-- stays alive: a replay has every command, and each replica that isn't stopped finishes, by numbers
+-- of steps of its job alone, if the budget is enough for them.
 use Rattle.mu_outcome.specs.declared.outcome.Outcome.{Outcome}
 use Rattle.mu_cluster.specs.Committing.{CommitsByThen}
 use Rattle.mu_cluster.specs.Finishing.{FinishesByThen}

@@ -1,5 +1,5 @@
--- was stopped, goes on with: a line of the script stopped the replica, by its end; the least replica of
--- a majority that no line stopped.
+-- was stopped, goes on with: a line of the script stopped the replica, by its end; the least replica
+-- of a majority that no line stopped.
 use Rattle.std.specs.Prelude.{Bool, Some, false, not, true, ℕ, ◌<◌, ◌≡◌, ◌≤◌}
 use Rattle.std.specs.declared.option.Option.{Option}
 use Rattle.std.specs.List.{slice_get}

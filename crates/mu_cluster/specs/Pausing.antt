@@ -1,5 +1,5 @@
--- pauses by, none outrun in a large ring: each pause of a script begins after so many steps at most; no
--- replica of a replay in a large ring was outrun.
+-- pauses by, none outrun in a large ring: each pause of a script begins after so many steps at most;
+-- no replica of a replay in a large ring was outrun.
 use Rattle.std.specs.Prelude.{List, Some, [], ℕ, ◌<◌, ◌∷◌, ◌≡◌, ◌≤◌}
 use Rattle.std.specs.List.{slice_get}
 use Rattle.mu_model.specs.declared.script.End.{End}
