@@ -35,4 +35,5 @@ pub mod Fitting
 pub mod Reserve
 pub mod Windows
 mod Journals
+pub mod Growing
 pub mod Within

@@ -1,4 +1,5 @@
 pub mod Agreement
+pub mod Growing
 pub mod Journals
 pub mod Laws
 pub mod Paces

@@ -3,6 +3,7 @@
 #![tactic(auto)]
 
 ghost use Rattle.mu_agree.specs.Agreement.{AtMostOneChosen, FuoIsChosen, FuoIsKept, HeadWithinFuo, KnownAgree, KnownIsChosen, LogWithinFuo, LogWithinReach, LooksAreKept, MarksHaveCause, PlacesAreKept};
+ghost use Rattle.mu_agree.specs.Growing.{AnswersStay, AppliedStays, CommitsStay, KnownStays, LaterRowsFollow, LegalStays};
 ghost use Rattle.mu_agree.specs.Journals.{BeginningsAreDiligent, ObeysOnce};
 ghost use Rattle.mu_agree.specs.Laws.{MinimumRises, MissesShutOut, NumbersDiffer, OnlyOwnersPut, SlotNumbersRise};
 ghost use Rattle.mu_agree.specs.Paces.{RecentAsksAreInTime, RecentReadsAreInTime};
@@ -245,4 +246,34 @@ pub fn recent_reads_are_in_time()
 /// A replica that has asked recently at each moment asks in time in each stretch.
 pub fn recent_asks_are_in_time()
     ensures { RecentAsksAreInTime }
+{}
+
+/// A step finds what it found before rows were added.
+pub fn answers_stay()
+    ensures { AnswersStay }
+{}
+
+/// What a replica knows stays the same if rows are added.
+pub fn known_stays()
+    ensures { KnownStays }
+{}
+
+/// What a replica committed stays the same if rows are added.
+pub fn commits_stay()
+    ensures { CommitsStay }
+{}
+
+/// A legal list stays legal if rows are added.
+pub fn legal_stays()
+    ensures { LegalStays }
+{}
+
+/// A batch of a row that was added after some replica knew an entry stands behind that entry.
+pub fn later_rows_follow()
+    ensures { LaterRowsFollow }
+{}
+
+/// What a possible part has applied stays the same if rows are added.
+pub fn applied_stays()
+    ensures { AppliedStays }
 {}
