@@ -1,8 +1,8 @@
 //! Tables that grow by the places of one row.
 ghost use Rattle.std.specs.Prelude.{false, length, replicate, take, vec_capacity, ◌*◌, ◌++◌, ◌+◌, ◌≡◌, ◌≤◌};
 
-/// Cuts the marks to those of the first `rows` rows, each of which has `each`, and adds those of one
-/// row more, none of them set. Takes no memory.
+/// Cuts the marks to those of the first `rows` rows, each of which has `each`, and adds those of
+/// one row more, none of them set. Takes no memory.
 pub(crate) fn add_marks(marks: &mut Vec<bool>, rows: usize, each: usize)
     ensures { rows ≤ 1500 → each ≤ 84 → rows * each ≤ length marks.old.items
         → rows * each + each ≤ vec_capacity marks.old
