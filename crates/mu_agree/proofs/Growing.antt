@@ -343,10 +343,10 @@ free_stands : (c : Config) (r v : ℕ) (mine : List Event) → (is_offer c r min
 free_stands c r v mine k = elim (or_cases (is_offer c r mine v) (is_mark_offer c r mine v) k) [
   | inl m ↦ inl (and_parts (is_batch c v) ((v / 4096 == r) && (wrote_batch c r (v % 4096) mine && (number_of c (v % 4096) == command_count c (client_of c (v % 4096)) (known c r mine) + 1))) m).0
   | inr m ↦ (let test : (ℕ → Bool) = λ q. not (is_mark c q v && (not (q == r) && (not (marked c q (known c r mine)) && is_mark_candidate c r q (length (known c r mine) + reserve c) mine))) in
-    let x = and_parts (v / 4096 == r) (not (all_below c.replicas test)) m in
-    let f = some_fails c.replicas test (not-true (all_below c.replicas test) x.1) in
-    let whole = not-false (is_mark c f.who v && (not (f.who == r) && (not (marked c f.who (known c r mine)) && is_mark_candidate c r f.who (length (known c r mine) + reserve c) mine))) f.fails in
-    inr (f.who, (and_parts (is_mark c f.who v) (not (f.who == r) && (not (marked c f.who (known c r mine)) && is_mark_candidate c r f.who (length (known c r mine) + reserve c) mine)) whole).0))
+      let x = and_parts (v / 4096 == r) (not (all_below c.replicas test)) m in
+      let f = some_fails c.replicas test (not-true (all_below c.replicas test) x.1) in
+      let whole = not-false (is_mark c f.who v && (not (f.who == r) && (not (marked c f.who (known c r mine)) && is_mark_candidate c r f.who (length (known c r mine) + reserve c) mine))) f.fails in
+      inr (f.who, (and_parts (is_mark c f.who v) (not (f.who == r) && (not (marked c f.who (known c r mine)) && is_mark_candidate c r f.who (length (known c r mine) + reserve c) mine)) whole).0))
 ]
 
 is_none_none : (o : Option (ℕ × ℕ)) → is_none o ≡ true → o ≡ None
@@ -371,8 +371,8 @@ new_more c more r i v past g h s stands n = record {
   next = n.next ∙ ap length (sym (known_kept c more r past));
   room = room_kept c more r past i 0 ∙ n.room;
   reserve_kept = λ fresh.
-  let x = and_parts (is_batch (with_more c more) v) (is_none (highest_accepted r i past c.replicas)) fresh in
-  room_kept c more r past i (reserve c) ∙ n.reserve_kept (and_from (is_batch c v) (is_none (highest_accepted r i past c.replicas)) (sym (entry_kept c more v g h (stands x.1)) ∙ x.0) x.1);
+      let x = and_parts (is_batch (with_more c more) v) (is_none (highest_accepted r i past c.replicas)) fresh in
+      room_kept c more r past i (reserve c) ∙ n.reserve_kept (and_from (is_batch c v) (is_none (highest_accepted r i past c.replicas)) (sym (entry_kept c more v g h (stands x.1)) ∙ x.0) x.1);
   none_past = n.none_past;
   value = same (first_value r i past) ∙ n.value;
 }

@@ -1,3 +1,5 @@
+mod Adding
+mod Widening
 pub mod Fetched
 pub mod Filled
 pub mod Firsts

@@ -1,6 +1,6 @@
 -- stands for (filled log): the state of which positions of the log of a region are known to be
 -- filled stands for the events of r.
-use Rattle.std.specs.Prelude.{Bool, List, None, Some, false, if◌then◌else◌, length, nat_lt, true, ℕ, ◌&&◌, ◌+◌, ◌<◌, ◌==◌, ◌||◌, ◌≡◌}
+use Rattle.std.specs.Prelude.{Bool, List, None, Some, false, if◌then◌else◌, length, nat_lt, true, vec_capacity, ℕ, ◌&&◌, ◌+◌, ◌<◌, ◌==◌, ◌||◌, ◌≡◌}
 use Rattle.std.specs.declared.option.Option.{Option}
 use Rattle.std.specs.List.{slice_get}
 use Rattle.mu_model.specs.declared.config.Config.{Config}
@@ -49,6 +49,10 @@ pub record StandsForFilledLog (c : Config) (r p : ℕ) (mine : List Event)
       (j : ℕ)
       → is_filled c r p mine j ≡ (nat_lt j log.filled_to || is_set (slice_get log.filled.items j))
   pub next : is_set (slice_get log.filled.items log.filled_to) ≡ false
+
+-- there is room for one position more
+abbrev pub HasRoomForPosition : FilledLog → Type 0
+HasRoomForPosition log = length log.filled.items < vec_capacity log.filled
 
 -- the positions of region p below n are known to be filled, and n is not
 pub record IsFilledTo (c : Config) (r p : ℕ) (mine : List Event) (n : ℕ) : Type 0 where

@@ -1,5 +1,5 @@
 -- stands for (held rows): the state of the rows that replica r wrote or read stands for its events.
-use Rattle.std.specs.Prelude.{Bool, List, None, Some, false, length, true, ℕ, ◌%◌, ◌*◌, ◌+◌, ◌/◌, ◌<◌, ◌≡◌}
+use Rattle.std.specs.Prelude.{Bool, List, None, Some, false, length, true, vec_capacity, ℕ, ◌%◌, ◌*◌, ◌+◌, ◌/◌, ◌<◌, ◌≡◌, ◌≤◌}
 use Rattle.std.specs.declared.option.Option.{Option}
 use Rattle.std.specs.List.{slice_get}
 use Rattle.mu_model.specs.declared.config.Config.{Config}
@@ -34,6 +34,11 @@ pub record StandsForHeldRows (c : Config) (r : ℕ) (mine : List Event)
   pub written : WroteWords c r mine state.written.items
   pub got : HasWords c r mine state.got.items
   pub applied : state.applied ≡ length (applied c r mine)
+
+-- there is room for the words of one row more
+pub record HasRoomForMarks (c : Config) (state : HeldRows) : Type 0 where
+  pub written : row_count c * 12 + 12 ≤ vec_capacity state.written
+  pub got : row_count c * 84 + 84 ≤ vec_capacity state.got
 
 -- the row and the word that the verb writes or reads are there
 abbrev pub IsOfRows : Config → Verb → Type 0

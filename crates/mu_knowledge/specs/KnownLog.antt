@@ -59,6 +59,12 @@ pub record StandsForKnownLog (c : Config) (r : ℕ) (mine : List Event)
   pub positions : length state.seen.items ≡ row_count c + reserve c + 1
   pub seen : SeesEntries r mine state.seen.items
 
+-- there is room for one row more, and for its position
+pub record HasRoomForRow (c : Config) (state : KnownLog) : Type 0 where
+  pub rows : row_count c < vec_capacity state.rows.rows
+  pub values : row_count c + reserve c + 1 < vec_capacity state.values
+  pub seen : row_count c + reserve c + 1 < vec_capacity state.seen
+
 -- the region and the position that a look or a put names are there
 abbrev pub IsPlaced : Config → Verb → Type 0
 IsPlaced c (Verb.Look p i) = (p < 7) × (i ≤ row_count c + reserve c)

@@ -1,13 +1,15 @@
 //! Which positions of one log are known to be filled.
 ghost use Rattle.std.specs.List.{slice_get};
 ghost use Rattle.std.specs.Prelude.{IfOk, List, None, Some, [], false, length, nat_lt, ℕ, ◌<◌, ◌||◌, ◌∷◌, ◌≡◌, ◌≤◌, true, ◌&&◌, ◌==◌};
+ghost use Rattle.mu_agree.specs.Growing.{with_more};
 ghost use Rattle.mu_model.specs.declared.config.Config.{Config};
+ghost use Rattle.mu_model.specs.declared.config.Row.{Row as SomeRow};
 ghost use Rattle.mu_model.specs.declared.event.Event.{Event};
 ghost use Rattle.mu_model.specs.Contents.{row_count};
 ghost use Rattle.mu_model.specs.Histories.{all_below, max_with};
 ghost use Rattle.mu_model.specs.Knowledge.{fuo_read, is_filled};
 ghost use Rattle.mu_model.specs.Parts.{IsPossible};
-ghost use Rattle.mu_knowledge.specs.FilledLog.{IsFilledTo, StandsForFilledLog, filled_spot, is_at};
+ghost use Rattle.mu_knowledge.specs.FilledLog.{HasRoomForPosition, IsFilledTo, StandsForFilledLog, filled_spot, is_at};
 ghost use Rattle.mu_knowledge.specs.KnownLog.{is_set};
 
 use mu_model::{Answer, Config, Event, NoMemory, Verb, positions_in};
@@ -72,6 +74,26 @@ pub fn fuo_in(r: u8, p: u8, event: &Event) -> Option<u64>
 }
 
 impl FilledLog {
+    /// Makes room for one position more. Takes memory.
+    pub fn make_room(&mut self) -> Result<(), NoMemory>
+        ensures keeps { (c : Config) → (r p : ℕ) → (mine : List Event)
+            → StandsForFilledLog c r p mine self.old → StandsForFilledLog c r p mine self.new }
+        ensures room { IfOk result (λ done. HasRoomForPosition self.new) }
+    {
+        self.filled.reserve(1)
+    }
+
+    /// Takes the position of one row more, which is not filled, if there is room. Takes no memory.
+    pub fn add_last(&mut self)
+        ensures { (c : Config) → (row : SomeRow) → (r p : ℕ) → (mine : List Event)
+            → HasRoomForPosition self.old → StandsForFilledLog c r p mine self.old
+            → StandsForFilledLog (with_more c (row ∷ [])) r p mine self.new }
+    {
+        if self.filled.len() < self.filled.capacity() {
+            self.filled.push_reserved(false);
+        }
+    }
+
     /// A log with no position filled yet. Takes memory for all positions.
     pub fn new(alloc: Global, config: &Config) -> Result<FilledLog, NoMemory>
         requires { row_count config.now ≤ 1500 }

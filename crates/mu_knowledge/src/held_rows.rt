@@ -1,14 +1,17 @@
 //! Which rows a replica has written or read, and what it has applied.
 ghost use Rattle.std.specs.Prelude.{IfOk, List, Some, [], length, replicate, ℕ, Bool, ◌%◌, ◌&&◌, ◌*◌, ◌+◌, ◌/◌, ◌<◌, ◌==◌, ◌||◌, ◌∷◌, ◌≡◌, ◌≤◌, false};
+ghost use Rattle.mu_agree.specs.Growing.{with_more};
 ghost use Rattle.mu_model.specs.declared.config.Config.{Config};
+ghost use Rattle.mu_model.specs.declared.config.Row.{Row as SomeRow};
 ghost use Rattle.mu_model.specs.declared.event.Event.{Event};
 ghost use Rattle.mu_model.specs.declared.event.Verb.{Verb};
 ghost use Rattle.mu_model.specs.Contents.{IsConfig, row_count};
 ghost use Rattle.mu_model.specs.Histories.{all_below};
 ghost use Rattle.mu_model.specs.Knowledge.{applied, fetched_prefix, has_entry, has_row, has_word, known, wrote, wrote_batch};
 ghost use Rattle.mu_model.specs.Parts.{IsPossible};
-ghost use Rattle.mu_knowledge.specs.HeldRows.{AreThere, HasWords, StandsForHeldRows, IsOfRows, WroteWords, is_of_row, row_named, word_place};
+ghost use Rattle.mu_knowledge.specs.HeldRows.{AreThere, HasRoomForMarks, HasWords, StandsForHeldRows, IsOfRows, WroteWords, is_of_row, row_named, word_place};
 
+use crate::tables::add_marks;
 use mu_model::{Config, Event, NoMemory, PAYLOADS, Verb, row_rest, stands_for_batch};
 use std::alloc::Global;
 
@@ -86,6 +89,30 @@ impl HeldRows {
             got: none_there(alloc, config)?,
             applied: 0,
         })
+    }
+
+    /// Makes room for the words of one row more. Takes memory.
+    pub fn make_room(&mut self) -> Result<(), NoMemory>
+        ensures keeps { (c : Config) → (r : ℕ) → (mine : List Event)
+            → StandsForHeldRows c r mine self.old → StandsForHeldRows c r mine self.new }
+        ensures room { IfOk result (λ done. (c : Config) → (r : ℕ) → (mine : List Event)
+            → IsConfig c → StandsForHeldRows c r mine self.old → HasRoomForMarks c self.new) }
+    {
+        self.written.reserve(12)?;
+        self.got.reserve(84)?;
+        Ok(())
+    }
+
+    /// Takes the last row of the configuration, which came after all others. Takes no memory.
+    pub fn add_last(&mut self, config: &Config)
+        ensures { (c : Config) → (row : SomeRow) → (r : ℕ) → (mine : List Event) → IsConfig c
+            → IsConfig config.now → config.now ≡ with_more c (row ∷ []) → IsPossible c r mine
+            → HasRoomForMarks c self.old → StandsForHeldRows c r mine self.old
+            → StandsForHeldRows config.now r mine self.new }
+    {
+        let rows = config.rows.len().saturating_sub(1);
+        add_marks(&mut self.written, rows, 12);
+        add_marks(&mut self.got, rows, 84);
     }
 
     /// Whether the replica has word `k` of the row of `v`.

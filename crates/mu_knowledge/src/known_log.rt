@@ -1,6 +1,8 @@
 //! What a replica has learnt.
 ghost use Rattle.std.specs.List.{slice_get};
-ghost use Rattle.std.specs.Prelude.{IfOk, None, if◌then◌else◌, List, Some, [], length, replicate, vec_capacity, ℕ, ◌%◌, ◌++◌, ◌+◌, ◌<◌, ◌==◌, ◌||◌, ◌∷◌, ◌≡◌, ◌≤◌, take};
+ghost use Rattle.mu_agree.specs.Growing.{with_more};
+ghost use Rattle.mu_model.specs.declared.config.Row.{Row as SomeRow};
+ghost use Rattle.std.specs.Prelude.{false, IfOk, None, if◌then◌else◌, List, Some, [], length, replicate, vec_capacity, ℕ, ◌%◌, ◌++◌, ◌+◌, ◌<◌, ◌==◌, ◌||◌, ◌∷◌, ◌≡◌, ◌≤◌, take};
 ghost use Rattle.mu_model.specs.declared.config.Config.{Config};
 ghost use Rattle.mu_model.specs.declared.event.Event.{Event};
 ghost use Rattle.mu_model.specs.Contents.{IsConfig, client_of, command_count, marked, row_count, rows_in, rows_of};
@@ -9,7 +11,7 @@ ghost use Rattle.mu_model.specs.Knowledge.{entry_seen, greatest_fuo_read, grown,
 ghost use Rattle.mu_model.specs.Parts.{IsPossible};
 ghost use Rattle.mu_model.specs.Room.{reserve};
 ghost use Rattle.mu_knowledge.specs.Offers.{IsNextRow, NamesRow, batch_of, clients_below};
-ghost use Rattle.mu_knowledge.specs.KnownLog.{CountsCommands, StandsForKnownLog, HoldsValues, IsPlaced, MarksReplicas, ReadsFuos, SeesEntries, TellsAccepted, is_telling};
+ghost use Rattle.mu_knowledge.specs.KnownLog.{CountsCommands, HasRoomForRow, StandsForKnownLog, HoldsValues, IsPlaced, MarksReplicas, ReadsFuos, SeesEntries, TellsAccepted, is_telling};
 
 use crate::client_rows::ClientRows;
 use mu_model::{
@@ -117,6 +119,27 @@ fn push_value(values: &mut Vec<u16>, v: u16)
     }
 }
 
+/// Makes room for so many values in all. Takes memory.
+fn make_room_to(values: &mut Vec<u16>, most: usize) -> Result<(), NoMemory>
+    ensures items { values.new.items ≡ values.old.items }
+    ensures grows { vec_capacity values.old ≤ vec_capacity values.new }
+    ensures room { IfOk result (λ done. most ≤ vec_capacity values.new) }
+{
+    let more = most.saturating_sub(values.len());
+    values.reserve(more)
+}
+
+/// Adds a position that was not seen, if there is room. Takes no memory.
+fn push_unseen(seen: &mut Vec<bool>)
+    ensures items { length seen.old.items < vec_capacity seen.old
+        → seen.new.items ≡ seen.old.items ++ false ∷ [] }
+    ensures room { vec_capacity seen.new ≡ vec_capacity seen.old }
+{
+    if seen.len() < seen.capacity() {
+        seen.push_reserved(false);
+    }
+}
+
 /// Whether the verb may make a value known, or tell what is decided.
 fn is_telling(verb: &Verb) -> bool
     ensures { result ≡ is_telling verb.now }
@@ -194,6 +217,31 @@ impl KnownLog {
             fuos: [0; 7],
             seen: vec![in alloc; false; positions]?,
         })
+    }
+
+    /// Makes room for one row more, and for its position. Takes memory.
+    pub fn make_room(&mut self, config: &Config) -> Result<(), NoMemory>
+        requires few { row_count config.now ≤ 1500 }
+        ensures keeps { (r : ℕ) → (mine : List Event) → StandsForKnownLog config.now r mine self.old
+            → StandsForKnownLog config.now r mine self.new }
+        ensures room { IfOk result (λ done. (r : ℕ) → (mine : List Event)
+            → StandsForKnownLog config.now r mine self.old → HasRoomForRow config.now self.new) }
+    {
+        self.rows.make_room()?;
+        make_room_to(&mut self.values, positions_in(config).saturating_add(1))?;
+        self.seen.reserve(1)?;
+        Ok(())
+    }
+
+    /// Takes the last row of the configuration, which came after all others. Takes no memory.
+    pub fn add_last(&mut self, config: &Config)
+        ensures { (c : Config) → (row : SomeRow) → (r : ℕ) → (mine : List Event) → IsConfig c
+            → IsConfig config.now → config.now ≡ with_more c (row ∷ []) → IsPossible c r mine
+            → HasRoomForRow c self.old → StandsForKnownLog c r mine self.old
+            → StandsForKnownLog config.now r mine self.new }
+    {
+        self.rows.add_last(config);
+        push_unseen(&mut self.seen);
     }
 
     /// Whether the replica `r` saw an entry at position `i` of its own region.

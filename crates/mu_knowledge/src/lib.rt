@@ -12,6 +12,7 @@ mod filled_log;
 mod held_rows;
 mod known_log;
 mod row_words;
+mod tables;
 
 pub use commit::{Commit, Commits, Log};
 pub use filled_log::{FilledLog, fuo_in, raised};

@@ -1,6 +1,9 @@
 //! The words that a replica has of the rows of a job.
-ghost use Rattle.std.specs.Prelude.{IfOk, if◌then◌else◌, List, [], replicate, ℕ, ◌&&◌, ◌*◌, ◌<◌, ◌==◌, ◌∷◌, ◌≡◌};
+ghost use Rattle.std.specs.Prelude.{IfOk, if◌then◌else◌, List, [], replicate, vec_capacity, ℕ, ◌&&◌, ◌*◌, ◌+◌, ◌<◌, ◌==◌, ◌∷◌, ◌≡◌, ◌≤◌};
+ghost use Rattle.mu_agree.specs.Growing.{with_more};
 ghost use Rattle.mu_model.specs.declared.config.Config.{Config};
+ghost use Rattle.mu_model.specs.declared.config.Row.{Row as SomeRow};
+ghost use Rattle.mu_model.specs.Parts.{IsPossible};
 ghost use Rattle.mu_model.specs.declared.event.Answer.{Answer};
 ghost use Rattle.mu_model.specs.declared.event.Event.{Event};
 ghost use Rattle.mu_model.specs.declared.event.Verb.{Verb};
@@ -8,6 +11,7 @@ ghost use Rattle.mu_model.specs.Contents.{IsConfig, row_count};
 ghost use Rattle.mu_knowledge.specs.HeldRows.{IsOfRows};
 ghost use Rattle.mu_knowledge.specs.RowWords.{HoldWords, StandsForRowWords, word_held, words_held};
 
+use crate::tables::add_words;
 use mu_model::{Config, NoMemory, PAYLOADS, Row};
 use std::alloc::Global;
 
@@ -48,6 +52,28 @@ impl RowWords {
         Ok(RowWords {
             words: no_words(alloc, config)?,
         })
+    }
+
+    /// Makes room for the words of one row more. Takes memory.
+    pub fn make_room(&mut self) -> Result<(), NoMemory>
+        ensures keeps { (c : Config) → (r : ℕ) → (mine : List Event)
+            → StandsForRowWords c r mine self.old → StandsForRowWords c r mine self.new }
+        ensures room { IfOk result (λ done. (c : Config) → (r : ℕ) → (mine : List Event)
+            → StandsForRowWords c r mine self.old
+            → row_count c * 12 + 12 ≤ vec_capacity self.new.words) }
+    {
+        self.words.reserve(12)
+    }
+
+    /// Takes the last row of the configuration, which came after all others. Takes no memory.
+    pub fn add_last(&mut self, config: &Config)
+        ensures { (c : Config) → (row : SomeRow) → (r : ℕ) → (mine : List Event)
+            → IsConfig config.now → config.now ≡ with_more c (row ∷ []) → IsPossible c r mine
+            → row_count c * 12 + 12 ≤ vec_capacity self.old.words
+            → StandsForRowWords c r mine self.old → StandsForRowWords config.now r mine self.new }
+    {
+        let rows = config.rows.len().saturating_sub(1);
+        add_words(&mut self.words, rows, 12);
     }
 
     /// Takes the next event of a replica, if that writes this word of this row of its own. Takes no

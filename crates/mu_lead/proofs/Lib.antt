@@ -17,6 +17,7 @@ mod FuosBeside
 mod Gathering
 mod Firsts
 mod Going
+mod Growing
 mod Held
 mod Joins
 mod Keeping

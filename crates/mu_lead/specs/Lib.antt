@@ -8,6 +8,7 @@ pub mod Elections
 pub mod Evidence
 pub mod Gathering
 pub mod Going
+pub mod Growing
 pub mod Journal
 pub mod Lasting
 pub mod Leading

@@ -1,8 +1,11 @@
 //! The leader, at its place in the listing.
-ghost use Rattle.std.specs.Prelude.{IfOk, IfSome, List, None, Some, [], false, get_or, if◌then◌else◌, length, nat_lt, not, ℕ, ◌%◌, ◌&&◌, ◌<◌, ◌==◌, ◌||◌, ◌∷◌, ◌≡◌, ◌≤◌, ◌⊎◌};
+ghost use Rattle.std.specs.Prelude.{vec_capacity, ◌++◌, IfOk, IfSome, List, None, Some, [], false, get_or, if◌then◌else◌, length, nat_lt, not, ℕ, ◌%◌, ◌&&◌, ◌<◌, ◌==◌, ◌||◌, ◌∷◌, ◌≡◌, ◌≤◌, ◌⊎◌};
 ghost use Rattle.mu_model.specs.declared.event.Event.{Event};
 ghost use Rattle.mu_model.specs.declared.event.Target.{Target as SomeTarget};
 ghost use Rattle.mu_model.specs.declared.event.Verb.{Verb as SomeVerb};
+ghost use Rattle.mu_model.specs.declared.config.Row.{Row as SomeRow};
+ghost use Rattle.mu_agree.specs.Growing.{with_more};
+ghost use Rattle.mu_lead.specs.Growing.{rests};
 ghost use Rattle.mu_model.specs.Allowed.{Allowed};
 ghost use Rattle.mu_model.specs.Contents.{IsConfig, IsInSession, config_word, holds_all};
 ghost use Rattle.mu_model.specs.Knowledge.{known as known_of};
@@ -100,6 +103,26 @@ impl Lead {
             heads: [0; 7],
             written: vec![in alloc; 0; count_of_rows(config)]?,
         })
+    }
+
+    /// Goes over to a configuration with one row more at the end. A leader at rest goes on with it.
+    pub fn add_last(&mut self, config: Config, known: &[u16], log: &KnownLog)
+        ghost mine: { List Event }
+        requires stands { StandsFor mine self.old }
+        requires possible { IsPossible self.old.config self.old.id mine }
+        requires known { known.now ≡ known_of self.old.config self.old.id mine }
+        requires good { IsConfig config }
+        requires room { length self.old.written.items < vec_capacity self.old.written }
+        ensures stands { (row : SomeRow) → config ≡ with_more self.old.config (row ∷ [])
+            → HoldsValues config known.now log.now → StandsFor mine self.new }
+        ensures config { self.new.config ≡ config }
+        ensures id { self.new.id ≡ self.old.id }
+    {
+        self.config = config;
+        push_unwritten(&mut self.written);
+        if is_resting(self.place) {
+            self.place = self.late_from(0, known, log);
+        }
     }
 
     /// Tells the leader which leader the scores name, and which replicas they say are failed: bit q
@@ -378,6 +401,27 @@ impl Lead {
         self.under_way = goes_on(begins(self.place, self.under_way), note);
         self.place = next;
         note
+    }
+}
+
+/// Adds a row of which no word is written, if there is room. Takes no memory.
+fn push_unwritten(written: &mut Vec<u8>)
+    ensures items { length written.old.items < vec_capacity written.old
+        → written.new.items ≡ written.old.items ++ 0 ∷ [] }
+    ensures room { vec_capacity written.new ≡ vec_capacity written.old }
+{
+    if written.len() < written.capacity() {
+        written.push_reserved(0);
+    }
+}
+
+/// Whether the place is that of rest.
+fn is_resting(place: Place) -> bool
+    ensures { result ≡ rests place }
+{
+    match place {
+        Place::Rest => true,
+        _ => false,
     }
 }
 

@@ -7,6 +7,7 @@ ghost use Rattle.mu_lead.specs.Causes.{LeadersAskWithCause};
 ghost use Rattle.mu_lead.specs.Confirmations.{MinimaComeInTime};
 ghost use Rattle.mu_lead.specs.Elections.{ElectionsComeInTime};
 ghost use Rattle.mu_lead.specs.Evidence.{EvidenceComesInTime};
+ghost use Rattle.mu_lead.specs.Growing.{PlacesStay};
 ghost use Rattle.mu_lead.specs.Raising.{RaisesComeInTime};
 ghost use Rattle.mu_lead.specs.Resigning.{BeatsKeepCounts, CountsAreInTime};
 ghost use Rattle.mu_lead.specs.Rooms.{OthersKeepRooms, RoomsAreInTime};
@@ -99,4 +100,9 @@ pub fn leaders_ask_again()
 /// region under its number.
 pub fn asks_are_apart()
     ensures { AsksAreApart }
+{}
+
+/// What holds at a place but rest holds when rows are added.
+pub fn places_stay()
+    ensures { PlacesStay }
 {}

@@ -53,7 +53,8 @@ impl Node {
         requires stands { LivesForNode self.old.follow.config self.old.id mine self.old }
         requires named { is_named self.old.follow.config self.old.id mine ≡ true }
         requires asks { asks_again self.old.follow.config self.old.id mine ≡ true }
-        ensures gone { (full : Bool) → StandsAs full self.old.follow.config self.old.id mine self.old
+        ensures gone { (full : Bool)
+            → StandsAs full self.old.follow.config self.old.id mine self.old
             → IsGone full self.old.follow.config self.old.id mine self.new }
         ensures begins { self.new.lead.place ≡ Place.Ask 0 }
         ensures follow { self.new.follow ≡ self.old.follow }
@@ -79,7 +80,8 @@ impl Node {
         requires named { is_named self.old.follow.config self.old.id mine ≡ true }
         requires asks { asks_again self.old.follow.config self.old.id mine ≡ true }
         requires eager { is_eager self.old.zeal ≡ true }
-        ensures stands { (full : Bool) → IsGone full self.old.follow.config self.old.id mine self.old
+        ensures stands { (full : Bool)
+            → IsGone full self.old.follow.config self.old.id mine self.old
             → (full ≡ true
             → FollowsTurn self.old.zeal self.old.follow.config id mine (first_ask id answer))
             → IsPossible self.old.follow.config id (first_ask id answer ∷ mine)

@@ -1,5 +1,6 @@
 pub mod Finding
 pub mod Founds
+pub mod Growing
 pub mod Places
 pub mod Standing
 pub mod Stands

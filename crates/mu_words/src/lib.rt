@@ -5,6 +5,7 @@
 //! and each step changes one word: `word_steps` says so of every legal list.
 #![tactic(auto)]
 
+ghost use Rattle.mu_words.specs.Growing.{FoundsStay, WordsStay};
 ghost use Rattle.mu_words.specs.Founds.{AllowedArePrepared};
 ghost use Rattle.mu_words.specs.Places.{PlacesAreInside, PlacesDiffer};
 ghost use Rattle.mu_words.specs.Stands.{FieldsAlwaysFit, FirstWords, OneListStands, StepsInTableForms, WordsAreUnique, WordsStand};
@@ -66,4 +67,14 @@ pub fn steps_in_table_forms()
 /// Each step that is allowed is one that `Found` is prepared for.
 pub fn allowed_are_prepared()
     ensures { AllowedArePrepared }
+{}
+
+/// Words that stand for a list do so when rows are added.
+pub fn words_stay()
+    ensures { WordsStay }
+{}
+
+/// What a replica keeps of them does so too.
+pub fn founds_stay()
+    ensures { FoundsStay }
 {}
