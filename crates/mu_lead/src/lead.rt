@@ -34,7 +34,7 @@ use crate::batches::knows_all;
 use crate::note::Note;
 use crate::place::Place;
 use crate::positions::{end_of, narrow};
-use crate::recording::{write_head, write_reach, write_up, write_word};
+use crate::recording::{push_unwritten, write_head, write_reach, write_up, write_word};
 use mu_knowledge::KnownLog;
 use mu_leadership::Leadership;
 use mu_model::{Answer, Config, Event, NoMemory, Target, Verb, count_of_rows, row_word};
@@ -401,17 +401,6 @@ impl Lead {
         self.under_way = goes_on(begins(self.place, self.under_way), note);
         self.place = next;
         note
-    }
-}
-
-/// Adds a row of which no word is written, if there is room. Takes no memory.
-fn push_unwritten(written: &mut Vec<u8>)
-    ensures items { length written.old.items < vec_capacity written.old
-        → written.new.items ≡ written.old.items ++ 0 ∷ [] }
-    ensures room { vec_capacity written.new ≡ vec_capacity written.old }
-{
-    if written.len() < written.capacity() {
-        written.push_reserved(0);
     }
 }
 
