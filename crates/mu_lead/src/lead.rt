@@ -1,5 +1,5 @@
 //! The leader, at its place in the listing.
-ghost use Rattle.std.specs.Prelude.{vec_capacity, ◌++◌, IfOk, IfSome, List, None, Some, [], false, get_or, if◌then◌else◌, length, nat_lt, not, ℕ, ◌%◌, ◌&&◌, ◌<◌, ◌==◌, ◌||◌, ◌∷◌, ◌≡◌, ◌≤◌, ◌⊎◌};
+ghost use Rattle.std.specs.Prelude.{vec_capacity, IfOk, IfSome, List, None, Some, [], false, get_or, if◌then◌else◌, length, nat_lt, not, ℕ, ◌%◌, ◌&&◌, ◌<◌, ◌==◌, ◌||◌, ◌∷◌, ◌≡◌, ◌≤◌, ◌⊎◌};
 ghost use Rattle.mu_model.specs.declared.event.Event.{Event};
 ghost use Rattle.mu_model.specs.declared.event.Target.{Target as SomeTarget};
 ghost use Rattle.mu_model.specs.declared.event.Verb.{Verb as SomeVerb};
