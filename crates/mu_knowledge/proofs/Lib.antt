@@ -8,5 +8,6 @@ mod Learning
 pub mod NextRows
 pub mod Placed
 pub mod Rows
+mod Starts
 mod Untouched
 mod Whole

@@ -4,7 +4,7 @@ use Rattle.std.specs.Prelude.{Bool, List, None, Some, false, if◌then◌else◌
 use Rattle.std.specs.declared.option.Option.{Option}
 use Rattle.std.specs.List.{slice_get}
 use Rattle.mu_model.specs.declared.config.Config.{Config}
-use Rattle.mu_model.specs.Contents.{begins_batch, client_of, command_count, number_of, row_count}
+use Rattle.mu_model.specs.Contents.{begins_batch, client_of, command_count, number_of, row_count, rows_before}
 use Rattle.mu_knowledge.specs.declared.client_rows.ClientRows.{ClientRows}
 
 -- the first number that passes, among `count` numbers from `from` on
@@ -66,6 +66,52 @@ last_below c client (suc j) =
 abbrev pub HaveLasts : Config → ℕ → List ℕ → Type 0
 HaveLasts c n lasts =
     (client : ℕ) → client < 256 → slice_get lasts client ≡ Some (last_below c client n)
+
+-- how many of the first n rows are of clients below this one
+abbrev pub rows_below : Config → ℕ → ℕ → ℕ
+rows_below c client zero = 0
+rows_below c client (suc j) =
+    if nat_lt (client_of c j) client then rows_below c client j + 1 else rows_below c client j
+
+-- one place above that of each client: how many of the first n rows are the client's
+abbrev pub CountsRows : Config → ℕ → List ℕ → Type 0
+CountsRows c n starts =
+    (client : ℕ) → client < 256
+    → slice_get starts (client + 1) ≡ Some (rows_before c client n)
+
+-- where the rows of each client begin, if all rows stand client by client; and where the last end
+abbrev pub HaveStarts : Config → List ℕ → Type 0
+HaveStarts c starts =
+    (client : ℕ) → client ≤ 256
+    → slice_get starts client ≡ Some (rows_below c client (row_count c))
+
+-- the place of row j, if all rows stand client by client
+abbrev pub place_of : Config → ℕ → ℕ
+place_of c j =
+    rows_below c (client_of c j) (row_count c) + rows_before c (client_of c j) j
+
+-- each of the first n rows stands at its place
+abbrev pub StandAtPlaces : Config → ℕ → List ℕ → Type 0
+StandAtPlaces c n rows = (j : ℕ) → j < n → slice_get rows (place_of c j) ≡ Some j
+
+-- the row at a place that many after a start, if it is before the end
+abbrev pub row_between : List ℕ → Option ℕ → Option ℕ → ℕ → Option ℕ
+row_between rows None end count = None
+row_between rows (Some start) None count = None
+row_between rows (Some start) (Some end) count =
+    if nat_lt (start + count) end then slice_get rows (start + count) else None
+
+-- the row that is noted as the one after `count` commands of the client
+abbrev pub noted_row : ClientRows → ℕ → ℕ → Option ℕ
+noted_row state client count =
+    row_between state.rows.items (slice_get state.starts.items client)
+    (slice_get state.starts.items (client + 1)) count
+
+-- each row is noted as the one after those of its client before it: the next row is found at once
+abbrev pub LeadsToRows : Config → ClientRows → Type 0
+LeadsToRows c state =
+    (j : ℕ) → j < row_count c
+    → noted_row state (client_of c j) (rows_before c (client_of c j) j) ≡ Some j
 
 -- what is kept of the rows of each client is that of the job's rows, and no more
 pub record StandsForClientRows (c : Config) (state : ClientRows) : Type 0 where
