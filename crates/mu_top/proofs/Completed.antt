@@ -46,9 +46,10 @@ eager_of o job same good have run eager diligent names spends agrees gathered = 
   completes = completes_over o run.order.events (subst (λ (j : Job). IsConfig j.config) (sym same) good) (subst (λ (j : Job). HaveHeads j.config.width j.commands j.config.rows) (sym same) have) (over_order o run) agrees;
 }
 
-pub threaded_of : (o : Outcome) (job : Job) → o.job ≡ job → IsConfig job.config → HaveHeads job.config.width job.commands job.config.rows → IsThreadRun o → AreDiligentBy true o → Agrees o → HasAllIfFair o → IsThreaded o
-threaded_of o job same good have run diligent agrees lives = record {
+pub threaded_of : (o : Outcome) (job : Job) → o.job ≡ job → IsConfig job.config → HaveHeads job.config.width job.commands job.config.rows → IsThreadRun o → AreEager o → AreDiligentBy true o → Agrees o → HasAllIfFair o → IsThreaded o
+threaded_of o job same good have run eager diligent agrees lives = record {
   run = run;
+  eager = eager;
   diligent = diligent;
   agrees = agrees;
   completes = completes_over o run.events (subst (λ (j : Job). IsConfig j.config) (sym same) good) (subst (λ (j : Job). HaveHeads j.config.width j.commands j.config.rows) (sym same) have) run.over agrees;

@@ -22,8 +22,8 @@ use Rattle.snap_reads.specs.Lives.{AreAllSights}
 -- the outcome is a run of its job in turns: its journals are diligent and its replicas agree. If a
 -- command is missing, each replica was cut short, and if the script has no line, by its budget. If
 -- the script has no pause, each replica names replica 0 until that has ended, and no leadership is
--- ever over. By a step that the job alone tells a replica has every command, and by another each that
--- isn't stopped has finished. Nothing was gathered of threads
+-- ever over. If its budget is enough, a replica has every command by a step that the job alone tells,
+-- and each that isn't stopped has finished by another. Nothing was gathered of threads
 pub record IsReplay (o : Outcome) : Type 0 where
   pub run : IsRun o
   pub diligent : AreDiligent o
@@ -50,11 +50,13 @@ pub record IsEagerReplay (o : Outcome) : Type 0 where
   pub spends : SpendsBudgets o
   pub gathered : o.gathered ≡ None
 
--- the outcome is a run of its job by threads: its journals are diligent, with leaders that ask again
--- if a region has gone astray, its replicas agree, and if a command is missing each was cut short;
--- none is missing if the run is fair for long enough
+-- the outcome is a run of its job by threads: in the turns of their leaders its nodes do what is due
+-- to eager ones, its journals are diligent, with leaders that ask again if a region has gone astray,
+-- its replicas agree, and if a command is missing each was cut short; none is missing if the run is
+-- fair for long enough
 pub record IsThreaded (o : Outcome) : Type 0 where
   pub run : IsThreadRun o
+  pub eager : AreEager o
   pub diligent : AreDiligentBy true o
   pub agrees : Agrees o
   pub completes : Completes o
