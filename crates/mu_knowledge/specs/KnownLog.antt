@@ -61,7 +61,7 @@ pub record StandsForKnownLog (c : Config) (r : ℕ) (mine : List Event)
 
 -- there is room for one row more, and for its position
 pub record HasRoomForRow (c : Config) (state : KnownLog) : Type 0 where
-  pub rows : row_count c < vec_capacity state.rows.rows
+  pub by_client : row_count c < vec_capacity state.by_client.rows
   pub values : row_count c + reserve c + 1 < vec_capacity state.values
   pub seen : row_count c + reserve c + 1 < vec_capacity state.seen
 

@@ -227,7 +227,7 @@ impl KnownLog {
         ensures room { IfOk result (λ done. (r : ℕ) → (mine : List Event)
             → StandsForKnownLog config.now r mine self.old → HasRoomForRow config.now self.new) }
     {
-        self.rows.make_room()?;
+        self.by_client.make_room()?;
         make_room_to(&mut self.values, positions_in(config).saturating_add(1))?;
         self.seen.reserve(1)?;
         Ok(())
@@ -240,7 +240,7 @@ impl KnownLog {
             → HasRoomForRow c self.old → StandsForKnownLog c r mine self.old
             → StandsForKnownLog config.now r mine self.new }
     {
-        self.rows.add_last(config);
+        self.by_client.add_last(config);
         push_unseen(&mut self.seen);
     }
 
