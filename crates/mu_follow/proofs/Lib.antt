@@ -1,6 +1,7 @@
 mod CatchingUp
 pub mod Due
 mod Full
+mod Growing
 pub mod Handing
 pub mod Kept
 pub mod Paces

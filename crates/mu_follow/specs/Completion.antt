@@ -1,8 +1,8 @@
 -- holds completion: the state stands for the length from which on a log holds every command.
-use Rattle.std.specs.Prelude.{Bool, List, Some, false, length, take, true, ℕ, ◌+◌, ◌<◌, ◌≡◌, ◌≤◌}
+use Rattle.std.specs.Prelude.{Bool, List, Some, false, length, take, true, vec_capacity, ℕ, ◌+◌, ◌<◌, ◌≡◌, ◌≤◌}
 use Rattle.std.specs.List.{slice_get}
 use Rattle.mu_model.specs.declared.config.Config.{Config}
-use Rattle.mu_model.specs.Contents.{holds_all, includes, row_count, rows_in}
+use Rattle.mu_model.specs.Contents.{StandsForEntry, holds_all, includes, row_count, rows_in}
 use Rattle.mu_model.specs.Scores.{least_below}
 use Rattle.mu_follow.specs.declared.completion.Completion.{Completion}
 
@@ -19,6 +19,14 @@ pub record IsFirstMissing (c : Config) (is_there : ℕ → Bool) (first : ℕ) :
   pub within : first ≤ row_count c
   pub below : (j : ℕ) → j < first → is_there j ≡ true
   pub missing : first < row_count c → is_there first ≡ false
+
+-- each of the values stands for an entry
+abbrev pub AreEntries : Config → List ℕ → Type 0
+AreEntries c values = (i v : ℕ) → slice_get values i ≡ Some v → StandsForEntry c v
+
+-- there is room for the mark of one row more
+abbrev pub HasRoomForMark : Completion → Type 0
+HasRoomForMark state = length state.held.items < vec_capacity state.held
 
 -- the state stands for the values that were counted
 pub record HoldsCompletion (c : Config) (values : List ℕ) (state : Completion) : Type 0 where

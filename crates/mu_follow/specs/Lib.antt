@@ -4,6 +4,7 @@ pub mod Completion
 pub mod Due
 pub mod Follow
 pub mod Groups
+pub mod Growing
 pub mod Kinds
 pub mod Paces
 pub mod Published

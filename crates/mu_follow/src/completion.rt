@@ -1,9 +1,11 @@
 //! From which length on a log holds every command of the job.
 ghost use Rattle.std.specs.Prelude.{Bool, IfOk, List, None, Some, [], if◌then◌else◌, length, nat_le, take, true, ℕ, ◌++◌, ◌+◌, ◌<◌, ◌==◌, ◌^◌, ◌∷◌, ◌≡◌, ◌≤◌, ◌||◌};
+ghost use Rattle.mu_agree.specs.Growing.{with_more};
 ghost use Rattle.mu_model.specs.declared.config.Config.{Config};
+ghost use Rattle.mu_model.specs.declared.config.Row.{Row as SomeRow};
 ghost use Rattle.mu_model.specs.Contents.{IsConfig, includes, row_count, rows_of};
 ghost use Rattle.mu_model.specs.Histories.{all_below};
-ghost use Rattle.mu_follow.specs.Completion.{HoldsCompletion, IsFirstMissing, MarksRows, full_of};
+ghost use Rattle.mu_follow.specs.Completion.{AreEntries, HasRoomForMark, HoldsCompletion, IsFirstMissing, MarksRows, full_of};
 
 use mu_model::{Config, NoMemory, PAYLOADS, row_rest, stands_for_batch};
 use std::alloc::Global;
@@ -95,6 +97,28 @@ impl Completion {
             held_to: 0,
             full: if rows == 0 { 0 } else { 1 },
         })
+    }
+
+    /// Makes room for one row more. Takes memory.
+    pub fn make_room(&mut self) -> Result<(), NoMemory>
+        ensures keeps { (c : Config) → (values : List ℕ) → HoldsCompletion c values self.old
+            → HoldsCompletion c values self.new }
+        ensures room { IfOk result (λ done. HasRoomForMark self.new) }
+    {
+        self.held.reserve(1)
+    }
+
+    /// Takes one row more, which no counted entry holds, if there is room. Takes no memory.
+    pub fn add_last(&mut self)
+        ensures { (c : Config) → (row : SomeRow) → (values : List ℕ) → IsConfig c
+            → IsConfig (with_more c (row ∷ [])) → AreEntries c values → length values < 65536
+            → HasRoomForMark self.old → HoldsCompletion c values self.old
+            → HoldsCompletion (with_more c (row ∷ [])) values self.new }
+    {
+        if self.held.len() < self.held.capacity() {
+            self.held.push_reserved(false);
+            self.full = self.counted.saturating_add(1);
+        }
     }
 
     /// Counts the next entry.

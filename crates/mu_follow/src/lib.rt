@@ -4,6 +4,7 @@
 
 ghost use Rattle.mu_follow.specs.Paces.{HeadsRiseInTime};
 
+mod adding;
 mod catching_up;
 mod commits;
 mod completion;

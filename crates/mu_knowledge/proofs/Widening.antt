@@ -1,6 +1,6 @@
--- What is kept of the words of rows, and of filled positions, with one row more.
+-- What is kept of the words of rows, with one row more.
 use Rattle.std.proofs.Common.{◌≡◌, ◌∙◌, ℕ, zero, suc, ◌*◌, ◌+◌, ◌/◌, ◌%◌, ◌<◌, ◌≤◌, ◌==◌, ◌&&◌, ◌||◌, inl, inr, Bool, false, List, [], ◌∷◌, ◌++◌, None, Some, ap, arith, length, length-append, refl, replicate, subst, sym, take}
-use Rattle.std.specs.Prelude.{if◌then◌else◌, nat_lt}
+use Rattle.std.specs.Prelude.{if◌then◌else◌}
 use Rattle.std.specs.List.{slice_get}
 use Rattle.std.proofs.lemmas.Bool.{cases_lt, ne_eqb}
 use Rattle.std.proofs.lemmas.List.{length-take}
@@ -15,18 +15,14 @@ use Rattle.mu_model.specs.Contents.{IsConfig, row_count}
 use Rattle.mu_model.specs.Histories.{newer_or, or_zero}
 use Rattle.mu_model.specs.Knowledge.{has_word, wrote}
 use Rattle.mu_model.specs.Parts.{IsPossible}
-use Rattle.mu_model.specs.Room.{reserve}
 use Rattle.mu_model.proofs.Basics.{and_false, false_and}
 use Rattle.mu_model.proofs.Lists.{get_front, get_replicate}
 use Rattle.mu_agree.specs.Growing.{with_more}
-use Rattle.mu_agree.proofs.Growing.{filled_kept, no_row_written, no_word_there}
+use Rattle.mu_agree.proofs.Growing.{no_row_written, no_word_there}
 use Rattle.mu_agree.proofs.Possible.{parts_shorten_law}
-use Rattle.mu_knowledge.specs.FilledLog.{StandsForFilledLog}
 use Rattle.mu_knowledge.specs.HeldRows.{HasWords, WroteWords, word_place}
-use Rattle.mu_knowledge.specs.KnownLog.{is_set}
 use Rattle.mu_knowledge.specs.RowWords.{HoldWords, word_held, word_met, word_told}
-use Rattle.mu_knowledge.specs.declared.filled_log.FilledLog.{FilledLog}
-use Rattle.mu_knowledge.proofs.Adding.{count_more, unset_more}
+use Rattle.mu_knowledge.proofs.Adding.{count_more}
 
 -- what stands among the first places of a table stands there still
 taken : {A : Type 0} (xs : List A) (m i : ℕ) (x : A) → i < m → slice_get xs i ≡ Some x → slice_get (take m xs) i ≡ Some x
@@ -110,15 +106,3 @@ words_long c r mine xs held = twelve_long (row_count c) (λ j k. word_held r j k
 pub words_more : (c : Config) (row : Row) (r : ℕ) (mine : List Event) (xs : List ℕ) → IsPossible c r mine → HoldWords (row_count c) (λ j k. word_held r j k mine) xs
     → HoldWords (row_count (with_more c (row ∷ []))) (λ j k. word_held r j k mine) (take (row_count c * 12) xs ++ replicate 12 0)
 words_more c row r mine xs possible held = twelve_more (row_count c) (row_count (with_more c (row ∷ []))) (λ j k. word_held r j k mine) 0 xs (count_more c row) held (λ k small. ap or_zero (unmet c r (row_count c) k mine possible (omega arith)))
-
--- one position more, which is not filled
-pub filled_more : (c : Config) (row : Row) (r p : ℕ) (mine : List Event) (old new : FilledLog) → new.filled_to ≡ old.filled_to → new.filled.items ≡ old.filled.items ++ false ∷ [] → StandsForFilledLog c r p mine old → StandsForFilledLog (with_more c (row ∷ [])) r p mine new
-filled_more c row r p mine old new to items held =
-    let more = count_more c row in
-    let one = length-append old.filled.items (false ∷ []) in
-    let room = held.room in
-    record {
-      room = ap length items ∙ omega (arith, one, room, more);
-      filled = λ j. filled_kept c (row ∷ []) r p mine j ∙ (held.filled j ∙ (ap (λ n. nat_lt j n || is_set (slice_get old.filled.items j)) (sym to) ∙ ap (λ t. nat_lt j new.filled_to || t) (sym (ap (λ xs. is_set (slice_get xs j)) items ∙ unset_more old.filled.items j))));
-      next = ap (λ n. is_set (slice_get new.filled.items n)) to ∙ (ap (λ xs. is_set (slice_get xs old.filled_to)) items ∙ (unset_more old.filled.items old.filled_to ∙ held.next));
-    }

@@ -260,9 +260,6 @@ pub all_known : (c : Config) (r : ℕ) (mine : List Event) → ReadsNext c r min
 all_known c r [] reads = tt
 all_known c r (e ∷ mine) reads = (all_known c r mine reads.0, known_of c r mine e.verb reads.1)
 
-pub reads_known : (c : Config) (r : ℕ) (mine : List Event) → AtEachStep (WasMade c r) mine → ReadsKnown c r mine
-reads_known c r mine made = all_known c r mine (reads_next c r mine made)
-
 -- and in order
 get_taken : (n i v : ℕ) (xs : List ℕ) → i < n → slice_get xs i ≡ Some v → slice_get (take n xs) i ≡ Some v
 get_taken zero i v xs low at = absurd (omega (arith, low))
