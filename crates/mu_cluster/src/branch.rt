@@ -19,7 +19,7 @@ use crate::idling::Idling;
 use crate::pauses::{next_pause, pause_after, rounds_at};
 use crate::resting::{Rested, rest};
 use crate::silences::Silences;
-use mu_gate::Gate;
+use mu_gate::{Gate, Passed, change_at_once};
 use mu_input::Job;
 use mu_model::{NoMemory, Script};
 use mu_node::{Node, Turn, Zeal};
@@ -27,7 +27,6 @@ use mu_port::Port;
 use shared_fabric::SharedPort;
 use std::alloc::Global;
 use std::sync::Wait;
-use std::thread;
 use std::thread::Threads;
 use std::time::Clock;
 
@@ -38,9 +37,18 @@ pub(crate) struct Branch {
     port: SharedPort,
 }
 
-/// The next turn of a replica that let the others on as its script and its last step have it.
-fn turn_rested(node: &mut Node, port: &mut SharedPort, script: &Script, rested: &Rested) -> Turn
+/// The next turn of a replica that let the others on as its script and its last step have it, and
+/// passed the gate.
+fn turn_rested(
+    node: &mut Node,
+    port: &mut SharedPort,
+    script: &Script,
+    rested: &Rested,
+    passed: &Passed,
+) -> Turn
     requires config { IsConfig port.old.config }
+    requires thread { passed.now.thread ≡ port.old.id }
+    requires step { passed.now.step ≡ length port.old.part }
     requires stands { StandsForNode port.old.config port.old.id port.old.part node.old }
     requires yields { rested.now.yields.count
         ≡ rounds_paused_of script.now.pauses port.old.id (length port.old.part)
@@ -74,8 +82,8 @@ fn drive<R: Wait + Clock, G: Gate>(rt: &R, branch: &mut Branch, script: &Script,
         let steps = node.steps();
         let paused = rounds_at(next, steps);
         let rested = rest(rt, paused, silences.shown(), idling.ended());
-        gate.pass(node.id(), steps);
-        match turn_rested(node, port, script, &rested) {
+        let passed = Passed::through(gate, node.id(), steps);
+        match turn_rested(node, port, script, &rested, &passed) {
             Turn::Took(_) => {
                 let events = port.part();
                 silences.take_newest(events);
@@ -98,16 +106,7 @@ fn drive_all<R: Threads + Wait + Clock + Sync, G: Gate + Sync>(
     ensures { (i : ℕ) (d : SomeBranch) → i < length branches.old
         → IsDriven script.now (slice_index_or branches.old i d) (slice_index_or branches.new i d) }
 {
-    let count = branches.len();
-    if count == 0 {
-        return;
-    }
-    thread::for_each_mut(
-        rt,
-        branches,
-        count,
-        &|_, branch| { drive(rt, branch, script, gate) },
-    );
+    change_at_once(rt, branches, &|_, branch| { drive(rt, branch, script, gate) });
 }
 
 /// The replicas after all their turns.
