@@ -1,0 +1,5 @@
+mod Agreeing
+mod LongLines
+mod Putting
+pub mod Telling
+mod Texts
