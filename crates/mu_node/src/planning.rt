@@ -487,9 +487,42 @@ impl Node {
         }
     }
 
-    /// Takes an event of the leader, and tells it the answer. A resignation is told before all
-    /// else.
+    /// Takes an event of the leader, and tells it the answer. Most are words of rows: with their
+    /// verbs written out the compiler sees what takes them, as in `note`.
+    #[inline(always)]
     fn took_led(&mut self, verb: Verb, by: u8, answer: Answer, heeded: Note) -> Note
+        ghost mine: { List SomeEvent }
+        requires config { IsConfig self.old.follow.config }
+        requires heeded { HasHeeded mine self.old.lead }
+        requires due { lead_due self.old.follow.config by mine self.old.lead ≡ Some verb }
+        requires turn { is_odd (length mine) ≡ true }
+        requires planned { HasPlanned false self.old.follow.config by mine self.old }
+        ensures stands { (full : Bool) → HasPlanned full self.old.follow.config by mine self.old
+            → (full ≡ true → FollowsTurn self.old.zeal self.old.follow.config by mine
+            (record { by = by; verb = verb; answer = answer }))
+            → IsReadNext self.old.follow.config by mine verb
+            → IsPossible self.old.follow.config by
+            (record { by = by; verb = verb; answer = answer } ∷ mine)
+            → StandsAs full self.old.follow.config by
+            (record { by = by; verb = verb; answer = answer } ∷ mine) self.new }
+        ensures zeal { self.new.zeal ≡ self.old.zeal }
+        ensures stops { self.new.stops ≡ self.old.stops }
+        ensures note { TellsTook self.old.follow.config by mine true
+            (Some verb) heeded answer result }
+        ensures says { SaysTook self.old.follow.config by mine true (Some verb) heeded self.old.lead
+            self.new.lead answer result }
+    {
+        match (verb, answer) {
+            (Verb::WriteRow(row, word, value), Answer::Done) => {
+                self.take_led(Verb::WriteRow(row, word, value), by, Answer::Done, heeded)
+            }
+            _ => self.take_led(verb, by, answer, heeded),
+        }
+    }
+
+    /// The same of the verb and the answer as they come. A resignation is told before all else.
+    #[inline(always)]
+    fn take_led(&mut self, verb: Verb, by: u8, answer: Answer, heeded: Note) -> Note
         ghost mine: { List SomeEvent }
         requires config { IsConfig self.old.follow.config }
         requires heeded { HasHeeded mine self.old.lead }

@@ -25,7 +25,7 @@ use Rattle.mu_node.specs.Notes.{note_at}
 use Rattle.mu_node.proofs.Leads.{lead_noted, lead_says, lead_takes, lead_tells, led_beside, led_log, led_told}
 use Rattle.mu_node.proofs.Moving.{event_by}
 use Rattle.mu_node.proofs.Pacing.{TakesPaces, kept_led, led_paces, paces_led}
-use Rattle.mu_node.proofs.node.Node.took_led.Goals as goal
+use Rattle.mu_node.proofs.node.Node.take_led.Goals as goal
 
 pub learn-requires : goal.learn-requires
 learn-requires g c = record { config = subst (λ x. IsConfig x) (sym c.note.ensures.config) c.requires.0 }
