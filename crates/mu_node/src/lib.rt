@@ -11,6 +11,7 @@ mod ending;
 mod node;
 mod planning;
 mod result;
+mod taking;
 mod turn;
 mod watch;
 mod zeal;
