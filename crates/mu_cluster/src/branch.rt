@@ -106,7 +106,11 @@ fn drive_all<R: Threads + Wait + Clock + Sync, G: Gate + Sync>(
     ensures { (i : ℕ) (d : SomeBranch) → i < length branches.old
         → IsDriven script.now (slice_index_or branches.old i d) (slice_index_or branches.new i d) }
 {
-    change_at_once(rt, branches, &|_, branch| { drive(rt, branch, script, gate) });
+    change_at_once(
+        rt,
+        branches,
+        &|_, branch| { drive(rt, branch, script, gate) },
+    );
 }
 
 /// The replicas after all their turns.
