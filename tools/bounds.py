@@ -140,9 +140,9 @@ class NotPromised(Exception):
 def committed_by(lines):
     """The number of `committed_by` of mu_enough."""
     if 2 * len(lines.left) <= lines.replicas:
-        raise NotPromised("half of the replicas are stopped")
+        raise NotPromised("lines stop half of the replicas or more")
     if lines.pauses and not lines.is_roomy:
-        raise NotPromised(f"a line pauses and the ring is below {lines.large_ring}")
+        raise NotPromised(f"a line pauses a replica, and the ring is below {lines.large_ring}")
     if lines.pauses:
         return lines.disturbed_until() + lines.bound("steps_after_pauses")
     if lines.is_roomy:
@@ -151,16 +151,16 @@ def committed_by(lines):
     if not lines.stops:
         return lines.bound("steps_in_any_ring")
     if lines.version == 1:
-        raise NotPromised(f"a line stops, the ring is below {lines.large_ring}, version 1")
+        raise NotPromised(f"a line stops a replica in version 1, and the ring is below {lines.large_ring}")
     return lines.last_stop + lines.bound("steps_after_in_any_ring", lines.left[0])
 
 
 def finished_by(lines):
     """That of `finished_by`."""
     if 2 * len(lines.left) <= lines.replicas:
-        raise NotPromised("half of the replicas are stopped")
+        raise NotPromised("lines stop half of the replicas or more")
     if lines.pauses:
-        raise NotPromised("a line pauses")
+        raise NotPromised("a line pauses a replica")
     least = lines.left[0]
     if lines.is_roomy:
         led = lines.last_below() + lines.bound("finishing_after", least) if least else lines.bound("finishing_steps")
@@ -168,7 +168,7 @@ def finished_by(lines):
     if not lines.stops:
         return lines.bound("finishing_in_any_ring")
     if lines.version == 1:
-        raise NotPromised(f"a line stops, the ring is below {lines.large_ring}, version 1")
+        raise NotPromised(f"a line stops a replica in version 1, and the ring is below {lines.large_ring}")
     return lines.last_stop + lines.bound("finishing_after_in_any_ring", least)
 
 

@@ -60,7 +60,7 @@ WRONG_REPORTS = [
 ]
 # The least that there is of each kind: a judge that looks at nothing finds nothing.
 LEAST_NAMED, LEAST_JUDGED, LEAST_BOUND, LEAST_VERDICTS = 1000, 200, 300, 150
-LEAST_FIGURES, LEAST_SHOWN, LEAST_CLAUSES = 100, 100, 200
+LEAST_FIGURES, LEAST_SHOWN, LEAST_CLAUSES, LEAST_REASONS = 100, 100, 200, 50
 # Two lemmas, of which nothing cites the first.
 LEMMAS = "pub idle : A\nidle zero = x\nidle (suc n) = idle n\n\npub used : A\nused = x\n\nlast : A\nlast = used\n"
 # A source that uses four of the ghost names that it imports.
@@ -303,6 +303,20 @@ def tells_pages():
     yield pages.words_of("# A page\n\nwith words\n\n    an example\n\n| a | table |\n![a picture](here)\n") == 5
 
 
+def tells_other_words():
+    """A reason of which the page tells another word, another value or nothing is told, and none else."""
+    yield len(pages.defined_reasons()) >= LEAST_REASONS
+    yield not list(pages.other_words())
+    read = pages.contents
+    for stands, wrong, found in (("| the ring has no place *place* |", "| the ring has no row *place* |", 1),
+                                 ("there is no replica *replica*", "there is no replica *region*", 1),
+                                 ("and *put* put", "and *put* written", 1), ("| Drained |", "| Draine |", 2)):
+        def changed(path, stands=stands, wrong=wrong):
+            return read(path).replace(stands, wrong) if path == "docs/WHY.md" else read(path)
+        with mock.patch.object(pages, "contents", changed):
+            yield len(list(pages.other_words())) == found
+
+
 def tells_clauses():
     """The clauses that a row names are found, and a source's are those of its functions, types and records."""
     yield list(clauses.named_in(CLAUSE_ROW)) == [("Node::turn", "made"), ("first", "kept"), ("next", "kept")]
@@ -405,7 +419,7 @@ def tells_unfair_runs():
 
 JUDGES = [
     tells_failures, tells_answers, tells_sums, tells_parts, tells_tables, tells_stops, tells_edits, tells_faults,
-    tells_missing_answers, tells_statuses, tells_reports, tells_bounds,
+    tells_missing_answers, tells_statuses, tells_reports, tells_bounds, tells_other_words,
     tells_own_traces, tells_pages, tells_clauses, tells_figures, tells_uncited_lemmas, tells_idle_imports,
     tells_stored_inputs, tells_rules, tells_breaks, tells_refused_memory, tells_finishers, tells_costs,
     tells_silent_definitions, tells_hangs, tells_unfair_runs]

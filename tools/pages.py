@@ -1,6 +1,7 @@
 #!/usr/bin/env python3
 """Checks what the pages name: each path stands, each name is in some source, each link leads somewhere;
-that pages stay short, that each command has its help, and that each crate is on the map.
+that pages stay short, that each command has its help, that each crate is on the map, and that the reasons
+of `mu why` have the words that are defined.
 
     tools/pages.py        prints what is stale; the last line is `pages: N named, N stale`
 
@@ -25,6 +26,13 @@ NAME = re.compile(r"[A-Za-z][A-Za-z0-9]*(_[A-Za-z0-9]+)+|([A-Z][a-z0-9]+){2,}")
 PATH = re.compile(r"[\w.-]+(/[\w.-]+)+/?|[\w-]+\.(rt|antt|md|py|job|trace|svg|table|edit|txt)")
 # Names of the toolchain and of the system, which stand in no source of ours.
 FOREIGN = {"sched_yield", "NoMemory", "BTreeMap", "BTreeMaps", "crossbeam_utils", "left_right"}
+
+# The words of a reason: its clause in the definition, the texts of that, and each value in its place.
+REASON_CLAUSE = re.compile(r"^reason_words \(?Reason\.(\w+)[^=\n]*=((?: .*)?\n(?:    .*\n)*)", re.MULTILINE)
+CODES = re.compile(r'codes "([^"]*)"')
+VALUE = re.compile(r"(?:decimal|number_or_none|entered_words) (\w+)")
+# In a row of two sentences: what stands between the first and the end of the second.
+OTHER_END = "; or, if it has none, in place of the last words: "
 
 # The most words of a page, all of them; of these pages without examples, tables and pictures.
 MOST_WORDS = {
@@ -153,6 +161,33 @@ def without_help():
             yield f"tools/program_help.bash: {form} isn't there"
 
 
+def defined_reasons():
+    """The sentences of each reason of `mu why`, from their definition, each value in italics."""
+    sentences = {}
+    for reason, body in REASON_CLAUSE.findall(contents("crates/mu_report/specs/Reasons.antt")):
+        words = "".join(CODES.findall(body)).replace("#", "*{}*")
+        sentences.setdefault(reason, []).append(words.format(*VALUE.findall(body)))
+    return sentences
+
+
+def told_reasons(page):
+    """Those that a page tells, in its table of words."""
+    table = page.split("## Their words\n")[1].split("\n## ")[0]
+    sentences = {}
+    for reason, cell in re.findall(r"^\| (\w+) \| (.*) \|$", table, re.MULTILINE)[1:]:
+        first, _, end = cell.partition(OTHER_END)
+        sentences[reason] = [first, first.rpartition(": ")[0] + ": " + end] if end else [first]
+    return sentences
+
+
+def other_words():
+    """The reasons of which docs/WHY.md tells other words than those that are defined."""
+    defined, told = defined_reasons(), told_reasons(contents("docs/WHY.md"))
+    for reason in sorted(set(defined) | set(told)):
+        if defined.get(reason) != told.get(reason):
+            yield f"docs/WHY.md: {reason}: {told.get(reason)}, and {defined.get(reason)} is defined"
+
+
 def judged():
     """How many things the pages name, and where one is stale."""
     paths = list(files())
@@ -171,7 +206,7 @@ def judged():
                           if not it.startswith("http")]
                 named += len(found)
                 stale += [f"{page}:{number}: {it}" for it, good in found if not good]
-    return named, stale + list(too_long()) + list(without_help()) + off_the_map()
+    return named, stale + list(too_long()) + list(without_help()) + off_the_map() + list(other_words())
 
 
 def main():

@@ -307,8 +307,8 @@ lanes_are : (r : ℕ) (openings : List Opening) → IsContent (lanes_from r open
 lanes_are r [] = nothing
 lanes_are r (opening ∷ openings) = both (lane_is r opening) (lanes_are (r + 1) openings)
 
-name_is : IsContent title
-name_is = element {name = codes "title"} refl (whole {content = codes "A run of replicas: their steps from top to bottom"} (plain_content (codes "A run of replicas: their steps from top to bottom") refl) line_feed)
+picture_title_is : IsContent title
+picture_title_is = element {name = codes "title"} refl (whole {content = codes "A run of replicas: their steps from top to bottom"} (plain_content (codes "A run of replicas: their steps from top to bottom") refl) line_feed)
 
 style_is : IsContent style
 style_is = element {name = codes "style"} refl (whole {content = codes "text{font:9px sans-serif;paint-order:stroke;stroke:#fff;stroke-width:5px}.t{font-family:monospace}.s{text-anchor:end;fill:#555}path{stroke:#000;fill:none}rect,circle{stroke:#000;stroke-width:.6}.w,.l,.z{stroke:none}.w,.c{fill:#fff}.l{fill:#888}.z{fill:url(#z)}.f{fill:#fff;stroke:#888;stroke-dasharray:2 2}.p,.k{fill:#000}.q{stroke-dasharray:4 2}.k,.x,.r{stroke-width:2}.a{stroke:#333;stroke-dasharray:2 2}.e{fill:#c00}.r{stroke:#c00}.o0{fill:#e69f00}.o1{fill:#56b4e9}.o2{fill:#009e73}.o3{fill:#f0e442}.o4{fill:#0072b2}.o5{fill:#d55e00}.o6{fill:#cc79a7}"} (plain_content (codes "text{font:9px sans-serif;paint-order:stroke;stroke:#fff;stroke-width:5px}.t{font-family:monospace}.s{text-anchor:end;fill:#555}path{stroke:#000;fill:none}rect,circle{stroke:#000;stroke-width:.6}.w,.l,.z{stroke:none}.w,.c{fill:#fff}.l{fill:#888}.z{fill:url(#z)}.f{fill:#fff;stroke:#888;stroke-dasharray:2 2}.p,.k{fill:#000}.q{stroke-dasharray:4 2}.k,.x,.r{stroke-width:2}.a{stroke:#333;stroke-dasharray:2 2}.e{fill:#c00}.r{stroke:#c00}.o0{fill:#e69f00}.o1{fill:#56b4e9}.o2{fill:#009e73}.o3{fill:#f0e442}.o4{fill:#0072b2}.o5{fill:#d55e00}.o6{fill:#cc79a7}") refl) line_feed)
@@ -343,7 +343,7 @@ legend_is =
 
 head_is : (c : Config) (picture : Picture) (width : ℕ) → IsContent (head_pieces c picture width)
 head_is c picture width =
-    both name_is
+    both picture_title_is
     (both style_is (both hatching_is (both (shape_is (Shape.Bar Look.Ground 0 0 width)) (both (text_is Look.Label 4 14 (facts_words c picture)) legend_is))))
 
 content_is : (job : Job) (line : ℕ) (picture : Picture) (breach : Option Breach) (width : ℕ) → IsContent (content_of job line picture breach width)

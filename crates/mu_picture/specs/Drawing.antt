@@ -162,10 +162,11 @@ abbrev pub lanes_from : ℕ → List Opening → List ℕ
 lanes_from r [] = []
 lanes_from r (opening ∷ openings) = lane_pieces r opening ++ lanes_from (r + 1) openings
 
--- how text and shapes look
+-- what the picture is, for who doesn't see it
 abbrev pub title : List ℕ
 title = codes "<title>A run of replicas: their steps from top to bottom</title>\n"
 
+-- how text and shapes look
 abbrev pub style : List ℕ
 style =
     codes "<style>text{font:9px sans-serif;paint-order:stroke;stroke:#fff;stroke-width:5px}"

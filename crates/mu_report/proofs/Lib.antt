@@ -2,10 +2,10 @@ mod AccountLines
 mod BookLines
 mod Lists
 mod LiveLines
-mod Pages
 mod Prints
 mod Pushes
 mod Sentences
 mod Sizes
 mod Summaries
 pub mod Traces
+mod Writing

@@ -1,5 +1,5 @@
 -- Words that are added to a line, one after the other.
-use Rattle.std.proofs.Common.{List, [], ◌∷◌, None, Some, ℕ, ◌++◌, ◌≡◌, ◌∙◌, ap, append_assoc, refl}
+use Rattle.std.proofs.Common.{List, [], ◌∷◌, None, Some, ℕ, ◌++◌, ◌≡◌, refl}
 use Rattle.std.specs.declared.option.Option.{Option}
 use Rattle.mu_events.specs.Lines.{event_line}
 use Rattle.mu_outcome.specs.declared.fault.Broken.{Broken}

@@ -18,9 +18,8 @@ fn sentence_of(fact: Fact) -> Sentence
 {
     match fact {
         Fact::Fence { region, fence } => Sentence::Two(
-            b"region ",
+            b"region # #",
             Value::Byte(region),
-            b" ",
             Value::Seen(fence),
         ),
         Fact::Numbers {
@@ -30,23 +29,17 @@ fn sentence_of(fact: Fact) -> Sentence
             head,
             beats,
         } => Sentence::Five(
-            b"region ",
+            b"region # min # fuo # head # beats #",
             Value::Byte(region),
-            b" min ",
             Value::Long(minimum),
-            b" fuo ",
             Value::Long(fuo),
-            b" head ",
             Value::Long(head),
-            b" beats ",
             Value::Long(beats),
         ),
         Fact::Asks { region, by, count } => Sentence::Three(
-            b"region ",
+            b"region # asks of #: #",
             Value::Byte(region),
-            b" asks of ",
             Value::Byte(by),
-            b": ",
             Value::Long(count),
         ),
         Fact::Entry {
@@ -55,13 +48,10 @@ fn sentence_of(fact: Fact) -> Sentence
             number,
             value,
         } => Sentence::Four(
-            b"region ",
+            b"region # log # entry # #",
             Value::Byte(region),
-            b" log ",
             Value::Short(position),
-            b" entry ",
             Value::Wide(number),
-            b" ",
             Value::Short(value),
         ),
         Fact::Reached {
@@ -71,33 +61,26 @@ fn sentence_of(fact: Fact) -> Sentence
             applied,
             named,
         } => Sentence::Five(
-            b"replica ",
+            b"replica # steps # known # applied # names #",
             Value::Byte(replica),
-            b" steps ",
             Value::Wide(steps),
-            b" known ",
             Value::Count(known),
-            b" applied ",
             Value::Count(applied),
-            b" names ",
             Value::Byte(named),
         ),
         Fact::Leadership { replica, leads } => Sentence::Two(
-            b"replica ",
+            b"replica # leadership #",
             Value::Byte(replica),
-            b" leadership ",
             Value::Leads(leads),
         ),
         Fact::Member { replica, region } => Sentence::Two(
-            b"replica ",
+            b"replica # member #",
             Value::Byte(replica),
-            b" member ",
             Value::Byte(region),
         ),
         Fact::Failed { replica, other } => Sentence::Two(
-            b"replica ",
+            b"replica # failed #",
             Value::Byte(replica),
-            b" failed ",
             Value::Byte(other),
         ),
         Fact::Known {
@@ -105,11 +88,9 @@ fn sentence_of(fact: Fact) -> Sentence
             position,
             value,
         } => Sentence::Three(
-            b"replica ",
+            b"replica # knows # value #",
             Value::Byte(replica),
-            b" knows ",
             Value::Short(position),
-            b" value ",
             Value::Short(value),
         ),
     }
@@ -155,9 +136,8 @@ fn stray_line(stop: &Stop) -> Line
     push_sentence(
         &mut line,
         Sentence::Two(
-            b"replica ",
+            b"replica # goes on after its stop at #",
             Value::Byte(stop.replica),
-            b" goes on after its stop at ",
             Value::Wide(stop.steps),
         ),
     );

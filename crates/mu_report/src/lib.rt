@@ -1,5 +1,5 @@
-//! What the program says: its report of a run, and its other answers, written line by line to a
-//! sink, and the events of a trace page by page.
+//! What the program says: its report of a run, and its other answers, printed line by line and
+//! written to a sink in large pieces.
 #![tactic(auto)]
 
 mod accounts;
@@ -9,7 +9,7 @@ mod facts;
 mod line;
 mod lives;
 mod misreads;
-mod page;
+mod piece;
 mod printer;
 mod promises;
 mod reasons;

@@ -1,128 +1,87 @@
 //! What a job promises, and whether its budget is enough for it, a line each.
 ghost use Rattle.std.specs.Prelude.{◌+◌, ◌++◌, ◌<◌, ◌≡◌, ◌≤◌, length};
 ghost use Rattle.mu_report.specs.declared.line.TheConstants.{LINE_BYTES};
-ghost use Rattle.mu_report.specs.Promises.{cause_words, committed_line, committed_words, enough_words, finished_line, finished_words, nothing_words, promise_lines, step_words};
+ghost use Rattle.mu_report.specs.Promises.{cause_words, promise_lines, promise_words, step_words};
+ghost use Rattle.mu_report.specs.Sentences.{sentence_room, sentence_words};
 
 use crate::line::Line;
 use crate::printer::Printer;
+use crate::sentence::{Sentence, Value, push_sentence};
 use mu_enough::{Cause, Promise, Promises};
 
 /// Prints what a job promises. Takes no memory.
 pub fn print_promises<P: Printer>(out: &mut P, promises: &Promises)
     ensures { P.Prints out.old (promise_lines promises.now) out.new }
 {
-    out.print_line(committed_line(promises));
-    out.print_line(finished_line(promises));
+    let budget = u64::from(promises.budget);
+    out.print_line(promise_line(b"committed", promises, promises.committed, budget + 1));
+    out.print_line(promise_line(b"finished", promises, promises.finished, budget));
 }
 
-/// By which step a replica has every command, as a line.
-fn committed_line(promises: &Promises) -> Line
-    ensures bytes { result ≡ committed_line promises.now }
+/// What is so by a step, for which the budget is enough if the step is below `end`.
+fn promise_line(what: &[u8], promises: &Promises, promise: Promise, end: u64) -> Line
+    requires { length what.now ≤ 20 }
+    ensures bytes { result ≡ what.now
+        ++ promise_words promises.now.budget promises.now.large_ring promise end }
     ensures room { length result < LINE_BYTES }
 {
     let mut line = Line::new();
-    line.push(b"committed");
-    push_committed(
+    line.push(what);
+    push_sentence(
         &mut line,
-        promises.budget,
-        promises.large_ring,
-        promises.committed,
+        sentence_of(promises.budget, promises.large_ring, promise, end),
     );
     line
 }
 
-/// By which step each has finished, as a line.
-fn finished_line(promises: &Promises) -> Line
-    ensures bytes { result ≡ finished_line promises.now }
-    ensures room { length result < LINE_BYTES }
-{
-    let mut line = Line::new();
-    line.push(b"finished");
-    push_finished(
-        &mut line,
-        promises.budget,
-        promises.large_ring,
-        promises.finished,
-    );
-    line
-}
-
-/// A replica has every command by a step within the budget.
-fn push_committed(line: &mut Line, budget: u32, ring: u64, promise: Promise)
-    requires { length line.old ≤ 20 }
-    ensures bytes { line.new ≡ line.old ++ committed_words budget ring promise }
-    ensures room { length line.new ≤ length line.old + 120 }
+/// A promise, as a sentence.
+fn sentence_of(budget: u32, ring: u64, promise: Promise, end: u64) -> Sentence
+    ensures bytes { sentence_words result ≡ promise_words budget ring promise end }
+    ensures room { sentence_room result ≤ 120 }
 {
     match promise {
-        Promise::By(step) => push_step(line, step, budget, step <= u64::from(budget)),
-        Promise::Nothing(cause) => push_nothing(line, ring, cause),
+        Promise::By(step) => sentence_of_step(step, budget, step < end),
+        Promise::Nothing(cause) => sentence_of_cause(ring, cause),
     }
 }
 
-/// Each has finished by a step below it.
-fn push_finished(line: &mut Line, budget: u32, ring: u64, promise: Promise)
-    requires { length line.old ≤ 20 }
-    ensures bytes { line.new ≡ line.old ++ finished_words budget ring promise }
-    ensures room { length line.new ≤ length line.old + 120 }
-{
-    match promise {
-        Promise::By(step) => push_step(line, step, budget, step < u64::from(budget)),
-        Promise::Nothing(cause) => push_nothing(line, ring, cause),
-    }
-}
-
-/// Adds by which step something is so, and whether the budget is enough for it.
-fn push_step(line: &mut Line, step: u64, budget: u32, is_enough: bool)
-    requires { length line.old ≤ 20 }
-    ensures bytes { line.new ≡ line.old ++ step_words step budget is_enough }
-    ensures room { length line.new ≤ length line.old + 120 }
-{
-    line.push(b" by step ");
-    line.push_number(step);
-    line.push(b", budget ");
-    line.push_number(u64::from(budget));
-    push_enough(line, is_enough);
-}
-
-/// Adds whether the budget is enough.
-fn push_enough(line: &mut Line, is_enough: bool)
-    requires { length line.old ≤ 80 }
-    ensures bytes { line.new ≡ line.old ++ enough_words is_enough }
-    ensures room { length line.new ≤ length line.old + 20 }
+/// By which step something is so, and whether the budget is enough for it.
+fn sentence_of_step(step: u64, budget: u32, is_enough: bool) -> Sentence
+    ensures bytes { sentence_words result ≡ step_words step budget is_enough }
+    ensures room { sentence_room result ≤ 120 }
 {
     if is_enough {
-        line.push(b" is enough")
+        Sentence::Two(
+            b" by step #, budget # is enough",
+            Value::Long(step),
+            Value::Wide(budget),
+        )
     } else {
-        line.push(b" is too small")
+        Sentence::Two(
+            b" by step #, budget # is too small",
+            Value::Long(step),
+            Value::Wide(budget),
+        )
     }
 }
 
-/// Adds why nothing is promised, if a ring of this many places has one for each entry.
-fn push_nothing(line: &mut Line, ring: u64, cause: Cause)
-    requires { length line.old ≤ 20 }
-    ensures bytes { line.new ≡ line.old ++ nothing_words ring cause }
-    ensures room { length line.new ≤ length line.old + 120 }
-{
-    line.push(b": not promised, ");
-    push_cause(line, ring, cause);
-}
-
-fn push_cause(line: &mut Line, ring: u64, cause: Cause)
-    requires { length line.old ≤ 40 }
-    ensures bytes { line.new ≡ line.old ++ cause_words ring cause }
-    ensures room { length line.new ≤ length line.old + 100 }
+/// Why nothing is promised, if a ring of this many places has one for each entry.
+fn sentence_of_cause(ring: u64, cause: Cause) -> Sentence
+    ensures bytes { sentence_words result ≡ cause_words ring cause }
+    ensures room { sentence_room result ≤ 120 }
 {
     match cause {
-        Cause::HalfStopped => line.push(b"half of the replicas are stopped"),
-        Cause::Paused => line.push(b"a line pauses"),
-        Cause::PausedInSmallRing => {
-            line.push(b"a line pauses and the ring is below ");
-            line.push_number(ring);
-        }
-        Cause::StoppedInSmallRing => {
-            line.push(b"a line stops, the ring is below ");
-            line.push_number(ring);
-            line.push(b", version 1");
-        }
+        Cause::HalfStopped => Sentence::Plain(
+            b": not promised, lines stop half of the replicas or more",
+        ),
+        Cause::Paused => Sentence::Plain(b": not promised, a line pauses a replica"),
+        Cause::PausedInSmallRing => Sentence::One(
+            b": not promised, a line pauses a replica, and the ring is below #",
+            Value::Long(ring),
+        ),
+        Cause::StoppedInSmallRing => Sentence::One(
+            b": not promised, a line stops a replica in version 1, and the ring is below #",
+            Value::Long(ring),
+        ),
     }
 }

@@ -17,97 +17,99 @@ fn sentence_of(reason: Reason) -> Sentence
     ensures room { sentence_room result ≤ 156 }
 {
     match reason {
-        Reason::Budget { steps } => Sentence::OneThen(
-            b"all ",
+        Reason::Budget { steps } => Sentence::One(
+            b"all # steps of the budget are made",
             Value::Wide(steps),
-            b" steps of the budget are made",
         ),
         Reason::NoReplica { replica } => Sentence::One(
-            b"there is no replica ",
+            b"there is no replica #",
             Value::Byte(replica),
         ),
-        Reason::NoRegion { region } => Sentence::One(b"there is no region ", Value::Byte(region)),
+        Reason::NoRegion { region } => Sentence::One(b"there is no region #", Value::Byte(region)),
         Reason::OutOfTurn { region, asked } => Sentence::Two(
-            b"regions are asked in turn from 0 on, and region ",
+            b"regions are asked in turn from 0 on, and region # does not follow #",
             Value::Byte(region),
-            b" does not follow ",
             Value::Region(asked),
         ),
         Reason::NotBegun => Sentence::Plain(b"no leadership has begun: region 0 was not asked yet"),
-        Reason::NotGranted { region } => Sentence::OneThen(
-            b"no grant is noted: the last fence seen of region ",
+        Reason::NotGranted { region } => Sentence::One(
+            b"no grant is noted: the last fence seen of region # in the leadership does not \
+              name this replica as the owner, or is closing",
             Value::Byte(region),
-            b" in the leadership does not name this replica as the owner, or is closing",
         ),
         Reason::Over => Sentence::Plain(
-            b"the leadership is over: a put missed, an entering was lost, \
-              or it read a changed fence or a greater minimum",
+            b"the leadership is over: a put missed, an entering was lost, or it read a changed \
+              fence or a greater minimum",
         ),
         Reason::NoTarget => Sentence::Plain(b"an enter names a word"),
-        Reason::MinimumUnread { region } => Sentence::OneThen(
-            b"min of region ",
+        Reason::MinimumUnread { region } => Sentence::One(
+            b"min of region # was not read since its grant was seen",
             Value::Byte(region),
-            b" was not read since its grant was seen",
         ),
         Reason::Unconfirmed => Sentence::Plain(
             b"min was not read yet under the noted grants of a majority with the own region",
         ),
-        Reason::NotMember { region } => Sentence::OneThen(
-            b"region ",
+        Reason::NotMember { region } => Sentence::One(
+            b"region # is no member: no putmin landed there in the leadership",
             Value::Byte(region),
-            b" is no member: no putmin landed there in the leadership",
         ),
-        Reason::NoPlace { place } => Sentence::One(b"the ring has no place ", Value::Short(place)),
+        Reason::NoPlace { place } => Sentence::One(b"the ring has no place #", Value::Short(place)),
         Reason::NotEnteredForMinimum { region, entered } => Sentence::Two(
-            b"region ",
+            b"region # is not entered for min but for #",
             Value::Byte(region),
-            b" is not entered for min but for ",
             Value::Entered(entered),
         ),
         Reason::BelowMinimum { number, minimum } => Sentence::Two(
-            b"number ",
+            b"number # is below the min that was read, #",
             Value::Wide(number),
-            b" is below the min that was read, ",
             Value::Long(minimum),
         ),
         Reason::NotTheNumber {
             number,
-            own,
+            own: Some(_),
+            read: _,
+            put: _,
+            right,
+        } => Sentence::Two(
+            b"number # is not the one to put, #: that of the leadership",
+            Value::Wide(number),
+            Value::Own(right),
+        ),
+        Reason::NotTheNumber {
+            number,
+            own: None,
             read,
             put,
             right,
-        } => Sentence::Three(
-            b"number ",
+        } => Sentence::Four(
+            b"number # is not the one to put, #: the least from 8 on that is the replica modulo \
+              8 and above # read and # put",
             Value::Wide(number),
-            b" is not the one to put, ",
             Value::Own(right),
-            b": ",
-            Value::Why { own, read, put },
+            Value::Long(read),
+            Value::Wide(put),
         ),
         Reason::NoPosition { position, last } => Sentence::Two(
-            b"there is no position ",
+            b"there is no position #: the last one is #",
             Value::Short(position),
-            b": the last one is ",
             Value::Count(last),
         ),
-        Reason::NotReadable { region } => Sentence::OneThen(
-            b"region ",
+        Reason::NotReadable { region } => Sentence::One(
+            b"region # is not the own one, and no grant of it is noted",
             Value::Byte(region),
-            b" is not the own one, and no grant of it is noted",
         ),
         Reason::OutOfReach { region, position } => Sentence::Two(
-            b"no fuo of region ",
+            b"no fuo of region # was read or raised in the leadership from which the ring \
+              reaches position #",
             Value::Byte(region),
-            b" was read or raised in the leadership from which the ring reaches position ",
             Value::Short(position),
         ),
         Reason::NoQuorum => Sentence::Plain(
             b"the regions where a putmin landed in the leadership are no majority with the own one",
         ),
         Reason::OtherNumber { number, own } => Sentence::Two(
-            b"number ",
+            b"number # is not that of the leadership, #",
             Value::Wide(number),
-            b" is not that of the leadership, ",
             Value::Own(own),
         ),
         Reason::NotEntered {
@@ -115,34 +117,27 @@ fn sentence_of(reason: Reason) -> Sentence
             place,
             entered,
         } => Sentence::Three(
-            b"region ",
+            b"region # is not entered for place # but for #",
             Value::Byte(region),
-            b" is not entered for place ",
             Value::Short(place),
-            b" but for ",
             Value::Entered(entered),
         ),
-        Reason::NotLooked { region, position } => Sentence::Three(
-            b"position ",
+        Reason::NotLooked { region, position } => Sentence::Two(
+            b"position # of region # was not looked at before the enter, after the region \
+              became a member and after the last put in that place",
             Value::Short(position),
-            b" of region ",
             Value::Byte(region),
-            b" was not looked at before the enter, after the region became a member and",
-            Value::Words(b" after the last put in that place"),
         ),
-        Reason::Behind { region, position } => Sentence::TwoThen(
-            b"region ",
+        Reason::Behind { region, position } => Sentence::Two(
+            b"region # is not known to have position #: put the known value there first, or \
+              read its fuo",
             Value::Byte(region),
-            b" is not known to have position ",
             Value::Short(position),
-            b": put the known value there first, or read its fuo",
         ),
-        Reason::NotNext { position, known } => Sentence::TwoThen(
-            b"position ",
+        Reason::NotNext { position, known } => Sentence::Two(
+            b"position # holds another value or is not the next: # positions are known",
             Value::Short(position),
-            b" holds another value or is not the next: ",
             Value::Count(known),
-            b" positions are known",
         ),
         Reason::NoRoom {
             position,
@@ -150,44 +145,36 @@ fn sentence_of(reason: Reason) -> Sentence
             replica,
             head,
         } => Sentence::Four(
-            b"no room for position ",
+            b"no room for position # and # more: the last head of replica # that was read is #",
             Value::Short(position),
-            b" and ",
             Value::Byte(free),
-            b" more: the last head of replica ",
             Value::Byte(replica),
-            b" that was read is ",
             Value::Long(head),
         ),
-        Reason::PastSeen { region, position } => Sentence::TwoThen(
-            b"a look at position ",
+        Reason::PastSeen { region, position } => Sentence::Two(
+            b"a look at position # of region #, a member, was past in the leadership",
             Value::Short(position),
-            b" of region ",
             Value::Byte(region),
-            b", a member, was past in the leadership",
         ),
         Reason::OtherFirst {
             position,
             value,
             first,
         } => Sentence::Three(
-            b"value ",
+            b"value # is not the one put first at position # in the leadership, #",
             Value::Short(value),
-            b" is not the one put first at position ",
             Value::Short(position),
-            b" in the leadership, ",
             Value::Short(first),
         ),
         Reason::JoinedSince { position } => Sentence::One(
-            b"a region became a member after the first put at position ",
+            b"a region became a member after the first put at position #",
             Value::Short(position),
         ),
-        Reason::MemberNotLooked { region, position } => Sentence::TwoThen(
-            b"region ",
+        Reason::MemberNotLooked { region, position } => Sentence::Two(
+            b"region # is a member, and was not looked at in position # since the last region \
+              became one",
             Value::Byte(region),
-            b" is a member, and was not looked at in position ",
             Value::Short(position),
-            b" since the last region became one",
         ),
         Reason::OtherAccepted {
             position,
@@ -195,69 +182,55 @@ fn sentence_of(reason: Reason) -> Sentence
             number,
             accepted,
         } => Sentence::Four(
-            b"value ",
+            b"value # is not that of the entry of the largest number that the looks at position \
+              # show: entry # #",
             Value::Short(value),
-            b" is not that of the entry of the largest number that the looks at position ",
             Value::Short(position),
-            b" show: entry ",
             Value::Wide(number),
-            b" ",
             Value::Short(accepted),
         ),
-        Reason::NoBatch { value } => Sentence::OneThen(
-            b"value ",
+        Reason::NoBatch { value } => Sentence::One(
+            b"value # stands for no batch of the job, and for no mark that may be offered",
             Value::Short(value),
-            b" stands for no batch of the job, and for no mark that may be offered",
         ),
-        Reason::NotOwn { value } => Sentence::OneThen(
-            b"value ",
+        Reason::NotOwn { value } => Sentence::One(
+            b"value # is not 4096 times this replica and a row",
             Value::Short(value),
-            b" is not 4096 times this replica and a row",
         ),
-        Reason::NotWritten { value, row, word } => Sentence::ThreeThen(
-            b"word ",
+        Reason::NotWritten { value, row, word } => Sentence::Three(
+            b"word # of row # is not written, and value # stands for all words of its rows",
             Value::Byte(word),
-            b" of row ",
             Value::Short(row),
-            b" is not written, and value ",
             Value::Short(value),
-            b" stands for all words of its rows",
         ),
         Reason::NotNextOfClient {
             value,
             number,
             known,
-        } => Sentence::ThreeThen(
-            b"value ",
+        } => Sentence::Three(
+            b"value # begins with command # of its client, of which # are known",
             Value::Short(value),
-            b" begins with command ",
             Value::Short(number),
-            b" of its client, of which ",
             Value::Short(known),
-            b" are known",
         ),
-        Reason::NotKnown { fuo, known } => Sentence::TwoThen(
-            b"only ",
+        Reason::NotKnown { fuo, known } => Sentence::Two(
+            b"only # positions are known, fewer than #: put the value at every member first, or \
+              look at it below a fuo",
             Value::Count(known),
-            b" positions are known, fewer than ",
             Value::Short(fuo),
-            b": put the value at every member first, or look at it below a fuo",
         ),
-        Reason::NotFilled { region, position } => Sentence::TwoThen(
-            b"position ",
+        Reason::NotFilled { region, position } => Sentence::Two(
+            b"position # of region # is not known to be filled",
             Value::Short(position),
-            b" of region ",
             Value::Byte(region),
-            b" is not known to be filled",
         ),
-        Reason::OwnBeat { replica } => Sentence::OneThen(
-            b"replica ",
+        Reason::OwnBeat { replica } => Sentence::One(
+            b"replica # does not read its own beats",
             Value::Byte(replica),
-            b" does not read its own beats",
         ),
-        Reason::NoRow { row } => Sentence::One(b"the job has no row ", Value::Short(row)),
+        Reason::NoRow { row } => Sentence::One(b"the job has no row #", Value::Short(row)),
         Reason::NoWord { word } => Sentence::One(
-            b"a row has the words 0 to 11, and no word ",
+            b"a row has the words 0 to 11, and no word #",
             Value::Byte(word),
         ),
         Reason::OtherWord {
@@ -268,58 +241,45 @@ fn sentence_of(reason: Reason) -> Sentence
             client,
             number,
         } => Sentence::Six(
-            b"word ",
+            b"word # of row #, which is command #.# of the job, is # and not #",
             Value::Byte(word),
-            b" of row ",
             Value::Short(row),
-            b", which is command ",
             Value::Byte(client),
-            b".",
             Value::Short(number),
-            b" of the job, is ",
             Value::Long(spelled),
-            b" and not ",
             Value::Long(given),
         ),
-        Reason::Written { row, word } => Sentence::TwoThen(
-            b"word ",
+        Reason::Written { row, word } => Sentence::Two(
+            b"word # of row # is written already",
             Value::Byte(word),
-            b" of row ",
             Value::Short(row),
-            b" is written already",
         ),
-        Reason::NoWriter { value } => Sentence::OneThen(
-            b"value ",
+        Reason::NoWriter { value } => Sentence::One(
+            b"value # names no replica of the job: it is 4096 times a replica, and a row",
             Value::Short(value),
-            b" names no replica of the job: it is 4096 times a replica, and a row",
         ),
         Reason::NoRowWord {
             head,
             applied,
             value,
             word,
-        } => Sentence::FourThen(
-            b"only ",
+        } => Sentence::Four(
+            b"only # entries are applied, fewer than #: word # of value # is neither written \
+              nor read",
             Value::Count(applied),
-            b" entries are applied, fewer than ",
             Value::Short(head),
-            b": word ",
             Value::Byte(word),
-            b" of value ",
             Value::Short(value),
-            b" is neither written nor read",
         ),
-        Reason::NotApplied { head, applied } => Sentence::TwoThen(
-            b"only ",
+        Reason::NotApplied { head, applied } => Sentence::Two(
+            b"only # entries are applied, fewer than #: put the next one at every member first, \
+              or look at it below a fuo",
             Value::Count(applied),
-            b" entries are applied, fewer than ",
             Value::Short(head),
-            b": put the next one at every member first, or look at it below a fuo",
         ),
-        Reason::NotReached { head } => Sentence::OneThen(
-            b"no fuo of the own region of at least ",
+        Reason::NotReached { head } => Sentence::One(
+            b"no fuo of the own region of at least # was read or raised",
             Value::Short(head),
-            b" was read or raised",
         ),
         Reason::Closing => Sentence::Plain(b"the fence is closed already"),
         Reason::NobodyWaits => Sentence::Plain(
@@ -336,9 +296,8 @@ fn sentence_of(reason: Reason) -> Sentence
             b"the word that the closed fence named is not drained",
         ),
         Reason::NotLeastWaiting { replica, least } => Sentence::Two(
-            b"replica ",
+            b"replica # is not the least whose ask was read and is not served: that is #",
             Value::Byte(replica),
-            b" is not the least whose ask was read and is not served: that is ",
             Value::Region(least),
         ),
     }

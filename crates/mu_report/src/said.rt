@@ -159,8 +159,8 @@ impl From<ReadEnd> for Said {
     }
 }
 
-/// Writes the text of what is said, each line in one call if the sink takes it whole, and of the
-/// events of a trace up to 256 lines in one. Takes no memory.
+/// Writes the text of what is said, in pieces of 32 KiB but for at most a line: only the last is
+/// smaller. Takes no memory.
 ///
 /// # Errors
 ///
@@ -200,7 +200,7 @@ pub fn print_counted<K: Sink>(sink: &mut K, said: &Said) -> Result<usize, WriteF
 {
     let mut printer = SinkPrinter::new(sink);
     print_said(&mut printer, said);
-    printer.taken()
+    printer.finish()
 }
 
 /// Prints what is said.

@@ -1,8 +1,7 @@
-//! Sentences of texts and values in turn, and the way of one to a line.
-ghost use Rattle.std.specs.Prelude.{◌≡◌, ◌+◌, ◌≤◌, ◌++◌, length};
+//! Sentences with places for values, and the way of one to a line.
+ghost use Rattle.std.specs.Prelude.{◌≡◌, ◌+◌, ◌≤◌, ℕ, List, ◌∷◌, ◌++◌, length, map};
 ghost use Rattle.mu_report.specs.declared.line.TheConstants.{LINE_BYTES};
-ghost use Rattle.mu_report.specs.Reasons.{entered_words, number_or_none, number_words};
-ghost use Rattle.mu_report.specs.Sentences.{leads_words, sentence_room, sentence_words, value_room, value_words};
+ghost use Rattle.mu_report.specs.Sentences.{entered_words, leads_words, number_or_none, rooms_of, sentence, sentence_room, sentence_words, value_room, value_words};
 
 use crate::line::Line;
 use mu_events::push_answer;
@@ -28,82 +27,32 @@ pub(crate) enum Value {
     Own(Option<u32>),
     /// What a region is entered for.
     Entered(Option<Target>),
-    /// How the number to put comes about.
-    Why {
-        /// The number of the leadership, if it has one.
-        own: Option<u32>,
-        /// The greatest minimum read in the leadership.
-        read: u64,
-        /// The greatest number that the replica ever put.
-        put: u32,
-    },
-    /// More words.
-    Words(&'static [u8]),
     /// A fence, as a replica sees it.
     Seen(Fence),
     /// What a leadership has come to.
     Leads(Leads),
 }
 
-/// A sentence, by how many values it has: words and values in turn, and words at the end or none.
+/// Stands in the words of a sentence for its next value.
+const PLACE: u8 = b'#';
+
+/// A sentence, by how many values it has: words with a # for each, and the values in their order.
 #[derive(Clone, Copy)]
 pub(crate) enum Sentence {
     /// Only words.
     Plain(&'static [u8]),
-    /// One value, at the end.
+    /// One value.
     One(&'static [u8], Value),
-    /// One value and words after it.
-    OneThen(&'static [u8], Value, &'static [u8]),
     /// Two values.
-    Two(&'static [u8], Value, &'static [u8], Value),
-    /// Two values and words after them.
-    TwoThen(&'static [u8], Value, &'static [u8], Value, &'static [u8]),
+    Two(&'static [u8], Value, Value),
     /// Three values.
-    Three(&'static [u8], Value, &'static [u8], Value, &'static [u8], Value),
-    /// Three values and words after them.
-    ThreeThen(&'static [u8], Value, &'static [u8], Value, &'static [u8], Value, &'static [u8]),
+    Three(&'static [u8], Value, Value, Value),
     /// Four values.
-    Four(&'static [u8], Value, &'static [u8], Value, &'static [u8], Value, &'static [u8], Value),
-    /// Four values and words after them.
-    FourThen(
-        &'static [u8],
-        Value,
-        &'static [u8],
-        Value,
-        &'static [u8],
-        Value,
-        &'static [u8],
-        Value,
-        &'static [u8],
-    ),
+    Four(&'static [u8], Value, Value, Value, Value),
     /// Five values.
-    Five(
-        &'static [u8],
-        Value,
-        &'static [u8],
-        Value,
-        &'static [u8],
-        Value,
-        &'static [u8],
-        Value,
-        &'static [u8],
-        Value,
-    ),
+    Five(&'static [u8], Value, Value, Value, Value, Value),
     /// Six values.
-    Six(
-        &'static [u8],
-        Value,
-        &'static [u8],
-        Value,
-        &'static [u8],
-        Value,
-        &'static [u8],
-        Value,
-        &'static [u8],
-        Value,
-        &'static [u8],
-        Value,
-    ),
+    Six(&'static [u8], Value, Value, Value, Value, Value, Value),
 }
 
 /// Adds what a region is entered for.
@@ -147,24 +96,6 @@ fn push_own(line: &mut Line, own: Option<u32>)
     }
 }
 
-/// Adds how the number to put comes about.
-fn push_why_number(line: &mut Line, own: Option<u32>, read: u64, put: u32)
-    requires { length line.old + 110 ≤ LINE_BYTES }
-    ensures bytes { line.new ≡ line.old ++ number_words own read put }
-    ensures room { length line.new ≤ length line.old + 103 }
-{
-    match own {
-        Some(_) => line.push(b"that of the leadership"),
-        None => {
-            line.push(b"the least from 8 on that is the replica modulo 8 and above ");
-            line.push_number(read);
-            line.push(b" read and ");
-            line.push_number(u64::from(put));
-            line.push(b" put");
-        }
-    }
-}
-
 /// Adds what a leadership has come to.
 fn push_leads(line: &mut Line, leads: Leads)
     requires { length line.old + 37 ≤ LINE_BYTES }
@@ -184,9 +115,9 @@ fn push_leads(line: &mut Line, leads: Leads)
 
 /// Adds a value.
 fn push_value(line: &mut Line, value: Value)
-    requires { length line.old + value_room value + 20 ≤ LINE_BYTES }
+    requires { length line.old + value_room value + 21 ≤ LINE_BYTES }
     ensures bytes { line.new ≡ line.old ++ value_words value }
-    ensures room { length line.new ≤ length line.old + value_room value }
+    ensures room { length line.new ≤ length line.old + value_room value + 1 }
 {
     match value {
         Value::Byte(number) => line.push_number(u64::from(number)),
@@ -197,21 +128,46 @@ fn push_value(line: &mut Line, value: Value)
         Value::Region(region) => push_region(line, region),
         Value::Own(own) => push_own(line, own),
         Value::Entered(entered) => push_entered(line, entered),
-        Value::Why { own, read, put } => push_why_number(line, own, read, put),
-        Value::Words(words) => line.push(words),
         Value::Seen(fence) => push_answer(line, &Answer::Seen(fence)),
         Value::Leads(leads) => push_leads(line, leads),
     }
 }
 
-/// Adds words and a value.
-fn push_pair(line: &mut Line, words: &[u8], value: Value)
-    requires { length line.old + length words.now + value_room value + 20 ≤ LINE_BYTES }
-    ensures bytes { line.new ≡ line.old ++ (words.now ++ value_words value) }
-    ensures room { length line.new ≤ length line.old + length words.now + value_room value }
+/// Adds a byte, or the next value in its place, and answers the values after it.
+fn push_next<'v>(line: &mut Line, byte: u8, values: &'v [Value]) -> &'v [Value]
+    requires { length line.old + rooms_of values.now + 21 ≤ LINE_BYTES }
+    ensures bytes { (words : List ℕ)
+        → line.old ++ sentence (byte ∷ words) (map value_words values.now)
+        ≡ line.new ++ sentence words (map value_words result.now) }
+    ensures room { length line.new + rooms_of result.now
+        ≤ length line.old + rooms_of values.now + 1 }
 {
-    line.push(words);
-    push_value(line, value);
+    if byte != PLACE {
+        line.push_byte(byte);
+        return values;
+    }
+    match values.split_first() {
+        Some((value, rest)) => {
+            push_value(line, *value);
+            rest
+        }
+        None => {
+            line.push_byte(byte);
+            values
+        }
+    }
+}
+
+/// Adds words, with values in place of each #, in turn.
+fn push_words(line: &mut Line, words: &[u8], values: &[Value])
+    requires { length line.old + length words.now + rooms_of values.now + 20 ≤ LINE_BYTES }
+    ensures bytes { line.new ≡ line.old ++ sentence words.now (map value_words values.now) }
+    ensures room { length line.new ≤ length line.old + length words.now + rooms_of values.now }
+{
+    let mut left = values;
+    for byte in words {
+        left = push_next(line, *byte, left);
+    }
 }
 
 /// Adds a sentence.
@@ -222,58 +178,11 @@ pub(crate) fn push_sentence(line: &mut Line, sentence: Sentence)
 {
     match sentence {
         Sentence::Plain(words) => line.push(words),
-        Sentence::One(a, v) => push_pair(line, a, v),
-        Sentence::OneThen(a, v, end) => {
-            push_pair(line, a, v);
-            line.push(end);
-        }
-        Sentence::Two(a, v, b, w) => {
-            push_pair(line, a, v);
-            push_pair(line, b, w);
-        }
-        Sentence::TwoThen(a, v, b, w, end) => {
-            push_pair(line, a, v);
-            push_pair(line, b, w);
-            line.push(end);
-        }
-        Sentence::Three(a, v, b, w, c, x) => {
-            push_pair(line, a, v);
-            push_pair(line, b, w);
-            push_pair(line, c, x);
-        }
-        Sentence::ThreeThen(a, v, b, w, c, x, end) => {
-            push_pair(line, a, v);
-            push_pair(line, b, w);
-            push_pair(line, c, x);
-            line.push(end);
-        }
-        Sentence::Four(a, v, b, w, c, x, d, y) => {
-            push_pair(line, a, v);
-            push_pair(line, b, w);
-            push_pair(line, c, x);
-            push_pair(line, d, y);
-        }
-        Sentence::FourThen(a, v, b, w, c, x, d, y, end) => {
-            push_pair(line, a, v);
-            push_pair(line, b, w);
-            push_pair(line, c, x);
-            push_pair(line, d, y);
-            line.push(end);
-        }
-        Sentence::Five(a, v, b, w, c, x, d, y, e, z) => {
-            push_pair(line, a, v);
-            push_pair(line, b, w);
-            push_pair(line, c, x);
-            push_pair(line, d, y);
-            push_pair(line, e, z);
-        }
-        Sentence::Six(a, v, b, w, c, x, d, y, e, z, f, last) => {
-            push_pair(line, a, v);
-            push_pair(line, b, w);
-            push_pair(line, c, x);
-            push_pair(line, d, y);
-            push_pair(line, e, z);
-            push_pair(line, f, last);
-        }
+        Sentence::One(words, a) => push_words(line, words, &[a]),
+        Sentence::Two(words, a, b) => push_words(line, words, &[a, b]),
+        Sentence::Three(words, a, b, c) => push_words(line, words, &[a, b, c]),
+        Sentence::Four(words, a, b, c, d) => push_words(line, words, &[a, b, c, d]),
+        Sentence::Five(words, a, b, c, d, e) => push_words(line, words, &[a, b, c, d, e]),
+        Sentence::Six(words, a, b, c, d, e, f) => push_words(line, words, &[a, b, c, d, e, f]),
     }
 }

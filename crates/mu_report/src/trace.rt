@@ -1,11 +1,12 @@
 //! The trace of a replay: its job, and its events in their order.
-ghost use Rattle.std.specs.Prelude.{◌≡◌, ◌+◌, ◌<◌, []};
+ghost use Rattle.std.specs.Prelude.{◌≡◌, ◌+◌, ◌<◌, [], map};
 ghost use Rattle.mu_outcome.specs.AllEvents.{HasEvents};
-ghost use Rattle.mu_report.specs.Trace.{batch_lines, setting_lines, client_count, command_lines, commands_lines, client_lines, stop_line, pause_line, has_lines as has_lines_of, script_lines, events_of as events_of_order, trace_lines};
+ghost use Rattle.mu_report.specs.Trace.{event_line as event_line_of, batch_lines, setting_lines, client_count, command_lines, commands_lines, client_lines, stop_line, pause_line, has_lines as has_lines_of, script_lines, events_of as events_of_order, trace_lines};
 
 use crate::line::{HasLine, Line, print_each, print_numbered, print_words};
 use crate::printer::Printer;
 use kv_store::Command;
+use mu_events::event_line;
 use mu_input::op_line;
 use mu_model::{Config, Event, Pause, Script, Stop};
 use mu_outcome::{AllEvents, Outcome};
@@ -21,8 +22,17 @@ pub fn print_trace<P: Printer>(out: &mut P, outcome: &Outcome)
     print_clients(out, commands, count);
     print_script(out, &outcome.job.script);
     print_words(out, b"end");
-    out.print_events(events_of(outcome));
+    print_events(out, events_of(outcome));
     print_words(out, b"end");
+}
+
+/// Prints events, a line each.
+fn print_events<P: Printer>(out: &mut P, events: &[Event])
+    ensures { P.Prints out.old (map event_line_of events.now) out.new }
+{
+    for event in events {
+        out.print_line(event_line(event));
+    }
 }
 
 /// The events in their order, and none if only the parts of threads are given.

@@ -45,10 +45,10 @@ fn source_of(alloc: Global, input: &[&str], failing_read: u32) -> Result<MemSour
     Ok(MemSource::new(bytes_of(alloc, input)?, PIECE, fails))
 }
 
-/// A sink that fails at one write (0 for none).
+/// A sink whose writes take at most 100 bytes, and which fails at one (0 for none).
 fn sink_of(alloc: Global, failing_write: u32) -> Result<MemSink, AllocError> {
     let fails = vec![in alloc; failing_write]?;
-    Ok(MemSink::new(vec![in alloc; 0; ROOM]?, ROOM, fails))
+    Ok(MemSink::new(vec![in alloc; 0; ROOM]?, 100, fails))
 }
 
 /// The status of the top call, and how many bytes the sink took.

@@ -142,10 +142,10 @@ pub fn enough(out: &mut Vec<u8>, job: &Job) -> u8 {
 /// A number, or a text with the room that it names.
 type Promise = Result<u64, &'static str>;
 
-const HALF: &str = "half of the replicas are stopped";
-const PAUSED: &str = "a line pauses";
-const PAUSED_BELOW: &str = "a line pauses and the ring is below ROOM";
-const STOPPED_BELOW: &str = "a line stops, the ring is below ROOM, version 1";
+const HALF: &str = "lines stop half of the replicas or more";
+const PAUSED: &str = "a line pauses a replica";
+const PAUSED_BELOW: &str = "a line pauses a replica, and the ring is below ROOM";
+const STOPPED_BELOW: &str = "a line stops a replica in version 1, and the ring is below ROOM";
 
 fn committed(counts: &Counts, lines: &Lines, is_roomy: bool, version: u8) -> Promise {
     match (is_roomy, lines.has_pause) {

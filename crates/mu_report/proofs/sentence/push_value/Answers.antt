@@ -25,12 +25,6 @@ returns-in-Own-clause-bytes c = rw c.in-Own.is (rw c.push_own.ensures.bytes refl
 pub returns-in-Entered-clause-bytes : goal.returns-in-Entered-clause-bytes
 returns-in-Entered-clause-bytes c = rw c.in-Entered.is (rw c.push_entered.ensures.bytes refl)
 
-pub returns-in-Why-clause-bytes : goal.returns-in-Why-clause-bytes
-returns-in-Why-clause-bytes c = rw c.in-Why.is (rw c.push_why_number.ensures.bytes refl)
-
-pub returns-in-Words-clause-bytes : goal.returns-in-Words-clause-bytes
-returns-in-Words-clause-bytes c = rw c.in-Words.is (rw c.push.ensures.bytes refl)
-
 pub returns-in-Seen-clause-bytes : goal.returns-in-Seen-clause-bytes
 returns-in-Seen-clause-bytes c = rw c.in-Seen.is (rw c.push_answer.ensures.bytes refl)
 
