@@ -11,5 +11,6 @@ mod showing;
 mod straying;
 
 pub use account::account_of;
+pub use replies::replies_over;
 pub use showing::moment_of;
 pub use straying::strays_of;

@@ -37,7 +37,7 @@ fn replies_of(alloc: Global, commands: &[Command]) -> Result<Replies, NoMemory>
 /// # Errors
 ///
 /// Only for want of memory.
-pub(crate) fn replies_over(alloc: Global, job: &Job, log: &[u16]) -> Result<Replies, NoMemory>
+pub fn replies_over(alloc: Global, job: &Job, log: &[u16]) -> Result<Replies, NoMemory>
     ensures { IfOk result (λ replies. replies ≡ replies_to (commands_in_log job.now log.now)) }
 {
     let commands = commands_in(alloc, job, log)?;

@@ -9,6 +9,7 @@ use Rattle.mu_report.specs.declared.said.Said.{Said}
 use Rattle.mu_report.specs.Said.{text}
 use Rattle.mu_report.specs.Statuses.{status_for}
 use Rattle.mu_shell.specs.Written.{Wrote}
+use Rattle.mu_top.specs.Attesting.{AttestsOf}
 use Rattle.mu_top.specs.Commands.{Books, Lives, Replays, ReplaysEagerly, Runs, Sums, Traces, TracesEagerly}
 use Rattle.mu_top.specs.Desks.{Desks}
 use Rattle.mu_top.specs.Promising.{TellsEnough}
@@ -28,6 +29,7 @@ Does Task.Check bytes said = SaysOf bytes said
 Does Task.Why bytes said = NotesOf bytes said
 Does Task.Tell bytes said = TellsOfTrace bytes said
 Does (Task.Show count) bytes said = ShowsOf count bytes said
+Does Task.Attest bytes said = AttestsOf bytes said
 Does Task.Desk bytes said = Desks bytes said
 Does Task.Book bytes said = Books bytes said
 Does (Task.Live readers) bytes said = Lives readers bytes said

@@ -1,4 +1,5 @@
 pub mod Answers
+pub mod Attesting
 pub mod Commands
 pub mod Desks
 pub mod OneThread

@@ -7,6 +7,7 @@ ghost use Rattle.mu_top.specs.Answers.{Does, TellsOf};
 ghost use Rattle.mu_top.specs.Words.{limit_of};
 
 use crate::asking::INPUT_LIMIT;
+use crate::attesting::told_of_attest;
 use crate::booking::told_of_book;
 use crate::replaying::told_of_replay;
 use crate::tracing::told_of_trace;
@@ -30,6 +31,8 @@ pub enum Alone {
     Tell,
     /// `show` with this number.
     Show(u32),
+    /// `attest`.
+    Attest,
     /// `book`.
     Book,
 }
@@ -46,6 +49,7 @@ impl Alone {
             Alone::Why => TRACE_LIMIT,
             Alone::Tell => TRACE_LIMIT,
             Alone::Show(_) => TRACE_LIMIT,
+            Alone::Attest => TRACE_LIMIT,
             Alone::Book => INPUT_LIMIT,
         }
     }
@@ -75,6 +79,7 @@ fn told_within(alloc: Global, task: Alone, bytes: &[u8]) -> Said
         Alone::Why => explain_trace(alloc, bytes),
         Alone::Tell => tell_trace(alloc, bytes),
         Alone::Show(count) => show_trace(alloc, bytes, count),
+        Alone::Attest => told_of_attest(alloc, bytes),
         Alone::Book => told_of_book(alloc, bytes),
     }
 }

@@ -4,6 +4,7 @@
 
 mod alone;
 mod asking;
+mod attesting;
 mod booking;
 mod eager;
 mod living;

@@ -8,6 +8,7 @@ ghost use Rattle.mu_top.specs.Answers.{Does, Tells, TellsOf};
 ghost use Rattle.mu_top.specs.Words.{asked_of as asked_of_words, limit_of, HasReaders, IsInReach};
 
 use crate::asking::{Asked, Task, asked_of};
+use crate::attesting::told_of_attest;
 use crate::booking::told_of_book;
 use crate::eager::{told_of_eager, told_of_eager_trace};
 use crate::living::told_of_live;
@@ -35,8 +36,8 @@ use std::time::Clock;
 /// last one. Before each turn of `run`, before each command that comes to a `desk`, and before each
 /// publishing and get of `live` the gate is called.
 ///
-/// The words are `replay`, `eager`, `run`, `trace`, `enough`, `check`, `why`, `tell`, `desk` or
-/// `book`, with nothing after it, `show`, `bulk` or `live` with a number, or `eager trace`.
+/// The words are `replay`, `eager`, `run`, `trace`, `enough`, `check`, `why`, `tell`, `attest`,
+/// `desk` or `book`, with nothing after it, `show`, `bulk` or `live` with a number, or `eager trace`.
 pub fn mu<R: Threads + Wait + Clock + Sync, S: Source, K: Sink, G: Gate + Sync>(
     rt: &R,
     alloc: Global,
@@ -140,6 +141,7 @@ fn told_of_bytes<R: Threads + Wait + Clock + Sync, G: Gate + Sync>(
         Task::Why => explain_trace(alloc, bytes),
         Task::Tell => tell_trace(alloc, bytes),
         Task::Show(count) => show_trace(alloc, bytes, count),
+        Task::Attest => told_of_attest(alloc, bytes),
         Task::Desk => told_of_desk(rt, alloc, bytes, gate),
         Task::Book => told_of_book(alloc, bytes),
         Task::Live(readers) => told_of_live(rt, alloc, bytes, readers, gate),

@@ -1,0 +1,127 @@
+-- What is known of a trace whose items are judged as they are read.
+use Rattle.std.proofs.Common.{◌≡◌, ℕ, ◌+◌, ◌-◌, ◌<◌, ◌≤◌, ◌^◌, List, [], ◌∷◌, ◌++◌, length, take, refl, sym, ap, subst, ◌∙◌, append_assoc, append-nil, arith, Some, None}
+use Rattle.std.proofs.Math.Seq.{take-append_seam}
+use Rattle.std.proofs.lemmas.List.{length-reverse, length_push, reverse-append}
+use Rattle.std.specs.List.{slice_get}
+use Rattle.kv_store.specs.declared.store.Reply.{Reply}
+use Rattle.std.specs.declared.option.Option.{Option}
+use Rattle.mu_attest.specs.Attestors.{CountsItems, FlawOfReply, StandsForAttestor, StaysOrTakes}
+use Rattle.mu_attest.specs.Attests.{IsRight, IsWrong}
+use Rattle.mu_attest.specs.Traces.{AttestedTrace, GivesItem, HasFew, OpensItems, attested_trace, items_with, job_lines, of_items}
+use Rattle.mu_attest.specs.declared.attestor.Attestor.{Attestor}
+use Rattle.mu_clients.proofs.Telling.{attested_agree, attested_in_time}
+use Rattle.mu_clients.specs.Attested.{IsAttested, IsAttestedBack, IsFlaw, events_in, items_back, reply_by, rows_got}
+use Rattle.mu_clients.specs.declared.items.Attested.{Attested}
+use Rattle.mu_clients.specs.declared.items.Flaw.{Flaw}
+use Rattle.mu_clients.specs.declared.items.Flawed.{Flawed}
+use Rattle.mu_clients.specs.declared.items.Item.{Item}
+use Rattle.mu_input.specs.Readings.{Fits, Reading}
+use Rattle.mu_input.specs.declared.job.Job.{Job}
+use Rattle.mu_model.proofs.Budgets.{short_history}
+use Rattle.mu_model.proofs.Lists.{get_front, get_push_here}
+use Rattle.mu_model.specs.Contents.{IsConfig, row_count}
+use Rattle.mu_model.specs.Legal.{IsLegalHistory}
+use Rattle.mu_text.specs.Lines.{Left, lines}
+
+-- some items were read and are attested, and the states are those that they lead to
+pub record HasAttested (bytes : List ℕ) (job : Job) (first : ℕ) (left : Left) (attestor : Attestor) : Type 0 where
+  pub past : List Item
+  pub reading : attested_trace bytes ≡ of_items job (items_with job.config.replicas (row_count job.config) past left)
+  pub opens : first ≡ length (job_lines (lines bytes)) + 1
+  pub number : left.number ≡ first + length past
+  pub stands : StandsForAttestor job (items_back past) attestor
+
+pub back_push : (past : List Item) (item : Item) → items_back (past ++ item ∷ []) ≡ item ∷ items_back past
+back_push past item = reverse-append past (item ∷ [])
+
+-- no item was read yet
+pub attested_none : (bytes : List ℕ) (job : Job) (left : Left) (attestor : Attestor) → OpensItems bytes job left → StandsForAttestor job [] attestor → HasAttested bytes job left.number left attestor
+attested_none bytes job left attestor opens stands = record {
+  past = [];
+  reading = opens.reading;
+  opens = opens.number;
+  number = omega arith;
+  stands = stands;
+}
+
+-- one more that may come
+pub attested_more : (bytes : List ℕ) (job : Job) (first : ℕ) (left next : Left) (old new : Attestor) (item : Item) → (held : HasAttested bytes job first left old)
+    → items_with job.config.replicas (row_count job.config) held.past left ≡ items_with job.config.replicas (row_count job.config) (held.past ++ item ∷ []) next → next.number ≡ left.number + 1
+    → StandsForAttestor job (item ∷ items_back held.past) new → HasAttested bytes job first next new
+attested_more bytes job first left next old new item held gives count stands = record {
+  past = held.past ++ item ∷ [];
+  reading = held.reading ∙ ap (of_items job) gives;
+  opens = held.opens;
+  number = (let one = length_push held.past item in let were = held.number in omega (arith, one, were, count));
+  stands = subst (λ l. StandsForAttestor job l new) (sym (back_push held.past item)) stands;
+}
+
+-- all of them are right
+pub attested_all : (bytes : List ℕ) (job : Job) (first : ℕ) (left : Left) (attestor : Attestor) (counts : Attested) → (held : HasAttested bytes job first left attestor)
+    → items_with job.config.replicas (row_count job.config) held.past left ≡ Fits held.past → CountsItems (items_back held.past) counts → IsRight bytes counts
+attested_all bytes job first left attestor counts held gives are = record {
+  spelled = record { job = job; items = held.past };
+  fits = held.reading ∙ ap (of_items job) gives;
+  attested = held.stands.attested;
+  events = are.events;
+  gots = are.gots;
+  all = are.all ∙ length-reverse held.past;
+  agree = attested_agree job held.past held.stands.attested;
+  in_time = attested_in_time job held.past held.stands.attested;
+}
+
+-- one that is wrong, whatever comes behind it
+pub attested_to : (bytes : List ℕ) (job : Job) (first : ℕ) (left next : Left) (attestor : Attestor) (flawed : Flawed) (more : List Item) → (held : HasAttested bytes job first left attestor)
+    → items_with job.config.replicas (row_count job.config) held.past left ≡ items_with job.config.replicas (row_count job.config) (held.past ++ flawed.item ∷ []) next
+    → items_with job.config.replicas (row_count job.config) (held.past ++ flawed.item ∷ []) next ≡ Fits (held.past ++ flawed.item ∷ [] ++ more)
+    → IsFlaw job (items_back held.past) flawed.item flawed.flaw → flawed.line ≡ left.number → flawed.line ≡ first + flawed.index → flawed.events ≡ length (events_in (items_back held.past)) → IsWrong bytes flawed
+attested_to bytes job first left next attestor flawed more held gives rest flaw line place events =
+    let were = held.number in
+    let opens = held.opens in
+    let at : flawed.index ≡ length held.past = omega (arith, were, line, place) in
+    let front : take flawed.index (held.past ++ flawed.item ∷ [] ++ more) ≡ held.past =
+    ap (λ n. take n (held.past ++ flawed.item ∷ [] ++ more)) at ∙ ap (take (length held.past)) (append_assoc held.past (flawed.item ∷ []) more) ∙ take-append_seam held.past (flawed.item ∷ more) in
+    record {
+      spelled = record { job = job; items = held.past ++ flawed.item ∷ [] ++ more };
+      fits = held.reading ∙ ap (of_items job) (gives ∙ rest);
+      there = get_front (held.past ++ flawed.item ∷ []) more flawed.index flawed.item (get_push_here held.past flawed.index flawed.item at);
+      before = subst (λ l. IsAttested job l) (sym front) held.stands.attested;
+      flaw = subst (λ l. IsFlaw job (items_back l) flawed.item flawed.flaw) (sym front) flaw;
+      events = events ∙ ap (λ l. length (events_in (items_back l))) (sym front);
+      line = omega (arith, line, were, at, opens, place);
+    }
+
+-- fewer events came than a legal list may have
+pub few_events : (job : Job) (past : List Item) (attestor : Attestor) → IsConfig job.config → StandsForAttestor job past attestor → length (events_in past) ≤ 917497
+few_events job past attestor good stands = short_history job.config (events_in past) stands.judge.legal good.replicas.1 good.budget.1
+
+-- each item is an event, a command that was got, or a reply
+pub counts_fit : (past : List Item) → length (events_in past) + length (rows_got past) ≤ length past
+counts_fit [] = omega arith
+counts_fit (Item.Event event ∷ past) = let rest = counts_fit past in omega (arith, rest)
+counts_fit (Item.Got row ∷ past) = let rest = counts_fit past in let one = length_push (rows_got past) row in omega (arith, rest, one)
+counts_fit (Item.Told by row reply ∷ past) = let rest = counts_fit past in omega (arith, rest)
+
+-- a reply that was told is right, or this is wrong with it
+pub told_judged : (job : Job) (past : List Item) (by row : ℕ) (reply : Reply) (right : Option Reply) (flaw : Option Flaw) (attestor : Attestor) → right ≡ reply_by job by (events_in past) row → FlawOfReply right reply flaw
+    → StandsForAttestor job past attestor → StaysOrTakes job past (Item.Told by row reply) attestor flaw
+told_judged job past by row reply right None attestor is judged held = record {
+  attested = (held.attested, sym is ∙ judged);
+  judge = held.judge;
+  walk = held.walk;
+  got = held.got;
+  put = held.put;
+  events = held.events;
+}
+told_judged job past by row reply right (Some (Flaw.Fault fault)) attestor is judged held = absurd judged
+told_judged job past by row reply right (Some Flaw.GotBefore) attestor is judged held = absurd judged
+told_judged job past by row reply right (Some Flaw.PutBefore) attestor is judged held = absurd judged
+told_judged job past by row reply right (Some Flaw.NotApplied) attestor is judged held = sym is ∙ judged
+told_judged job past by row reply right (Some (Flaw.OtherReply other)) attestor is judged held = (sym is ∙ judged.0, judged.1)
+
+-- what is left of so many items is the replies
+pub counts_all : (past : List Item) (items events gots : ℕ) (counts : Attested) → items ≡ length past → events ≡ length (events_in past) → gots ≡ length (rows_got past) → counts.events ≡ events → counts.gots ≡ gots
+    → counts.tolds ≡ items - events - gots → CountsItems past counts
+counts_all past items events gots counts all one two same other rest =
+    let fit = counts_fit past in
+    record { events = same ∙ one; gots = other ∙ two; all = omega (arith, fit, all, one, two, same, other, rest) }

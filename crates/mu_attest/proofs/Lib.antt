@@ -1,0 +1,4 @@
+mod AddedRows
+mod AttestedItems
+mod ItemLines
+mod JobLines

@@ -1,0 +1,13 @@
+-- The items that were read are right, and this line is the next one.
+use Rattle.std.proofs.Common.{◌≡◌, ◌≤◌, ℕ, List, length}
+use Rattle.mu_attest.proofs.AttestedItems.{HasAttested}
+use Rattle.mu_attest.specs.Traces.{HasFew, OpensItems}
+use Rattle.mu_attest.proofs.attesting.attested_items.Given as goal
+
+abbrev pub invariant-loop-line : goal.invariant-loop-line
+invariant-loop-line l =
+    (l.line ≡ l.lines.number) × (l.first ≤ l.line) × HasFew l.lines
+    × ((bytes : List ℕ) → OpensItems bytes l.job l.fn.lines → HasAttested bytes l.job l.first l.lines l.attestor)
+
+abbrev pub decreases-loop-line : goal.decreases-loop-line
+decreases-loop-line l = length l.lines.lines

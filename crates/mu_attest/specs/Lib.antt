@@ -1,0 +1,3 @@
+pub mod Attestors
+pub mod Attests
+pub mod Traces
