@@ -3,13 +3,12 @@ use Rattle.std.specs.Prelude.{ℕ, ◌≡◌, ◌<◌, ◌≤◌, ◌⊎◌, Lis
 use Rattle.std.specs.declared.option.Option.{Option}
 use Rattle.mu_io.specs.Faults.{Rose}
 use Rattle.mu_io.specs.Whole.{TakesAtMost}
-use Rattle.mu_judging.specs.Judged.{NotesOf, SaysOf, ShowsOf, TellsOf as TellsOfTrace}
+use Rattle.mu_judging.specs.Judged.{AttestsOf, NotesOf, SaysOf, ShowsOf, TellsOf as TellsOfTrace}
 use Rattle.mu_outcome.specs.declared.status.Status.{Status}
 use Rattle.mu_report.specs.declared.said.Said.{Said}
 use Rattle.mu_report.specs.Said.{text}
 use Rattle.mu_report.specs.Statuses.{status_for}
 use Rattle.mu_shell.specs.Written.{Wrote}
-use Rattle.mu_top.specs.Attesting.{AttestsOf}
 use Rattle.mu_top.specs.Commands.{Books, Lives, Replays, ReplaysEagerly, Runs, Sums, Traces, TracesEagerly}
 use Rattle.mu_top.specs.Desks.{Desks}
 use Rattle.mu_top.specs.Promising.{TellsEnough}

@@ -1,5 +1,4 @@
 pub mod Answers
-pub mod Attesting
 pub mod Commands
 pub mod Desks
 pub mod OneThread

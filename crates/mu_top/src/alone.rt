@@ -7,12 +7,11 @@ ghost use Rattle.mu_top.specs.Answers.{Does, TellsOf};
 ghost use Rattle.mu_top.specs.Words.{limit_of};
 
 use crate::asking::INPUT_LIMIT;
-use crate::attesting::told_of_attest;
 use crate::booking::told_of_book;
 use crate::replaying::told_of_replay;
 use crate::tracing::told_of_trace;
 use mu_input::TRACE_LIMIT;
-use mu_judging::{explain_trace, judge, show_trace, tell_trace};
+use mu_judging::{attest_trace, explain_trace, judge, show_trace, tell_trace};
 use mu_report::Said;
 use std::alloc::Global;
 
@@ -79,7 +78,7 @@ fn told_within(alloc: Global, task: Alone, bytes: &[u8]) -> Said
         Alone::Why => explain_trace(alloc, bytes),
         Alone::Tell => tell_trace(alloc, bytes),
         Alone::Show(count) => show_trace(alloc, bytes, count),
-        Alone::Attest => told_of_attest(alloc, bytes),
+        Alone::Attest => attest_trace(alloc, bytes),
         Alone::Book => told_of_book(alloc, bytes),
     }
 }

@@ -4,7 +4,6 @@
 
 mod alone;
 mod asking;
-mod attesting;
 mod booking;
 mod eager;
 mod living;

@@ -8,7 +8,6 @@ ghost use Rattle.mu_top.specs.Answers.{Does, Tells, TellsOf};
 ghost use Rattle.mu_top.specs.Words.{asked_of as asked_of_words, limit_of, HasReaders, IsInReach};
 
 use crate::asking::{Asked, Task, asked_of};
-use crate::attesting::told_of_attest;
 use crate::booking::told_of_book;
 use crate::eager::{told_of_eager, told_of_eager_trace};
 use crate::living::told_of_live;
@@ -20,7 +19,7 @@ use crate::summing::told_of_bulk;
 use crate::tracing::told_of_trace;
 use mu_cluster::Gate;
 use mu_io::{Sink, Source, WriteFault, read_all};
-use mu_judging::{explain_trace, judge, show_trace, tell_trace};
+use mu_judging::{attest_trace, explain_trace, judge, show_trace, tell_trace};
 use mu_outcome::Status;
 use mu_report::{Said, print_counted, status_for};
 use mu_shell::Answered;
@@ -141,7 +140,7 @@ fn told_of_bytes<R: Threads + Wait + Clock + Sync, G: Gate + Sync>(
         Task::Why => explain_trace(alloc, bytes),
         Task::Tell => tell_trace(alloc, bytes),
         Task::Show(count) => show_trace(alloc, bytes, count),
-        Task::Attest => told_of_attest(alloc, bytes),
+        Task::Attest => attest_trace(alloc, bytes),
         Task::Desk => told_of_desk(rt, alloc, bytes, gate),
         Task::Book => told_of_book(alloc, bytes),
         Task::Live(readers) => told_of_live(rt, alloc, bytes, readers, gate),
