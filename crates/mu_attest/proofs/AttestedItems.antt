@@ -1,13 +1,19 @@
 -- What is known of a trace whose items are judged as they are read.
-use Rattle.std.proofs.Common.{◌≡◌, ℕ, ◌+◌, ◌-◌, ◌<◌, ◌≤◌, ◌^◌, List, [], ◌∷◌, ◌++◌, length, take, refl, sym, ap, subst, ◌∙◌, append_assoc, append-nil, arith, Some, None}
+use Rattle.std.proofs.Common.{◌≡◌, ℕ, ◌+◌, ◌-◌, ◌<◌, ◌≤◌, ◌^◌, List, [], ◌∷◌, ◌++◌, length, take, refl, sym, ap, subst, ◌∙◌, append_assoc, append-nil, arith, Some, None, Ok, Err}
 use Rattle.std.proofs.Math.Seq.{take-append_seam}
 use Rattle.std.proofs.lemmas.List.{length-reverse, length_push, reverse-append}
 use Rattle.std.specs.List.{slice_get}
 use Rattle.kv_store.specs.declared.store.Reply.{Reply}
 use Rattle.std.specs.declared.option.Option.{Option}
 use Rattle.mu_attest.specs.Attestors.{CountsItems, FlawOfReply, StandsForAttestor, StaysOrTakes}
-use Rattle.mu_attest.specs.Attests.{IsRight, IsWrong}
-use Rattle.mu_attest.specs.Traces.{AttestedTrace, GivesItem, HasFew, OpensItems, attested_trace, items_with, job_lines, of_items}
+use Rattle.mu_attest.specs.Attests.{GivesMore, IsEndOfItems, IsFound, IsRight, IsWrong}
+use Rattle.mu_attest.specs.declared.attesting.Found.{Found}
+use Rattle.std.specs.Prelude.{IfErr, IfOk}
+use Rattle.mu_attest.specs.Traces.{AttestedTrace, GivesItem, OpensItems, attested_trace, items_with, job_lines, later_lines, of_items, of_job}
+use Rattle.mu_input.specs.Grammar.{job}
+use Rattle.mu_input.specs.declared.job.InputEnd.{InputEnd}
+use Rattle.mu_input.specs.declared.job.InputEnd.TheVariants.{Refused, NoMemory}
+use Rattle.std.specs.declared.result.Result.{Result}
 use Rattle.mu_attest.specs.declared.attestor.Attestor.{Attestor}
 use Rattle.mu_clients.proofs.Telling.{attested_agree, attested_in_time}
 use Rattle.mu_clients.specs.Attested.{IsAttested, IsAttestedBack, IsFlaw, events_in, items_back, reply_by, rows_got}
@@ -15,13 +21,13 @@ use Rattle.mu_clients.specs.declared.items.Attested.{Attested}
 use Rattle.mu_clients.specs.declared.items.Flaw.{Flaw}
 use Rattle.mu_clients.specs.declared.items.Flawed.{Flawed}
 use Rattle.mu_clients.specs.declared.items.Item.{Item}
-use Rattle.mu_input.specs.Readings.{Fits, Reading}
+use Rattle.mu_input.specs.Readings.{Fits, Leaves}
 use Rattle.mu_input.specs.declared.job.Job.{Job}
 use Rattle.mu_model.proofs.Budgets.{short_history}
 use Rattle.mu_model.proofs.Lists.{get_front, get_push_here}
 use Rattle.mu_model.specs.Contents.{IsConfig, row_count}
 use Rattle.mu_model.specs.Legal.{IsLegalHistory}
-use Rattle.mu_text.specs.Lines.{Left, lines}
+use Rattle.mu_text.specs.Lines.{Left, ended, lines}
 
 -- some items were read and are attested, and the states are those that they lead to
 pub record HasAttested (bytes : List ℕ) (job : Job) (first : ℕ) (left : Left) (attestor : Attestor) : Type 0 where
@@ -125,3 +131,49 @@ pub counts_all : (past : List Item) (items events gots : ℕ) (counts : Attested
 counts_all past items events gots counts all one two same other rest =
     let fit = counts_fit past in
     record { events = same ∙ one; gots = other ∙ two; all = omega (arith, fit, all, one, two, same, other, rest) }
+
+-- the job is read, and the items are left
+pub opens_items : (bytes text : List ℕ) (given : Job) (start left : Left) → start.number ≡ 1 → start.lines ≡ lines bytes → text ≡ ended (job_lines start.lines) → left.lines ≡ later_lines start.lines
+    → left.number ≡ start.number + length (job_lines start.lines) → job text ≡ Fits given → OpensItems bytes given left
+opens_items bytes text given start left one all is later count fits =
+    let many = ap (λ l. length (job_lines l)) all in
+    let number : left.number ≡ length (job_lines (lines bytes)) + 1 = omega (arith, one, count, many) in
+    record {
+      reading = ap (λ r. of_job r (lines bytes)) (ap (λ l. job (ended (job_lines l))) (sym all) ∙ ap job (sym is) ∙ fits)
+          ∙ ap (λ k. of_items given (items_with given.config.replicas (row_count given.config) [] (record { number = k; lines = later_lines (lines bytes) }))) (sym number)
+          ∙ ap (λ l. of_items given (items_with given.config.replicas (row_count given.config) [] (record { number = left.number; lines = l }))) (ap later_lines (sym all) ∙ sym later);
+      number = number;
+    }
+
+-- the job can't be read
+pub job_refused : (bytes text : List ℕ) (start : Left) (line cause : ℕ) → start.lines ≡ lines bytes → text ≡ ended (job_lines start.lines) → job text ≡ Leaves line cause → attested_trace bytes ≡ Leaves line cause
+job_refused bytes text start line cause all is leaves = ap (λ r. of_job r (lines bytes)) (ap (λ l. job (ended (job_lines l))) (sym all) ∙ ap job (sym is) ∙ leaves)
+
+-- what is given of the items by a count of the rows
+pub by_rows : (n rows count : ℕ) (past : List Item) (left : Left) (found : Result (Option Item) InputEnd) (next : Left) → rows ≡ count → GivesItem n rows past left found next → GivesItem n count past left found next
+by_rows n rows count past left found next same gives = subst (λ k. GivesItem n k past left found next) same gives
+
+pub more_by_rows : (n rows count : ℕ) (past : List Item) (left : Left) (flawed : Flawed) (result : Result Found InputEnd) → rows ≡ count → GivesMore n rows past left flawed result → GivesMore n count past left flawed result
+more_by_rows n rows count past left flawed result same gives = subst (λ k. GivesMore n k past left flawed result) same gives
+
+-- a line that leaves the grammar
+pub item_refused : (bytes : List ℕ) (job : Job) (first : ℕ) (left next : Left) (attestor : Attestor) (end : InputEnd) → (held : HasAttested bytes job first left attestor)
+    → GivesItem job.config.replicas (row_count job.config) held.past left (Err end) next → IsEndOfItems bytes end
+item_refused bytes job first left next attestor (Refused line cause) held gives = held.reading ∙ ap (of_items job) gives
+item_refused bytes job first left next attestor NoMemory held gives = tt
+
+-- an item is wrong, whatever comes behind it; or a line behind it leaves the grammar
+pub wrong_found : (bytes : List ℕ) (job : Job) (first : ℕ) (left next : Left) (attestor : Attestor) (flawed : Flawed) (result : Result Found InputEnd) → (held : HasAttested bytes job first left attestor)
+    → items_with job.config.replicas (row_count job.config) held.past left ≡ items_with job.config.replicas (row_count job.config) (held.past ++ flawed.item ∷ []) next
+    → GivesMore job.config.replicas (row_count job.config) (held.past ++ flawed.item ∷ []) next flawed result
+    → IsFlaw job (items_back held.past) flawed.item flawed.flaw → flawed.line ≡ left.number → flawed.line ≡ first + flawed.index → flawed.events ≡ length (events_in (items_back held.past)) → IfOk result (IsFound bytes)
+wrong_found bytes job first left next attestor flawed (Ok found) held gives more flaw line place events =
+    subst (IsFound bytes) (sym more.0) (attested_to bytes job first left next attestor flawed more.1 held gives more.2 flaw line place events)
+wrong_found bytes job first left next attestor flawed (Err end) held gives more flaw line place events = tt
+
+pub wrong_refused : (bytes : List ℕ) (job : Job) (first : ℕ) (left next : Left) (attestor : Attestor) (flawed : Flawed) (result : Result Found InputEnd) → (held : HasAttested bytes job first left attestor)
+    → items_with job.config.replicas (row_count job.config) held.past left ≡ items_with job.config.replicas (row_count job.config) (held.past ++ flawed.item ∷ []) next
+    → GivesMore job.config.replicas (row_count job.config) (held.past ++ flawed.item ∷ []) next flawed result → IfErr result (IsEndOfItems bytes)
+wrong_refused bytes job first left next attestor flawed (Ok found) held gives more = tt
+wrong_refused bytes job first left next attestor flawed (Err (Refused line cause)) held gives more = held.reading ∙ ap (of_items job) (gives ∙ more)
+wrong_refused bytes job first left next attestor flawed (Err NoMemory) held gives more = tt

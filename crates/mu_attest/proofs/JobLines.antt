@@ -35,7 +35,7 @@ splits_on old now next bytes line other is count held = go (bytes_eq line (codes
         → old.number + length (job_lines old.lines) ≡ now.number + length (if t then line ∷ [] else line ∷ job_lines next.lines)
         → Splits old ((bytes ++ line) ++ LINE_FEED ∷ []) next
     go true clash b l n = cc
-    go false no b l n = record {
+    go false other' b l n = record {
       bytes_are = b ∙ line_joined bytes line (ended (job_lines next.lines));
       later = l;
       number = omega (arith, n, count);
@@ -51,7 +51,7 @@ splits_end old now next bytes line last is count held = go (bytes_eq line (codes
         → old.number + length (job_lines old.lines) ≡ now.number + length (if t then line ∷ [] else line ∷ job_lines next.lines)
         → HasTakenJob old ((bytes ++ line) ++ LINE_FEED ∷ []) next
     go false clash b l n = cc
-    go true yes b l n = record {
+    go true last' b l n = record {
       bytes_are = sym (b ∙ line_joined bytes line [] ∙ append-nil ((bytes ++ line) ++ LINE_FEED ∷ []));
       later = sym l;
       number = omega (arith, n, count);

@@ -1,16 +1,19 @@
 -- right, wrong (attested trace): what bytes spell as a trace with lines of what clients see is right;
 -- an item of it is the first that isn't.
-use Rattle.std.specs.Prelude.{ℕ, ◌+◌, ◌≡◌, List, Some, length, take, ⊤}
+use Rattle.std.specs.Prelude.{ℕ, ◌+◌, ◌++◌, ◌≡◌, List, Some, length, take, ⊤}
+use Rattle.std.specs.declared.result.Result.{Result}
+use Rattle.std.specs.declared.result.Result.TheVariants.{Ok, Err}
 use Rattle.std.specs.List.{slice_get}
-use Rattle.mu_attest.specs.Traces.{AttestedTrace, attested_trace, job_lines}
+use Rattle.mu_attest.specs.Traces.{AttestedTrace, attested_trace, items_with, job_lines}
 use Rattle.mu_attest.specs.declared.attesting.Found.{Found}
 use Rattle.mu_clients.specs.Attested.{IsAttested, IsFlaw, events_in, items_back, rows_got}
 use Rattle.mu_clients.specs.Laws.{IsInRealTime, RepliesAgree}
 use Rattle.mu_clients.specs.declared.items.Attested.{Attested}
 use Rattle.mu_clients.specs.declared.items.Flawed.{Flawed}
+use Rattle.mu_clients.specs.declared.items.Item.{Item}
 use Rattle.mu_input.specs.Readings.{Fits, Leaves}
 use Rattle.mu_input.specs.declared.job.InputEnd.{InputEnd}
-use Rattle.mu_text.specs.Lines.{lines}
+use Rattle.mu_text.specs.Lines.{Left, lines}
 
 -- the bytes spell a job and items that are attested, and this is how many of each kind there are;
 -- any two replies that are told of one row are equal, and the logs are in real time
@@ -45,3 +48,14 @@ IsEndOfItems bytes InputEnd.NoMemory = ⊤
 abbrev pub IsFound : List ℕ → Found → Type 0
 IsFound bytes (Found.Right counts) = IsRight bytes counts
 IsFound bytes (Found.Wrong flawed) = IsWrong bytes flawed
+
+-- the lines that are left give more items after these, and this is what is found wrong; or one of them
+-- leaves the grammar
+abbrev pub GivesMore :
+    ℕ → ℕ → List Item → Left → Flawed → Result Found InputEnd → Type 0
+GivesMore replicas rows items left flawed (Ok found) =
+    (found ≡ Found.Wrong flawed)
+    × (more : List Item) × (items_with replicas rows items left ≡ Fits (items ++ more))
+GivesMore replicas rows items left flawed (Err (InputEnd.Refused line cause)) =
+    items_with replicas rows items left ≡ Leaves line cause
+GivesMore replicas rows items left flawed (Err InputEnd.NoMemory) = ⊥

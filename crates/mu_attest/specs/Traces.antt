@@ -89,14 +89,6 @@ EndsItems items left (Ok None) = whole (Begins items left) ≡ Fits items
 EndsItems items left (Err (Refused line cause)) = whole (Begins items left) ≡ Leaves line cause
 EndsItems items left (Err NoMemory) = ⊥
 
--- the lines that are left give more items after these, or one leaves the grammar
-abbrev pub GivesMore : ℕ → ℕ → List Item → Left → Result (Unit {0}) InputEnd → Type 0
-GivesMore replicas rows items left (Ok u) =
-    (more : List Item) × (items_with replicas rows items left ≡ Fits (items ++ more))
-GivesMore replicas rows items left (Err (Refused line cause)) =
-    items_with replicas rows items left ≡ Leaves line cause
-GivesMore replicas rows items left (Err NoMemory) = ⊥
-
 -- the bytes spell this job, and these lines are left behind it
 pub record OpensItems (bytes : List ℕ) (given : Job) (left : Left) : Type 0 where
   pub reading :

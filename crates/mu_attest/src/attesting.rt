@@ -1,7 +1,7 @@
 //! From the bytes of a trace with lines of what clients see to what is said of it.
 ghost use Rattle.std.specs.Prelude.{ℕ, List, ◌≡◌, ◌≤◌, length, IfErr, IfOk};
 ghost use Rattle.mu_attest.specs.Attestors.{CountsItems, StandsForAttestor};
-ghost use Rattle.mu_attest.specs.Attests.{IsEndOfItems, IsFound};
+ghost use Rattle.mu_attest.specs.Attests.{GivesMore, IsEndOfItems, IsFound};
 ghost use Rattle.mu_attest.specs.Traces.{HasFew, OpensItems};
 ghost use Rattle.mu_model.specs.Contents.{IsConfig};
 ghost use Rattle.mu_clients.specs.declared.items.Item.{Item as SomeItem};
@@ -9,7 +9,7 @@ ghost use Rattle.mu_input.specs.declared.TheConstants.{TRACE_LIMIT};
 ghost use Rattle.mu_input.specs.declared.job.Job.{Job as SomeJob};
 
 use crate::attestor::Attestor;
-use crate::reading::{job_bytes, next_item, pass_items};
+use crate::reading::{job_bytes, next_item};
 use mu_clients::{Attested, Flawed};
 use mu_input::{InputEnd, Job, read};
 use mu_model::count_of_rows;
@@ -63,19 +63,39 @@ fn attested_items(alloc: Global, job: &Job, lines: &mut LineReader<'_>) -> Resul
     let mut line = first;
     let mut attestor = Attestor::new(alloc, job)?;
     while let Some(item) = next_item(replicas, rows, lines)? {
+        let events = attestor.events();
         if let Some(flaw) = attestor.take(alloc, job, &item)? {
-            pass_items(replicas, rows, lines)?;
-            return Ok(Found::Wrong(Flawed {
+            let flawed = Flawed {
                 index: line - first,
-                events: attestor.events(),
+                events,
                 line,
                 item,
                 flaw,
-            }));
+            };
+            return wrong_with(flawed, replicas, rows, lines);
         }
         line = lines.number();
     }
     Ok(Found::Right(counts_of(&attestor, line - first)))
+}
+
+/// The item that is wrong, once all items that are left were taken.
+///
+/// # Errors
+///
+/// Those of [`attested`].
+fn wrong_with(
+    flawed: Flawed,
+    replicas: u8,
+    rows: u16,
+    lines: &mut LineReader<'_>,
+) -> Result<Found, InputEnd>
+    requires few { HasFew lines.old }
+    ensures { (items : List SomeItem)
+        → GivesMore replicas rows items lines.old flawed result }
+{
+    while let Some(_) = next_item(replicas, rows, lines)? {}
+    Ok(Found::Wrong(flawed))
 }
 
 /// How many of this many items there are of each kind.

@@ -133,25 +133,25 @@ impl Attestor {
             → IfOk result (StaysOrTakes job.now past (item.Told by row reply.now) self.now) }
     {
         let right = reply_over(alloc, job, self.walk.applied(by), row)?;
-        Ok(flaw_of_reply(right, *reply))
+        Ok(flaw_of_reply(right, reply))
     }
 }
 
 /// Whether the replies are the same.
-fn is_same(right: Reply, reply: Reply) -> bool
-    ensures { IsTrue result ↔ (right ≡ reply) }
+fn is_same(right: &Reply, reply: &Reply) -> bool
+    ensures { IsTrue result ↔ (right.now ≡ reply.now) }
 {
-    right == reply
+    *right == *reply
 }
 
 /// What is wrong with a reply, if this is the right one.
-fn flaw_of_reply(right: Option<Reply>, reply: Reply) -> Option<Flaw>
-    ensures { FlawOfReply right reply result }
+fn flaw_of_reply(right: Option<Reply>, reply: &Reply) -> Option<Flaw>
+    ensures { FlawOfReply right reply.now result }
 {
     match right {
         None => Some(Flaw::NotApplied),
         Some(right) => {
-            if is_same(right, reply) {
+            if is_same(&right, reply) {
                 None
             } else {
                 Some(Flaw::OtherReply(right))

@@ -1,7 +1,7 @@
 //! The lines of an attested trace: those of its job, and of its items.
-ghost use Rattle.std.specs.Prelude.{◌≡◌, ◌+◌, ◌<◌, IfOk, IfSome, List, OnOk, codes, length};
+ghost use Rattle.std.specs.Prelude.{◌≡◌, ◌+◌, ◌<◌, IfOk, IfSome, None, List, OnOk, codes, length};
 ghost use Rattle.std.specs.Str.{bytes_eq};
-ghost use Rattle.mu_attest.specs.Traces.{EndsItems, GivesItem, GivesMore, HasFew, job_lines, later_lines};
+ghost use Rattle.mu_attest.specs.Traces.{EndsItems, GivesItem, HasFew, job_lines, later_lines};
 ghost use Rattle.mu_clients.specs.Items.{IsWithin};
 ghost use Rattle.mu_clients.specs.declared.items.Item.{Item as SomeItem};
 ghost use Rattle.mu_input.specs.declared.job.InputEnd.TheVariants.{Refused};
@@ -86,6 +86,7 @@ pub(crate) fn next_item(
 fn end_here(lines: &mut LineReader<'_>) -> Result<Option<Item>, InputEnd>
     requires few { HasFew lines.old }
     ensures ends { (items : List SomeItem) → EndsItems items lines.old result }
+    ensures none { IfOk result (λ found. found ≡ None) }
 {
     let line = lines.number();
     match lines.next() {
@@ -99,22 +100,4 @@ fn refused(line: u32, cause: u8) -> InputEnd
     ensures { result ≡ Refused line cause }
 {
     InputEnd::Refused { line, cause }
-}
-
-/// Takes all items that are left.
-///
-/// # Errors
-///
-/// Those of [`next_item`].
-pub(crate) fn pass_items(
-    replicas: u8,
-    rows: u16,
-    lines: &mut LineReader<'_>,
-) -> Result<(), InputEnd>
-    requires few { HasFew lines.old }
-    ensures gives { (items : List SomeItem)
-        → GivesMore replicas rows items lines.old result }
-{
-    while let Some(_) = next_item(replicas, rows, lines)? {}
-    Ok(())
 }

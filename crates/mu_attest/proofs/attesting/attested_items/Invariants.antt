@@ -4,10 +4,10 @@ use Rattle.mu_attest.proofs.AttestedItems.{HasAttested}
 use Rattle.mu_attest.specs.Traces.{HasFew, OpensItems}
 use Rattle.mu_attest.proofs.attesting.attested_items.Given as goal
 
-abbrev pub invariant-loop-line : goal.invariant-loop-line
-invariant-loop-line l =
+abbrev pub invariant-loop-attestor : goal.invariant-loop-attestor
+invariant-loop-attestor l =
     (l.line ≡ l.lines.number) × (l.first ≤ l.line) × HasFew l.lines
     × ((bytes : List ℕ) → OpensItems bytes l.job l.fn.lines → HasAttested bytes l.job l.first l.lines l.attestor)
 
-abbrev pub decreases-loop-line : goal.decreases-loop-line
-decreases-loop-line l = length l.lines.lines
+abbrev pub decreases-loop-attestor : goal.decreases-loop-attestor
+decreases-loop-attestor l = length l.lines.lines

@@ -4,8 +4,8 @@ use Rattle.mu_attest.proofs.JobLines.{Splits}
 use Rattle.mu_attest.specs.Traces.{HasFew}
 use Rattle.mu_attest.proofs.reading.job_bytes.Given as goal
 
-abbrev pub invariant-loop-bytes : goal.invariant-loop-bytes
-invariant-loop-bytes l = Splits l.fn.lines l.bytes.items l.lines × HasFew l.lines
+abbrev pub invariant-loop-line : goal.invariant-loop-line
+invariant-loop-line l = Splits l.fn.lines l.bytes.items l.lines × HasFew l.lines
 
-abbrev pub decreases-loop-bytes : goal.decreases-loop-bytes
-decreases-loop-bytes l = length l.lines.lines
+abbrev pub decreases-loop-line : goal.decreases-loop-line
+decreases-loop-line l = length l.lines.lines

@@ -10,7 +10,7 @@ pub returns : goal.returns
 returns c = λ past held.
     let job = c.args.job.now in
     let judged = c.in_default.ensures (events_in past) held.judge in
-    let few = few_events job past c.args.self.now c.requires held in
+    let few = few_events job past c.args.self.now c.requires.config held in
     let events = held.events in
     record {
       attested = (held.attested, judged.legal.1);

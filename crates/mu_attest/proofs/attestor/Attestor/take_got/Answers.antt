@@ -5,19 +5,19 @@ use Rattle.mu_attest.proofs.attestor.Attestor.take_got.Goals as goal
 
 pub returns-then-has_row : goal.returns-then-has_row
 returns-then-has_row c = λ job past held.
-    ap (includes c.args.row) (sym held.got ∙ sym c.as_slice.ensures) ∙ sym c.has_row.ensures ∙ c.if-has_row.true
+    ap (includes c.args.row) (sym held.got ∙ sym c.as_slice.ensures.value) ∙ sym c.has_row.ensures ∙ c.if-has_row.true
 
 pub returns-then-has_row-2 : goal.returns-then-has_row-2
 returns-then-has_row-2 c = λ job past held. (
-  ap (includes c.args.row) (sym held.got ∙ sym c.as_slice.ensures) ∙ sym c.has_row.ensures ∙ c.if-has_row.false,
-  ap (includes c.args.row) (sym held.put ∙ sym c.as_slice-2.ensures) ∙ sym c.has_row-2.ensures ∙ c.if-has_row-2.true,
+  ap (includes c.args.row) (sym held.got ∙ sym c.as_slice.ensures.value) ∙ sym c.has_row.ensures ∙ c.if-has_row.false,
+  ap (includes c.args.row) (sym held.put ∙ sym c.as_slice-2.ensures.value) ∙ sym c.has_row-2.ensures ∙ c.if-has_row-2.true,
 )
 
 pub returns : goal.returns
 returns c = λ job past held. record {
   attested = (held.attested, (
-    ap (includes c.args.row) (sym held.got ∙ sym c.as_slice.ensures) ∙ sym c.has_row.ensures ∙ c.if-has_row.false,
-    ap (includes c.args.row) (sym held.put ∙ sym c.as_slice-2.ensures) ∙ sym c.has_row-2.ensures ∙ c.if-has_row-2.false,
+    ap (includes c.args.row) (sym held.got ∙ sym c.as_slice.ensures.value) ∙ sym c.has_row.ensures ∙ c.if-has_row.false,
+    ap (includes c.args.row) (sym held.put ∙ sym c.as_slice-2.ensures.value) ∙ sym c.has_row-2.ensures ∙ c.if-has_row-2.false,
   ));
   judge = held.judge;
   walk = held.walk;
