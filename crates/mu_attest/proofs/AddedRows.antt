@@ -1,11 +1,10 @@
 -- Rows that are added one by one, and rows that are looked for.
-use Rattle.std.proofs.Common.{◌≡◌, ℕ, suc, zero, ◌+◌, ◌==◌, Bool, true, false, List, [], ◌∷◌, ◌++◌, length, refl, sym, ap, ◌∙◌, arith, append_assoc, append-nil, drop, get_or, ◌<◌, ◌≤◌, Some, None, eqb-true}
+use Rattle.std.proofs.Common.{◌≡◌, ℕ, suc, zero, ◌+◌, ◌==◌, Bool, true, false, List, [], ◌∷◌, ◌++◌, length, refl, sym, ap, ◌∙◌, arith, drop, get_or, ◌<◌, ◌≤◌, Some, None, eqb-true}
 use Rattle.std.specs.Prelude.{if◌then◌else◌, min}
 use Rattle.std.proofs.lemmas.List.{drop_more}
 use Rattle.kv_store.specs.declared.store.Reply.{Reply}
 use Rattle.mu_clients.specs.Attested.{beside}
-use Rattle.mu_model.specs.Contents.{rows_from, rows_in, rows_of}
-use Rattle.mu_model.specs.declared.config.Config.{Config}
+use Rattle.mu_model.specs.Contents.{rows_from}
 
 -- one row more
 pub rows_next : (n first : ℕ) → rows_from (n + 1) first ≡ rows_from n first ++ (first + n) ∷ []

@@ -1,22 +1,21 @@
 -- What is known of a trace whose items are judged as they are read.
-use Rattle.std.proofs.Common.{◌≡◌, ℕ, ◌+◌, ◌-◌, ◌<◌, ◌≤◌, ◌^◌, List, [], ◌∷◌, ◌++◌, length, take, refl, sym, ap, subst, ◌∙◌, append_assoc, append-nil, arith, Some, None, Ok, Err}
+use Rattle.std.proofs.Common.{◌≡◌, ℕ, ◌+◌, ◌-◌, ◌≤◌, List, [], ◌∷◌, ◌++◌, length, take, sym, ap, subst, ◌∙◌, append_assoc, arith, Some, None, Ok, Err}
 use Rattle.std.proofs.Math.Seq.{take-append_seam}
 use Rattle.std.proofs.lemmas.List.{length-reverse, length_push, reverse-append}
-use Rattle.std.specs.List.{slice_get}
 use Rattle.kv_store.specs.declared.store.Reply.{Reply}
 use Rattle.std.specs.declared.option.Option.{Option}
 use Rattle.mu_attest.specs.Attestors.{CountsItems, FlawOfReply, StandsForAttestor, StaysOrTakes}
 use Rattle.mu_attest.specs.Attests.{GivesMore, IsEndOfItems, IsFound, IsRight, IsWrong}
 use Rattle.mu_attest.specs.declared.attesting.Found.{Found}
 use Rattle.std.specs.Prelude.{IfErr, IfOk}
-use Rattle.mu_attest.specs.Traces.{AttestedTrace, GivesItem, OpensItems, attested_trace, items_with, job_lines, later_lines, of_items, of_job}
+use Rattle.mu_attest.specs.Traces.{GivesItem, OpensItems, attested_trace, items_with, job_lines, later_lines, of_items, of_job}
 use Rattle.mu_input.specs.Grammar.{job}
 use Rattle.mu_input.specs.declared.job.InputEnd.{InputEnd}
 use Rattle.mu_input.specs.declared.job.InputEnd.TheVariants.{Refused, NoMemory}
 use Rattle.std.specs.declared.result.Result.{Result}
 use Rattle.mu_attest.specs.declared.attestor.Attestor.{Attestor}
 use Rattle.mu_clients.proofs.Telling.{attested_agree, attested_in_time}
-use Rattle.mu_clients.specs.Attested.{IsAttested, IsAttestedBack, IsFlaw, events_in, items_back, reply_by, rows_got}
+use Rattle.mu_clients.specs.Attested.{IsAttested, IsFlaw, events_in, items_back, reply_by, rows_got}
 use Rattle.mu_clients.specs.declared.items.Attested.{Attested}
 use Rattle.mu_clients.specs.declared.items.Flaw.{Flaw}
 use Rattle.mu_clients.specs.declared.items.Flawed.{Flawed}
@@ -26,7 +25,6 @@ use Rattle.mu_input.specs.declared.job.Job.{Job}
 use Rattle.mu_model.proofs.Budgets.{short_history}
 use Rattle.mu_model.proofs.Lists.{get_front, get_push_here}
 use Rattle.mu_model.specs.Contents.{IsConfig, row_count}
-use Rattle.mu_model.specs.Legal.{IsLegalHistory}
 use Rattle.mu_text.specs.Lines.{Left, ended, lines}
 
 -- some items were read and are attested, and the states are those that they lead to

@@ -1,5 +1,5 @@
 -- What the next line gives of the items.
-use Rattle.std.proofs.Common.{◌≡◌, ℕ, ◌+◌, Bool, true, false, List, [], ◌∷◌, ◌++◌, length, refl, sym, ap, ◌∙◌, None, Some, Ok, Err, subst, append_assoc, append-nil}
+use Rattle.std.proofs.Common.{◌≡◌, ℕ, ◌+◌, Bool, true, List, [], ◌∷◌, ◌++◌, refl, sym, ap, ◌∙◌, None, Some, Ok, Err, append_assoc, append-nil}
 use Rattle.std.specs.Prelude.{codes, if◌then◌else◌, IfOk, IfSome}
 use Rattle.std.specs.Option.{option_map_or}
 use Rattle.std.specs.Str.{bytes_eq}
@@ -11,8 +11,8 @@ use Rattle.mu_attest.specs.declared.attesting.Found.{Found}
 use Rattle.mu_clients.specs.declared.items.Flawed.{Flawed}
 use Rattle.mu_clients.specs.Items.{item_of}
 use Rattle.mu_clients.specs.declared.items.Item.{Item}
-use Rattle.mu_input.specs.Readings.{Begins, Breaks, Fits, Front, Leaves, Reading, whole}
-use Rattle.mu_input.specs.declared.cause.TheConstants.{EVENT, NO_END}
+use Rattle.mu_input.specs.Readings.{Begins, Breaks, whole}
+use Rattle.mu_input.specs.declared.cause.TheConstants.{EVENT}
 use Rattle.mu_input.specs.declared.job.InputEnd.{InputEnd}
 use Rattle.mu_input.specs.declared.job.InputEnd.TheVariants.{Refused, NoMemory}
 use Rattle.mu_text.specs.Lines.{Left, words}

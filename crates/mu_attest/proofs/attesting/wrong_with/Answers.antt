@@ -18,7 +18,10 @@ returns c = λ items.
     (subst (λ found. GivesItem c.args.replicas c.args.rows (items ++ held.more) c.loop.lines (Ok found) c.next_item.new.lines) c.in_default.is (c.in_ok-next_item.ensures.gives (items ++ held.more)))
 
 pub loop-preserved : goal.loop-preserved
-loop-preserved c = (subst (λ found. IfSome found (λ _. HasFew c.next_item.new.lines)) c.in-Some.is c.in_ok-next_item.ensures.few, λ items.
-    let held = c.loop.invariant.1 items in
-    more_step c.args.replicas c.args.rows items c.args.lines.now c.loop.lines c.next_item.new.lines c.in-Some.field-0 held
-    (subst (λ found. GivesItem c.args.replicas c.args.rows (items ++ held.more) c.loop.lines (Ok found) c.next_item.new.lines) c.in-Some.is (c.in_ok-next_item.ensures.gives (items ++ held.more))))
+loop-preserved c = (
+  subst (λ found. IfSome found (λ _. HasFew c.next_item.new.lines)) c.in-Some.is c.in_ok-next_item.ensures.few,
+  λ items.
+      let held = c.loop.invariant.1 items in
+      more_step c.args.replicas c.args.rows items c.args.lines.now c.loop.lines c.next_item.new.lines c.in-Some.field-0 held
+      (subst (λ found. GivesItem c.args.replicas c.args.rows (items ++ held.more) c.loop.lines (Ok found) c.next_item.new.lines) c.in-Some.is (c.in_ok-next_item.ensures.gives (items ++ held.more))),
+)

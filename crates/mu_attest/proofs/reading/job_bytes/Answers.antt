@@ -1,5 +1,5 @@
-use Rattle.std.proofs.Common.{◌≡◌, ◌∷◌, [], ◌++◌, ◌∙◌, ap, arith, length, subst, sym}
-use Rattle.mu_attest.proofs.JobLines.{HasTakenJob, Splits, splits_end, splits_none, splits_on, splits_start}
+use Rattle.std.proofs.Common.{◌∷◌, [], ◌++◌, ◌∙◌, ap, arith, length, subst, sym}
+use Rattle.mu_attest.proofs.JobLines.{Splits, splits_on}
 use Rattle.mu_text.specs.declared.TheConstants.{LINE_FEED}
 use Rattle.mu_attest.proofs.reading.job_bytes.Goals as goal
 

@@ -1,5 +1,4 @@
-use Rattle.std.proofs.Common.{◌≡◌, ◌++◌, ◌∷◌, [], ◌∙◌, ap, false, subst, sym, true}
-use Rattle.mu_clients.specs.Attested.{events_in, rows_got, rows_put}
+use Rattle.std.proofs.Common.{◌++◌, ◌∷◌, [], ◌∙◌, ap, sym}
 use Rattle.mu_model.specs.Contents.{includes}
 use Rattle.mu_attest.proofs.attestor.Attestor.take_got.Goals as goal
 
@@ -15,10 +14,13 @@ returns-then-has_row-2 c = λ job past held. (
 
 pub returns : goal.returns
 returns c = λ job past held. record {
-  attested = (held.attested, (
-    ap (includes c.args.row) (sym held.got ∙ sym c.as_slice.ensures.value) ∙ sym c.has_row.ensures ∙ c.if-has_row.false,
-    ap (includes c.args.row) (sym held.put ∙ sym c.as_slice-2.ensures.value) ∙ sym c.has_row-2.ensures ∙ c.if-has_row-2.false,
-  ));
+  attested = (
+    held.attested,
+    (
+      ap (includes c.args.row) (sym held.got ∙ sym c.as_slice.ensures.value) ∙ sym c.has_row.ensures ∙ c.if-has_row.false,
+      ap (includes c.args.row) (sym held.put ∙ sym c.as_slice-2.ensures.value) ∙ sym c.has_row-2.ensures ∙ c.if-has_row-2.false,
+    ),
+  );
   judge = held.judge;
   walk = held.walk;
   got = c.in_ok-push.ensures.items ∙ ap (λ l. l ++ c.args.row ∷ []) held.got;
