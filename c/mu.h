@@ -41,7 +41,7 @@ enum mu_status {
     MU_REFUSED = 2,    /* the input isn't in the grammar */
     MU_UNFINISHED = 3, /* some command isn't in the longest log */
     MU_NO_MEMORY = 6,
-    MU_ILLEGAL = 7,    /* the list of events isn't legal */
+    MU_ILLEGAL = 7,    /* the list of events isn't legal, or what clients saw is wrong */
     MU_TOO_LONG = 8    /* a job of more than 1,048,576 bytes, or a trace of more than 67,108,864 */
 };
 
@@ -53,7 +53,8 @@ enum mu_task {
     MU_WHY = 4,    /* of a trace: where it breaks, and why */
     MU_BOOK = 5,   /* of a job: the book of orders */
     MU_BULK = 6,   /* of a number up to 1,500: the stated large job of that many commands */
-    MU_TELL = 7    /* of a trace: the report of what its events come to */
+    MU_TELL = 7,   /* of a trace: the report of what its events come to */
+    MU_ATTEST = 8  /* of a trace with lines `got J` and `R told J = REPLY`: whether these are right too */
 };
 
 /* The greatest step that mu_draw_answer takes, and number of events that mu_show_answer takes. */

@@ -31,7 +31,7 @@ static const char REPORT[] =
 static const char TRACE[] = "mu 1\nreplicas 1\nring 8\nbudget 9\nend\n0 ask 0 = done\nend\n";
 static const char BROKEN[] = "mu 1\nreplicas 1\nring 8\nbudget 9\nend\n0 beat = done\n0 grant 0 = done\nend\n";
 static const char USAGE[] =
-    "usage: mu replay, mu eager, mu run, mu check, mu why, mu tell, mu show N, mu trace, mu eager trace, mu enough, mu bulk N, mu live K, mu desk, mu book\n";
+    "usage: mu replay, mu eager, mu run, mu check, mu why, mu tell, mu show N, mu attest, mu trace, mu eager trace, mu enough, mu bulk N, mu live K, mu desk, mu book\n";
 
 static void answers(void)
 {
@@ -76,6 +76,14 @@ static const char SHOWN[] =
     "replica 0 steps 1 known 0 applied 0 names 0\n"
     "replica 0 leadership begun\n";
 
+/* A command that was got, and one that is answered before it is applied. */
+static const char SEEN[] =
+    "mu 1\nreplicas 1\nring 8\nbudget 9\nclient 0\nput a 5\nend\ngot 0\n0 ask 0 = done\nend\n";
+static const char EARLY[] =
+    "mu 1\nreplicas 1\nring 8\nbudget 9\nclient 0\nput a 5\nend\n0 beat = done\n0 told 0 = done\nend\n";
+static const char TOO_EARLY[] =
+    "illegal after 1 at line 9\n0 told 0 = done\nnot allowed: replica 0 has not applied row 0\n";
+
 static void moments(void)
 {
     static char out[4096];
@@ -85,6 +93,11 @@ static void moments(void)
     expect("what is told", has(out, taken, TOLD));
     expect("tell of a broken list",
            mu_answer(MU_TELL, BROKEN, strlen(BROKEN), out, sizeof out, &taken) == MU_ILLEGAL);
+    expect("attest", mu_answer(MU_ATTEST, SEEN, strlen(SEEN), out, sizeof out, &taken) == MU_DONE);
+    expect("a command got", has(out, taken, "legal 1 got 1 told 0\n"));
+    expect("attest of a reply too early",
+           mu_answer(MU_ATTEST, EARLY, strlen(EARLY), out, sizeof out, &taken) == MU_ILLEGAL);
+    expect("why it is", has(out, taken, TOO_EARLY));
     expect("show", mu_show_answer(1, TRACE, strlen(TRACE), out, sizeof out, &taken) == MU_DONE);
     expect("what is shown", has(out, taken, SHOWN));
     expect("show beyond the end",

@@ -12,16 +12,18 @@ from trying import Case
 
 OWN = os.path.join(EXAMPLES, "own")
 # How each runs; what is wanted stands beside it, in replicas.KIND.WORD.stdout.
-RUNS = {"c": ["right", "no-enter", "no-drain"], "py": ["right", "early"]}
+RUNS = {"c": ["right", "no-enter", "no-drain"], "py": ["right", "early", "seen", "hasty"]}
+# The runs that tell what clients saw.
+SEEN = {"seen", "hasty"}
 # Threads make it differ where in the list an event stands.
-PLACE = re.compile(rb"^illegal \d+ at line \d+$", re.MULTILINE)
+PLACE = re.compile(rb"^illegal (after )?\d+ at line \d+$", re.MULTILINE)
 
 
 class OwnCase(Case):
     """A trace of an implementation of examples/own."""
 
     def trouble(self, answer):
-        answer.output = PLACE.sub(b"illegal I at line L", answer.output)
+        answer.output = PLACE.sub(rb"illegal \1I at line L", answer.output)
         return super().trouble(answer)
 
 
@@ -72,7 +74,7 @@ def own_cases():
             for word in RUNS[kind]:
                 run = subprocess.run([*command, word], stdout=subprocess.PIPE, timeout=120, check=True)
                 wanted = contents(os.path.join(OWN, f"replicas.{kind}.{word}.stdout"))
-                cases.append(OwnCase(f"examples/own/replicas.{kind} {word}", ["why"], run.stdout,
-                                     PLACE.sub(b"illegal I at line L", wanted), wanted_status(wanted)))
+                cases.append(OwnCase(f"examples/own/replicas.{kind} {word}", ["attest" if word in SEEN else "why"], run.stdout,
+                                     PLACE.sub(rb"illegal \1I at line L", wanted), wanted_status(wanted)))
     left = [] if "c" in found else ["examples/own/replicas.c, since there is no C compiler"]
     return cases, left

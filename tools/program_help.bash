@@ -21,6 +21,7 @@ A trace, as examples/put-and-get.trace, is read by
     why        the same, and in words which rule isn't met; of a refused job or trace what is expected there
     tell       reports what a legal list comes to
     show N     what holds after its first N events
+    attest     judges it with lines of what clients saw: `got J`, `R told J = REPLY`
 Nothing is read by
     bulk N     runs a stated job of N commands, and sums up
 

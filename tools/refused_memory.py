@@ -29,7 +29,7 @@ COMMANDS = [
     ("mu", ["enough"], "put-and-get.job"),
     ("mu", ["check"], "late-exchange.trace"), ("mu", ["check"], "grant-before-drain.trace"),
     ("mu", ["why"], "late-exchange.trace"), ("mu", ["why"], "grant-before-drain.trace"),
-    ("mu", ["tell"], "late-exchange.trace"), ("mu", ["show", "20"], "late-exchange.trace"), ("mu", ["bulk", "3"], None),
+    ("mu", ["tell"], "late-exchange.trace"), ("mu", ["attest"], "attested.list"), ("mu", ["show", "20"], "late-exchange.trace"), ("mu", ["bulk", "3"], None),
     ("mu", ["live", "2"], "put-and-get.job"), ("mu", ["desk"], "put-and-get.job"), ("mu", ["book"], "order-book.job"),
     ("mu_draw", [], "late-exchange.trace"), ("mu_draw", [], "grant-before-drain.trace"),
     ("mu_draw", ["brief"], "late-exchange.trace"),

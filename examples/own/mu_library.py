@@ -3,7 +3,7 @@ import ctypes
 import os
 
 DONE, USAGE, REFUSED, UNFINISHED, NO_MEMORY, ILLEGAL, TOO_LONG = 0, 1, 2, 3, 6, 7, 8
-TASKS = {"replay": 1, "trace": 2, "check": 3, "why": 4, "book": 5, "bulk": 6, "tell": 7}
+TASKS = {"replay": 1, "trace": 2, "check": 3, "why": 4, "book": 5, "bulk": 6, "tell": 7, "attest": 8}
 LAST_STEP = 9_999_999
 TOP = os.path.dirname(os.path.dirname(os.path.dirname(os.path.abspath(__file__))))
 SIZE, TEXT, NUMBER = ctypes.c_size_t, ctypes.c_char_p, ctypes.c_uint32

@@ -3,6 +3,8 @@
 
     examples/own/replicas.py | ./mu why          a run as it should be
     examples/own/replicas.py early | ./mu why    a leader that counts a majority of puts as a commit
+    examples/own/replicas.py seen | ./mu attest  the first, with what the client saw
+    examples/own/replicas.py hasty | ./mu attest    a leader that answers its client after the first put
     examples/own/replicas.py judged              the same runs, judged in this process by the library
     examples/own/replicas.py judged early        that ./library builds, event by event
 
@@ -60,13 +62,18 @@ def host(r):
             tell(r, f"grant {w}")
 
 
+def reply(r, row):
+    """The store of the leader answers the client: a put, and then a get of what it put."""
+    events.append(f"{r} told {row} = {'done' if row == 0 else 'value 5'}")
+
+
 def enter(r, p, target):
     regions[p].target = target
     tell(r, f"enter {p} {target}", "entered")
 
 
-def leader(r, is_early):
-    """Leads all regions, and commits one command after the other."""
+def leader(r, words):
+    """Leads all regions, and commits one command after the other: the client sends it once the last is answered."""
     number = 8 + r
     for p in REPLICAS:
         regions[p].asks[r] += 1
@@ -86,6 +93,8 @@ def leader(r, is_early):
         tell(r, f"putmin {p} {number}")
     for i, row in enumerate(ROWS):
         value = 4096 * r + i
+        if words & {"seen", "hasty"}:
+            events.append(f"got {i}")
         for p in REPLICAS:
             tell(r, f"look {p} {i}", "empty")
             yield
@@ -98,8 +107,10 @@ def leader(r, is_early):
             yield
             regions[p].slots[i] = number, value
             tell(r, f"putslot {p} {i} {number} {value}")
+            if "hasty" in words and p == 0:
+                reply(r, i)
             yield
-            if is_early and p == 1:
+            if "early" in words and p == 1:
                 break
         for p in REPLICAS:
             regions[p].fuo = i + 1
@@ -107,6 +118,8 @@ def leader(r, is_early):
             yield
         regions[r].head = i + 1
         tell(r, f"raisehead {i + 1}")
+        if "seen" in words:
+            reply(r, i)
 
 
 def follower(r):
@@ -140,13 +153,13 @@ def judge():
 
 
 def main():
-    words = sys.argv[1:]
-    if not set(words) <= {"right", "early", "judged"}:
+    words = set(sys.argv[1:])
+    if not words <= {"right", "early", "seen", "hasty", "judged"}:
         sys.exit(__doc__.strip())
     # Who reads the trace may go before its end.
     signal.signal(signal.SIGPIPE, signal.SIG_DFL)
     dice = random.Random(1)
-    turns = [host(r) for r in REPLICAS] + [leader(0, "early" in words), follower(1), follower(2)]
+    turns = [host(r) for r in REPLICAS] + [leader(0, words), follower(1), follower(2)]
     for _ in range(4000):
         turn = dice.choice(turns)
         if next(turn, "ended") == "ended":

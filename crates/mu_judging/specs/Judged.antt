@@ -8,6 +8,7 @@ use Rattle.mu_outcome.specs.Verdicts.{Judges}
 use Rattle.mu_outcome.specs.declared.verdict.Verdict.{Verdict}
 use Rattle.mu_report.specs.declared.said.Said.{Said}
 use Rattle.mu_report.specs.Said.{said_of_end}
+pub use Rattle.mu_judging.specs.Attested.{AttestsOf}
 pub use Rattle.mu_judging.specs.Noted.{NotesOf}
 pub use Rattle.mu_judging.specs.Shown.{ShowsOf}
 pub use Rattle.mu_judging.specs.Told.{TellsOf}

@@ -1,3 +1,4 @@
+pub mod Attested
 pub mod Explained
 pub mod Judged
 pub mod LineJudges

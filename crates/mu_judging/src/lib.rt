@@ -1,12 +1,14 @@
 //! From the bytes of a trace to what is said of it, of a whole trace or line by line.
 #![tactic(auto)]
 
+mod attesting;
 mod explaining;
 mod judging;
 mod line_judge;
 mod showing;
 mod telling;
 
+pub use attesting::attest_trace;
 pub use explaining::{count_of_lines, explain_trace};
 pub use judging::judge;
 pub use line_judge::{LineJudge, lines_are_judged_as_a_whole};

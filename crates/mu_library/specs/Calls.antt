@@ -41,6 +41,7 @@ asked_at task input =
     else if task == 5 then Some (Asked.Input Task.Book)
     else if task == 6 then of_count (within 0 MOST_COMMANDS (number_of input))
     else if task == 7 then Some (Asked.Input Task.Tell)
+    else if task == 8 then Some (Asked.Input Task.Attest)
     else None
 
 -- what is asked by the number of events after which a moment is to be shown

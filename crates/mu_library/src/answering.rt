@@ -23,8 +23,8 @@ pub struct Answered {
 
 /// What the program says if it is asked this and these are the bytes of its input, and the
 /// status that it ends with. The tasks are 1 `replay`, 2 `trace`, 3 `check`, 4 `why`, 5 `book`, 6
-/// `bulk`, whose input is its number as on the command line, and 7 `tell`; of any other, and of no
-/// number, the usage is told. Want of memory can come in place of any answer.
+/// `bulk`, whose input is its number as on the command line, 7 `tell` and 8 `attest`; of any other, and
+/// of no number, the usage is told. Want of memory can come in place of any answer.
 pub fn answer(alloc: Global, task: u32, input: &[u8], out: &mut [u8]) -> Answered
     ensures { Answers (asked_at task input.now) input.now out.old out.new result.status
         result.taken }

@@ -33,6 +33,7 @@ pub(crate) fn asked_of(task: u32, input: &[u8]) -> Work
             None => Work::Nothing,
         },
         7 => Work::Input(Alone::Tell),
+        8 => Work::Input(Alone::Attest),
         _ => Work::Nothing,
     }
 }

@@ -1,5 +1,6 @@
 pub mod Accounts
 pub mod Answers
+pub mod Attesting
 pub mod Books
 pub mod Facts
 pub mod Lives

@@ -4,9 +4,10 @@ use Rattle.mu_input.specs.declared.job.InputEnd.{InputEnd}
 use Rattle.mu_io.specs.declared.whole.ReadEnd.{ReadEnd}
 use Rattle.mu_mistakes.specs.Misreads.{HasShortLines, misread_lines, refusal_words}
 use Rattle.mu_report.specs.declared.said.Said.{Said}
-use Rattle.mu_report.specs.declared.said.Said.TheVariants.{Usage, Refused, Ran, Traced, Summed, Booked, Lived, Judged, Explained, Noted, Told, Shown, Misread, Promised, ReadFault, NoMemory, TooLong}
+use Rattle.mu_report.specs.declared.said.Said.TheVariants.{Usage, Refused, Ran, Traced, Summed, Booked, Lived, Judged, Explained, Noted, Told, Shown, Attested, Flawed, Misread, Promised, ReadFault, NoMemory, TooLong}
 use Rattle.mu_report.specs.Accounts.{account_lines}
 use Rattle.mu_report.specs.Answers.{verdict_line}
+use Rattle.mu_report.specs.Attesting.{attested_lines, flawed_lines}
 use Rattle.mu_report.specs.Books.{book_lines}
 use Rattle.mu_report.specs.Facts.{moment_lines, noted_lines}
 use Rattle.mu_report.specs.Lives.{lived_lines, HasShortSights}
@@ -21,8 +22,8 @@ use Rattle.mu_report.specs.Trace.{trace_lines, IsCountable}
 abbrev pub lines_of : Said → List (List ℕ)
 lines_of Usage =
     (codes
-    "usage: mu replay, mu eager, mu run, mu check, mu why, mu tell, mu show N, mu trace, "
-    ++ codes "mu eager trace, mu enough, mu bulk N, mu live K, mu desk, mu book")
+    "usage: mu replay, mu eager, mu run, mu check, mu why, mu tell, mu show N, mu attest, "
+    ++ codes "mu trace, mu eager trace, mu enough, mu bulk N, mu live K, mu desk, mu book")
     ∷ []
 lines_of (Refused line cause) = refusal_words line cause ∷ []
 lines_of (Ran o) = report_lines o
@@ -35,6 +36,8 @@ lines_of (Explained events line broken) = explained_lines events line broken
 lines_of (Noted events strays) = noted_lines events strays
 lines_of (Told account) = account_lines account
 lines_of (Shown moment) = moment_lines moment
+lines_of (Attested counts) = attested_lines counts
+lines_of (Flawed flawed) = flawed_lines flawed
 lines_of (Misread misread) = misread_lines misread
 lines_of (Promised promises) = promise_lines promises
 lines_of ReadFault = codes "read fault" ∷ []
@@ -71,6 +74,8 @@ IsShort (Explained events line broken) = ⊤
 IsShort (Noted events strays) = length strays < 2 ^ 8
 IsShort (Told account) = HasShortLists account.outcome
 IsShort (Shown moment) = length moment.facts < 2 ^ 32
+IsShort (Attested counts) = ⊤
+IsShort (Flawed flawed) = ⊤
 IsShort (Misread misread) = HasShortLines misread
 IsShort (Promised promises) = ⊤
 IsShort ReadFault = ⊤

@@ -4,6 +4,7 @@
 
 mod accounts;
 mod answers;
+mod attesting;
 mod book;
 mod facts;
 mod line;

@@ -7,6 +7,7 @@ ghost use Rattle.mu_report.specs.Said.{text, lines_of, said_of_end, said_of_read
 
 use crate::accounts::print_account;
 use crate::answers::verdict_line;
+use crate::attesting::{print_attested, print_flawed};
 use crate::book::print_book;
 use crate::facts::{print_moment, print_noted};
 use crate::line::print_words;
@@ -19,6 +20,7 @@ use crate::report::print_report;
 use crate::summary::print_summary;
 use crate::trace::print_trace;
 use match_book::Book;
+use mu_clients::{Attested, Flawed};
 use mu_enough::Promises;
 use mu_input::InputEnd;
 use mu_io::{ReadEnd, Sink, WriteFault};
@@ -29,8 +31,8 @@ use snap_reads::Lived;
 
 /// How the program is called.
 const USAGE: &[u8] =
-    b"usage: mu replay, mu eager, mu run, mu check, mu why, mu tell, mu show N, mu trace, \
-    mu eager trace, mu enough, mu bulk N, mu live K, mu desk, mu book";
+    b"usage: mu replay, mu eager, mu run, mu check, mu why, mu tell, mu show N, mu attest, \
+    mu trace, mu eager trace, mu enough, mu bulk N, mu live K, mu desk, mu book";
 
 /// What the program says at its end.
 pub enum Said {
@@ -80,6 +82,10 @@ pub enum Said {
     Told(Account),
     /// What holds after the first events of a list.
     Shown(Moment),
+    /// How many items an attested list has.
+    Attested(Attested),
+    /// The first item that breaks an attested list.
+    Flawed(Flawed),
     /// Where the input leaves the grammar and why, in words.
     Misread(Misread),
     /// What a job promises of its replay.
@@ -119,6 +125,8 @@ impl Drop for Said {
             } => {}
             Said::Told(account) => let_account_go(account),
             Said::Shown(_) => {}
+            Said::Attested(_) => {}
+            Said::Flawed(_) => {}
             Said::Misread(_) => {}
             Said::Promised(_) => {}
             Said::ReadFault => {}
@@ -226,6 +234,8 @@ fn print_said<P: Printer>(out: &mut P, said: &Said)
         Said::Noted { events, strays } => print_noted(out, *events, strays.as_slice()),
         Said::Told(account) => print_account(out, account),
         Said::Shown(moment) => print_moment(out, moment),
+        Said::Attested(counts) => print_attested(out, counts),
+        Said::Flawed(flawed) => print_flawed(out, flawed),
         Said::Misread(misread) => print_misread(out, misread),
         Said::Promised(promises) => print_promises(out, promises),
         Said::ReadFault => print_words(out, b"read fault"),

@@ -3,7 +3,7 @@ use Rattle.std.specs.Prelude.{ℕ, ◌≡◌, ◌<◌, ◌≤◌, ◌⊎◌, Lis
 use Rattle.std.specs.declared.option.Option.{Option}
 use Rattle.mu_io.specs.Faults.{Rose}
 use Rattle.mu_io.specs.Whole.{TakesAtMost}
-use Rattle.mu_judging.specs.Judged.{NotesOf, SaysOf, ShowsOf, TellsOf as TellsOfTrace}
+use Rattle.mu_judging.specs.Judged.{AttestsOf, NotesOf, SaysOf, ShowsOf, TellsOf as TellsOfTrace}
 use Rattle.mu_outcome.specs.declared.status.Status.{Status}
 use Rattle.mu_report.specs.declared.said.Said.{Said}
 use Rattle.mu_report.specs.Said.{text}
@@ -28,6 +28,7 @@ Does Task.Check bytes said = SaysOf bytes said
 Does Task.Why bytes said = NotesOf bytes said
 Does Task.Tell bytes said = TellsOfTrace bytes said
 Does (Task.Show count) bytes said = ShowsOf count bytes said
+Does Task.Attest bytes said = AttestsOf bytes said
 Does Task.Desk bytes said = Desks bytes said
 Does Task.Book bytes said = Books bytes said
 Does (Task.Live readers) bytes said = Lives readers bytes said

@@ -10,4 +10,5 @@ task_alone Alone.Check = Task.Check
 task_alone Alone.Why = Task.Why
 task_alone Alone.Tell = Task.Tell
 task_alone (Alone.Show count) = Task.Show count
+task_alone Alone.Attest = Task.Attest
 task_alone Alone.Book = Task.Book

@@ -22,6 +22,7 @@ task_named word =
     else if bytes_eq word (codes "check") then Some Task.Check
     else if bytes_eq word (codes "why") then Some Task.Why
     else if bytes_eq word (codes "tell") then Some Task.Tell
+    else if bytes_eq word (codes "attest") then Some Task.Attest
     else if bytes_eq word (codes "desk") then Some Task.Desk
     else if bytes_eq word (codes "book") then Some Task.Book
     else None
@@ -86,6 +87,7 @@ limit_of Task.Check = TRACE_LIMIT
 limit_of Task.Why = TRACE_LIMIT
 limit_of Task.Tell = TRACE_LIMIT
 limit_of (Task.Show count) = TRACE_LIMIT
+limit_of Task.Attest = TRACE_LIMIT
 limit_of Task.Desk = INPUT_LIMIT
 limit_of Task.Book = INPUT_LIMIT
 limit_of (Task.Live readers) = INPUT_LIMIT

@@ -11,7 +11,7 @@ use crate::booking::told_of_book;
 use crate::replaying::told_of_replay;
 use crate::tracing::told_of_trace;
 use mu_input::TRACE_LIMIT;
-use mu_judging::{explain_trace, judge, show_trace, tell_trace};
+use mu_judging::{attest_trace, explain_trace, judge, show_trace, tell_trace};
 use mu_report::Said;
 use std::alloc::Global;
 
@@ -30,6 +30,8 @@ pub enum Alone {
     Tell,
     /// `show` with this number.
     Show(u32),
+    /// `attest`.
+    Attest,
     /// `book`.
     Book,
 }
@@ -46,6 +48,7 @@ impl Alone {
             Alone::Why => TRACE_LIMIT,
             Alone::Tell => TRACE_LIMIT,
             Alone::Show(_) => TRACE_LIMIT,
+            Alone::Attest => TRACE_LIMIT,
             Alone::Book => INPUT_LIMIT,
         }
     }
@@ -75,6 +78,7 @@ fn told_within(alloc: Global, task: Alone, bytes: &[u8]) -> Said
         Alone::Why => explain_trace(alloc, bytes),
         Alone::Tell => tell_trace(alloc, bytes),
         Alone::Show(count) => show_trace(alloc, bytes, count),
+        Alone::Attest => attest_trace(alloc, bytes),
         Alone::Book => told_of_book(alloc, bytes),
     }
 }

@@ -45,6 +45,8 @@ pub enum Task {
     Tell,
     /// `show N`: judge the first events of a trace, this many, and tell what holds after them.
     Show(u32),
+    /// `attest`: judge a trace with lines of what clients see.
+    Attest,
     /// `desk`: run a job in turns whose commands come from clients that send at once.
     Desk,
     /// `book`: run a job in turns, and tell the book of orders after its commands.
@@ -79,6 +81,7 @@ impl Task {
             Task::Why => TRACE_LIMIT,
             Task::Tell => TRACE_LIMIT,
             Task::Show(_) => TRACE_LIMIT,
+            Task::Attest => TRACE_LIMIT,
             Task::Desk => INPUT_LIMIT,
             Task::Book => INPUT_LIMIT,
             Task::Live(_) => INPUT_LIMIT,
@@ -149,6 +152,8 @@ fn named_task(word: &[u8]) -> Option<Task>
         Some(Task::Why)
     } else if word == b"tell".as_slice() {
         Some(Task::Tell)
+    } else if word == b"attest".as_slice() {
+        Some(Task::Attest)
     } else if word == b"desk".as_slice() {
         Some(Task::Desk)
     } else if word == b"book".as_slice() {

@@ -19,7 +19,7 @@ use crate::summing::told_of_bulk;
 use crate::tracing::told_of_trace;
 use mu_cluster::Gate;
 use mu_io::{Sink, Source, WriteFault, read_all};
-use mu_judging::{explain_trace, judge, show_trace, tell_trace};
+use mu_judging::{attest_trace, explain_trace, judge, show_trace, tell_trace};
 use mu_outcome::Status;
 use mu_report::{Said, print_counted, status_for};
 use mu_shell::Answered;
@@ -35,8 +35,8 @@ use std::time::Clock;
 /// last one. Before each turn of `run`, before each command that comes to a `desk`, and before each
 /// publishing and get of `live` the gate is called.
 ///
-/// The words are `replay`, `eager`, `run`, `trace`, `enough`, `check`, `why`, `tell`, `desk` or
-/// `book`, with nothing after it, `show`, `bulk` or `live` with a number, or `eager trace`.
+/// The words are `replay`, `eager`, `run`, `trace`, `enough`, `check`, `why`, `tell`, `attest`,
+/// `desk` or `book`, with nothing after it, `show`, `bulk` or `live` with a number, or `eager trace`.
 pub fn mu<R: Threads + Wait + Clock + Sync, S: Source, K: Sink, G: Gate + Sync>(
     rt: &R,
     alloc: Global,
@@ -140,6 +140,7 @@ fn told_of_bytes<R: Threads + Wait + Clock + Sync, G: Gate + Sync>(
         Task::Why => explain_trace(alloc, bytes),
         Task::Tell => tell_trace(alloc, bytes),
         Task::Show(count) => show_trace(alloc, bytes, count),
+        Task::Attest => attest_trace(alloc, bytes),
         Task::Desk => told_of_desk(rt, alloc, bytes, gate),
         Task::Book => told_of_book(alloc, bytes),
         Task::Live(readers) => told_of_live(rt, alloc, bytes, readers, gate),
