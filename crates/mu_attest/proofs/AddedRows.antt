@@ -21,13 +21,6 @@ beside_next row i rows replies low there other =
     sym (ap (λ l. beside row l (drop i replies)) (drop_more rows i 0 low) ∙ ap (λ l. beside row (get_or rows i 0 ∷ drop (i + 1) rows) l) (drop_more replies i Reply.None there)
     ∙ ap (λ t. if t then Some (get_or replies i Reply.None) else beside row (drop (i + 1) rows) (drop (i + 1) replies)) other)
 
--- it is
-pub beside_here : (row i : ℕ) (rows : List ℕ) (replies : List Reply) → i < length rows → i < length replies → (get_or rows i 0 == row) ≡ true
-    → beside row (drop i rows) (drop i replies) ≡ Some (get_or replies i Reply.None)
-beside_here row i rows replies low there same =
-    ap (λ l. beside row l (drop i replies)) (drop_more rows i 0 low) ∙ ap (λ l. beside row (get_or rows i 0 ∷ drop (i + 1) rows) l) (drop_more replies i Reply.None there)
-    ∙ ap (λ t. if t then Some (get_or replies i Reply.None) else beside row (drop (i + 1) rows) (drop (i + 1) replies)) same
-
 beside_none : (row : ℕ) (rows : List ℕ) → beside row rows [] ≡ None
 beside_none row [] = refl
 beside_none row (x ∷ rows) = refl

@@ -38,16 +38,6 @@ pub record HasAttested (bytes : List ℕ) (job : Job) (first : ℕ) (left : Left
 pub back_push : (past : List Item) (item : Item) → items_back (past ++ item ∷ []) ≡ item ∷ items_back past
 back_push past item = reverse-append past (item ∷ [])
 
--- no item was read yet
-pub attested_none : (bytes : List ℕ) (job : Job) (left : Left) (attestor : Attestor) → OpensItems bytes job left → StandsForAttestor job [] attestor → HasAttested bytes job left.number left attestor
-attested_none bytes job left attestor opens stands = record {
-  past = [];
-  reading = opens.reading;
-  opens = opens.number;
-  number = omega arith;
-  stands = stands;
-}
-
 -- one more that may come
 pub attested_more : (bytes : List ℕ) (job : Job) (first : ℕ) (left next : Left) (old new : Attestor) (item : Item) → (held : HasAttested bytes job first left old)
     → items_with job.config.replicas (row_count job.config) held.past left ≡ items_with job.config.replicas (row_count job.config) (held.past ++ item ∷ []) next → next.number ≡ left.number + 1
@@ -142,10 +132,6 @@ opens_items bytes text given start left one all is later count fits =
           ∙ ap (λ l. of_items given (items_with given.config.replicas (row_count given.config) [] (record { number = left.number; lines = l }))) (ap later_lines (sym all) ∙ sym later);
       number = number;
     }
-
--- the job can't be read
-pub job_refused : (bytes text : List ℕ) (start : Left) (line cause : ℕ) → start.lines ≡ lines bytes → text ≡ ended (job_lines start.lines) → job text ≡ Leaves line cause → attested_trace bytes ≡ Leaves line cause
-job_refused bytes text start line cause all is leaves = ap (λ r. of_job r (lines bytes)) (ap (λ l. job (ended (job_lines l))) (sym all) ∙ ap job (sym is) ∙ leaves)
 
 -- what is given of the items by a count of the rows
 pub by_rows : (n rows count : ℕ) (past : List Item) (left : Left) (found : Result (Option Item) InputEnd) (next : Left) → rows ≡ count → GivesItem n rows past left found next → GivesItem n count past left found next

@@ -47,9 +47,6 @@ pub record HasMore (n rows : ℕ) (items : List Item) (old now : Left) : Type 0 
   pub more : List Item
   pub is : items_with n rows items old ≡ items_with n rows (items ++ more) now
 
-pub more_start : (n rows : ℕ) (items : List Item) (left : Left) → HasMore n rows items left left
-more_start n rows items left = record { more = []; is = ap (λ l. items_with n rows l left) (sym (append-nil items)) }
-
 pub more_step : (n rows : ℕ) (items : List Item) (old left next : Left) (item : Item) → (held : HasMore n rows items old left) → GivesItem n rows (items ++ held.more) left (Ok (Some item)) next → HasMore n rows items old next
 more_step n rows items old left next item held gives = record {
   more = held.more ++ item ∷ [];

@@ -12,15 +12,6 @@ pub record Splits (old : Left) (bytes : List ℕ) (now : Left) : Type 0 where
   pub later : later_lines old.lines ≡ later_lines now.lines
   pub number : old.number + length (job_lines old.lines) ≡ now.number + length (job_lines now.lines)
 
--- all lines of the job were taken
-pub record HasTakenJob (old : Left) (bytes : List ℕ) (now : Left) : Type 0 where
-  pub bytes_are : bytes ≡ ended (job_lines old.lines)
-  pub later : now.lines ≡ later_lines old.lines
-  pub number : now.number ≡ old.number + length (job_lines old.lines)
-
-pub splits_start : (old : Left) → Splits old [] old
-splits_start old = record { bytes_are = refl; later = refl; number = refl }
-
 -- a line more
 line_joined : (bytes line rest : List ℕ) → bytes ++ (line ++ LINE_FEED ∷ rest) ≡ ((bytes ++ line) ++ LINE_FEED ∷ []) ++ rest
 line_joined bytes line rest = sym (append_assoc (bytes ++ line) (LINE_FEED ∷ []) rest ∙ append_assoc bytes line (LINE_FEED ∷ rest))
@@ -40,26 +31,3 @@ splits_on old now next bytes line other is count held = go (bytes_eq line (codes
       later = l;
       number = omega (arith, n, count);
     }
-
-pub splits_end : (old now next : Left) (bytes line : List ℕ) → bytes_eq line (codes "end") ≡ true → now.lines ≡ line ∷ next.lines → next.number ≡ now.number + 1 → Splits old bytes now
-    → HasTakenJob old ((bytes ++ line) ++ LINE_FEED ∷ []) next
-splits_end old now next bytes line last is count held = go (bytes_eq line (codes "end")) last
-    (held.bytes_are ∙ ap (λ l. bytes ++ ended (job_lines l)) is) (held.later ∙ ap later_lines is) (held.number ∙ ap (λ l. now.number + length (job_lines l)) is)
-  where
-    go : (t : Bool) → t ≡ true → ended (job_lines old.lines) ≡ bytes ++ ended (if t then line ∷ [] else line ∷ job_lines next.lines)
-        → later_lines old.lines ≡ (if t then next.lines else later_lines next.lines)
-        → old.number + length (job_lines old.lines) ≡ now.number + length (if t then line ∷ [] else line ∷ job_lines next.lines)
-        → HasTakenJob old ((bytes ++ line) ++ LINE_FEED ∷ []) next
-    go false clash b l n = cc
-    go true last' b l n = record {
-      bytes_are = sym (b ∙ line_joined bytes line [] ∙ append-nil ((bytes ++ line) ++ LINE_FEED ∷ []));
-      later = sym l;
-      number = omega (arith, n, count);
-    }
-
-pub splits_none : (old now : Left) (bytes : List ℕ) → now.lines ≡ [] → Splits old bytes now → HasTakenJob old bytes now
-splits_none old now bytes none held =
-    let b = held.bytes_are ∙ ap (λ l. bytes ++ ended (job_lines l)) none ∙ append-nil bytes in
-    let l = held.later ∙ ap later_lines none in
-    let n = held.number ∙ ap (λ l. now.number + length (job_lines l)) none in
-    record { bytes_are = sym b; later = none ∙ sym l; number = omega (arith, n) }
