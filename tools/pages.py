@@ -40,7 +40,7 @@ MOST_WORDS = {
     "docs/AGREEMENT.md": 1_300,
     "docs/ALIVE.md": 2_900,
     "docs/DECISIONS.md": 2_060,
-    "docs/FORMATS.md": 3_450,
+    "docs/FORMATS.md": 3_460,
     "docs/MEASURED.md": 1_800,
     "docs/PACE.md": 1_750,
     "docs/PAPER.md": 950,
