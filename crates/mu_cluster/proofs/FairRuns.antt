@@ -50,7 +50,7 @@ left_node c script parts nodes events left has r low =
 pub eager_left : (o : Outcome) (events : List Event) (nodes : List Node) → HasParts o.job.config events (journals_of o) → AreLeft o.job.config o.job.script (journals_of o) nodes → AreEager o
 eager_left o events nodes has left r low =
     let node = left_node o.job.config o.job.script (journals_of o) nodes events left has r low in
-    subst (λ h. AtEachStep (IsListed Zeal.Eager o.job.config r) h) (sym (journal_is o events has r low)) (subst (λ z. AtEachStep (IsListed z o.job.config r) (part_of r events)) node.2 node.1.listed)
+    subst (λ h. AtEachStep (IsListed Zeal.Eager o.job.config r) h) (sym (journal_is o events has r low)) (subst (λ z. AtEachStep (IsListed z o.job.config r) (part_of r events)) node.2 (node.1.listed refl))
 
 left_nodes : (c : Config) (script : Script) (parts : List (List Event)) (nodes : List Node) (events : List Event) → AreLeft c script parts nodes → IsLegal c events → HasParts c events parts → ((r : ℕ) → r < c.replicas → IsDiligentBy true c r (part_of r events)) → AreRunNodes true c events
 left_nodes c script parts nodes events left legal has diligent = record {
