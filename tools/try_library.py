@@ -21,7 +21,7 @@ import time
 sys.path.insert(0, os.path.dirname(os.path.realpath(__file__)))
 from beginning import begin
 from judged_table import judged
-from own_traces import OWN, PLACE, RUNS, c_compiler, cxx_compiler
+from own_traces import OWN, PLACE, RUNS, SEEN, c_compiler, cxx_compiler
 from programs import TOP
 from run_cases import contents
 
@@ -73,7 +73,8 @@ def try_own(tried, folder, compiler):
         tried.expect(f"replicas.c {word}", [PLACE.sub(b"", line) for line in run.stdout.splitlines()],
                      [PLACE.sub(b"", line) for line in wanted.splitlines()])
         tried.expect(f"the picture of {word}", os.path.exists(picture), word == "right")
-    for word in RUNS["py"]:
+    # Those with lines of what clients saw are for `attest`, and no matter of a judge of events.
+    for word in (it for it in RUNS["py"] if it not in SEEN):
         run = subprocess.run([sys.executable, os.path.join(OWN, "replicas.py"), "judged", word], stdout=subprocess.PIPE,
                              timeout=120, check=False)
         tried.expect(f"replicas.py judged {word}", run.stdout, contents(os.path.join(OWN, f"replicas.py.{word}.stdout")))
@@ -83,8 +84,9 @@ def by_lines(library, trace):
     """What a judge says of a trace line by line: its words, or the line that it refuses."""
     lines = trace.split(b"\n")
     end = lines.index(b"end") + 1 if b"end" in lines else len(lines)
+    job = b"\n".join(lines[:end]) + b"\n" if b"end" in lines else trace
     try:
-        judge = library.Judge(b"\n".join(lines[:end]) + b"\n")
+        judge = library.Judge(job)
     except ValueError as refused:
         return f"{refused}\n".encode()
     with judge:
