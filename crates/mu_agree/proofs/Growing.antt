@@ -27,7 +27,8 @@ use Rattle.mu_model.proofs.Basics.{and_false, false_and}
 use Rattle.mu_model.proofs.Lists.{get_front, item_below}
 use Rattle.mu_model.proofs.Putting.{IsNew, MayEnter, MayPutSlot, head_applied, head_points, head_reached, put_facts, put_points, raise_facts, raise_points}
 use Rattle.mu_model.proofs.Parts.{filter-append, part_is_possible}
-use Rattle.mu_agree.specs.Growing.{AnswersStay, AppliedStays, CommitsStay, KnownStays, LaterRowsFollow, LegalStays, with_more}
+use Rattle.mu_agree.specs.Growing.{AnswersStay, AppliedStays, CommitsStay, KnownStays, LaterRowsFollow, LegalStays}
+use Rattle.mu_model.specs.Growing.{with_more}
 use Rattle.mu_agree.proofs.Knowing.{known_stays}
 use Rattle.mu_agree.proofs.Prefixes.{known_agree}
 use Rattle.mu_agree.proofs.Landings.{has_of_part}

@@ -1,5 +1,5 @@
--- with more: the configuration with rows added after its own; what is said of a list of events
--- before they are added, and after it.
+-- growing: what is said of a list of events before rows are added to the configuration, and after
+-- it.
 use Rattle.std.specs.Prelude.{List, Some, true, ℕ, ◌%◌, ◌++◌, ◌<◌, ◌≡◌, ◌≤◌}
 use Rattle.std.specs.List.{slice_get}
 use Rattle.mu_model.specs.declared.config.Config.{Config}
@@ -8,21 +8,11 @@ use Rattle.mu_model.specs.declared.event.Event.{Event}
 use Rattle.mu_model.specs.declared.event.Verb.{Verb}
 use Rattle.mu_model.specs.Answers.{answer_of}
 use Rattle.mu_model.specs.Contents.{IsConfig, is_batch, row_count}
+use Rattle.mu_model.specs.Growing.{with_more}
 use Rattle.mu_model.specs.Histories.{history, part}
 use Rattle.mu_model.specs.Knowledge.{applied, commits, known}
 use Rattle.mu_model.specs.Legal.{IsLegal}
 use Rattle.mu_model.specs.Parts.{IsPossible}
-
--- the configuration with these rows after its own
-abbrev pub with_more : Config → List Row → Config
-with_more c more = record {
-  version = c.version;
-  width = c.width;
-  replicas = c.replicas;
-  ring = c.ring;
-  budget = c.budget;
-  rows = c.rows ++ more;
-}
 
 -- a step finds what it found before
 abbrev pub AnswersStay : Type 0

@@ -14,7 +14,7 @@ use Rattle.mu_model.specs.Parts.{IsPossible}
 use Rattle.mu_model.specs.Room.{reserve}
 use Rattle.mu_model.specs.Scores.{least_below}
 use Rattle.mu_model.proofs.Lists.{get_front, get_push_here}
-use Rattle.mu_agree.specs.Growing.{with_more}
+use Rattle.mu_model.specs.Growing.{with_more}
 use Rattle.mu_agree.proofs.Growing.{applied_kept, commits_kept, known_kept, rows_in_kept}
 use Rattle.mu_agree.proofs.Possible.{parts_stand_law}
 use Rattle.mu_agree.proofs.Sessions.{batch_within, row_within}

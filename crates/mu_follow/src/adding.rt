@@ -1,6 +1,6 @@
 //! A replayer whose configuration gets one row more.
 ghost use Rattle.std.specs.Prelude.{IfOk, List, [], ℕ, ◌∷◌, ◌≡◌};
-ghost use Rattle.mu_agree.specs.Growing.{with_more};
+ghost use Rattle.mu_model.specs.Growing.{with_more};
 ghost use Rattle.mu_model.specs.declared.config.Row.{Row as SomeRow};
 ghost use Rattle.mu_model.specs.declared.event.Event.{Event};
 ghost use Rattle.mu_model.specs.Contents.{IsConfig};

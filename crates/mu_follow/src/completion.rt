@@ -1,6 +1,6 @@
 //! From which length on a log holds every command of the job.
 ghost use Rattle.std.specs.Prelude.{Bool, IfOk, List, None, Some, [], if◌then◌else◌, length, nat_le, take, true, ℕ, ◌++◌, ◌+◌, ◌<◌, ◌==◌, ◌^◌, ◌∷◌, ◌≡◌, ◌≤◌, ◌||◌};
-ghost use Rattle.mu_agree.specs.Growing.{with_more};
+ghost use Rattle.mu_model.specs.Growing.{with_more};
 ghost use Rattle.mu_model.specs.declared.config.Config.{Config};
 ghost use Rattle.mu_model.specs.declared.config.Row.{Row as SomeRow};
 ghost use Rattle.mu_model.specs.Contents.{IsConfig, includes, row_count, rows_of};

@@ -17,7 +17,7 @@ use Rattle.mu_model.specs.Knowledge.{has_word, wrote}
 use Rattle.mu_model.specs.Parts.{IsPossible}
 use Rattle.mu_model.proofs.Basics.{and_false, false_and}
 use Rattle.mu_model.proofs.Lists.{get_front, get_replicate}
-use Rattle.mu_agree.specs.Growing.{with_more}
+use Rattle.mu_model.specs.Growing.{with_more}
 use Rattle.mu_agree.proofs.Growing.{no_row_written, no_word_there}
 use Rattle.mu_agree.proofs.Possible.{parts_shorten_law}
 use Rattle.mu_knowledge.specs.HeldRows.{HasWords, WroteWords, word_place}

@@ -1,7 +1,7 @@
 //! Which positions of one log are known to be filled.
 ghost use Rattle.std.specs.List.{slice_get};
 ghost use Rattle.std.specs.Prelude.{IfOk, List, None, Some, [], false, length, nat_lt, ℕ, ◌<◌, ◌||◌, ◌∷◌, ◌≡◌, ◌≤◌, true, ◌&&◌, ◌==◌};
-ghost use Rattle.mu_agree.specs.Growing.{with_more};
+ghost use Rattle.mu_model.specs.Growing.{with_more};
 ghost use Rattle.mu_model.specs.declared.config.Config.{Config};
 ghost use Rattle.mu_model.specs.declared.config.Row.{Row as SomeRow};
 ghost use Rattle.mu_model.specs.declared.event.Event.{Event};

@@ -1,6 +1,6 @@
 //! Which rows a replica has written or read, and what it has applied.
 ghost use Rattle.std.specs.Prelude.{IfOk, List, Some, [], length, replicate, ℕ, Bool, ◌%◌, ◌&&◌, ◌*◌, ◌+◌, ◌/◌, ◌<◌, ◌==◌, ◌||◌, ◌∷◌, ◌≡◌, ◌≤◌, false};
-ghost use Rattle.mu_agree.specs.Growing.{with_more};
+ghost use Rattle.mu_model.specs.Growing.{with_more};
 ghost use Rattle.mu_model.specs.declared.config.Config.{Config};
 ghost use Rattle.mu_model.specs.declared.config.Row.{Row as SomeRow};
 ghost use Rattle.mu_model.specs.declared.event.Event.{Event};

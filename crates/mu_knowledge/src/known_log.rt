@@ -1,6 +1,6 @@
 //! What a replica has learnt.
 ghost use Rattle.std.specs.List.{slice_get};
-ghost use Rattle.mu_agree.specs.Growing.{with_more};
+ghost use Rattle.mu_model.specs.Growing.{with_more};
 ghost use Rattle.mu_model.specs.declared.config.Row.{Row as SomeRow};
 ghost use Rattle.std.specs.Prelude.{false, IfOk, None, if◌then◌else◌, List, Some, [], length, replicate, vec_capacity, ℕ, ◌%◌, ◌++◌, ◌+◌, ◌<◌, ◌==◌, ◌||◌, ◌∷◌, ◌≡◌, ◌≤◌, take};
 ghost use Rattle.mu_model.specs.declared.config.Config.{Config};

@@ -1,6 +1,6 @@
 //! The words that a replica has of the rows of a job.
 ghost use Rattle.std.specs.Prelude.{IfOk, if◌then◌else◌, List, [], replicate, vec_capacity, ℕ, ◌&&◌, ◌*◌, ◌+◌, ◌<◌, ◌==◌, ◌∷◌, ◌≡◌, ◌≤◌};
-ghost use Rattle.mu_agree.specs.Growing.{with_more};
+ghost use Rattle.mu_model.specs.Growing.{with_more};
 ghost use Rattle.mu_model.specs.declared.config.Config.{Config};
 ghost use Rattle.mu_model.specs.declared.config.Row.{Row as SomeRow};
 ghost use Rattle.mu_model.specs.Parts.{IsPossible};

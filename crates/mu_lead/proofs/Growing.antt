@@ -12,7 +12,7 @@ use Rattle.mu_model.specs.Contents.{IsConfig, client_of, row_count}
 use Rattle.mu_model.specs.Knowledge.{known, wrote}
 use Rattle.mu_model.specs.Parts.{IsPossible}
 use Rattle.mu_model.specs.Room.{reserve}
-use Rattle.mu_agree.specs.Growing.{with_more}
+use Rattle.mu_model.specs.Growing.{with_more}
 use Rattle.mu_agree.proofs.Growing.{AllStand, candidate_kept, client_kept, filled_kept, known_kept, lacks_more, legal_kept, marked_kept, more_rows, new_more, new_stands, no_row_written, number_kept, rest_kept, row_batch_kept, session_kept}
 use Rattle.mu_agree.proofs.Possible.{parts_stand_law}
 use Rattle.mu_agree.proofs.Sessions.{row_within}

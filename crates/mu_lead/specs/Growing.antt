@@ -6,7 +6,7 @@ use Rattle.mu_model.specs.declared.config.Row.{Row}
 use Rattle.mu_model.specs.declared.event.Event.{Event}
 use Rattle.mu_model.specs.Contents.{IsConfig}
 use Rattle.mu_model.specs.Parts.{IsPossible}
-use Rattle.mu_agree.specs.Growing.{with_more}
+use Rattle.mu_model.specs.Growing.{with_more}
 use Rattle.mu_lead.specs.declared.place.Place.{Place}
 use Rattle.mu_lead.specs.Standing.{At}
 

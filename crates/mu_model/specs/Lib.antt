@@ -7,6 +7,7 @@ pub mod Contents
 pub mod Diligence
 pub mod Ends
 pub mod Entering
+pub mod Growing
 pub mod Histories
 pub mod Journals
 pub mod Knowledge

@@ -9,7 +9,7 @@ use Rattle.mu_model.specs.declared.event.Event.{Event}
 use Rattle.mu_model.specs.declared.event.Target.{Target}
 use Rattle.mu_model.specs.declared.event.Verb.{Verb}
 use Rattle.mu_model.specs.Histories.{history, part}
-use Rattle.mu_agree.specs.Growing.{with_more}
+use Rattle.mu_model.specs.Growing.{with_more}
 use Rattle.mu_words.specs.Finding.{found_word, kept, kept_after, loaded_by, name_of, sights}
 use Rattle.mu_words.specs.Founds.{FoundIs, fixed_word, last_entered}
 use Rattle.mu_words.specs.Growing.{FoundsStay, WordsStay}

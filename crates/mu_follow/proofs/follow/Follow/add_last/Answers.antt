@@ -1,6 +1,6 @@
 use Rattle.std.proofs.Common.{[], ◌∷◌, ◌<◌, ◌∙◌, arith, length, refl, subst, sym}
 use Rattle.mu_model.specs.Contents.{IsConfig}
-use Rattle.mu_agree.specs.Growing.{with_more}
+use Rattle.mu_model.specs.Growing.{with_more}
 use Rattle.mu_agree.proofs.Possible.{parts_stand_law}
 use Rattle.mu_agree.proofs.Within.{known_few}
 use Rattle.mu_knowledge.specs.HeldRows.{StandsForHeldRows}

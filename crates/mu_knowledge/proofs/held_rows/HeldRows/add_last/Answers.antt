@@ -1,7 +1,7 @@
 use Rattle.std.proofs.Common.{[], ◌*◌, ◌++◌, ◌∷◌, ◌≡◌, ◌∙◌, ap, arith, false, length, replicate, subst, suc, sym, take}
 use Rattle.mu_model.specs.Contents.{IsConfig, row_count}
 use Rattle.mu_model.specs.Knowledge.{applied}
-use Rattle.mu_agree.specs.Growing.{with_more}
+use Rattle.mu_model.specs.Growing.{with_more}
 use Rattle.mu_agree.proofs.Growing.{applied_kept}
 use Rattle.mu_agree.proofs.Possible.{parts_stand_law}
 use Rattle.mu_knowledge.specs.HeldRows.{HasWords, WroteWords}

@@ -1,6 +1,6 @@
 use Rattle.std.proofs.Common.{[], ◌*◌, ◌++◌, ◌∷◌, ◌≡◌, ◌∙◌, ap, arith, replicate, subst, suc, sym, take}
 use Rattle.mu_model.specs.Contents.{row_count}
-use Rattle.mu_agree.specs.Growing.{with_more}
+use Rattle.mu_model.specs.Growing.{with_more}
 use Rattle.mu_knowledge.specs.RowWords.{HoldWords, word_held}
 use Rattle.mu_knowledge.proofs.Adding.{count_more}
 use Rattle.mu_knowledge.proofs.Widening.{words_long, words_more}

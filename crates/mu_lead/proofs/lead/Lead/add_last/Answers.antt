@@ -3,7 +3,7 @@ use Rattle.mu_model.specs.declared.config.Config.{Config}
 use Rattle.mu_model.specs.Contents.{IsConfig}
 use Rattle.mu_model.specs.Knowledge.{known as known_of}
 use Rattle.mu_model.specs.Parts.{IsPossible}
-use Rattle.mu_agree.specs.Growing.{with_more}
+use Rattle.mu_model.specs.Growing.{with_more}
 use Rattle.mu_agree.proofs.Growing.{known_kept}
 use Rattle.mu_lead.specs.Leading.{HoldsTables}
 use Rattle.mu_lead.specs.Listing.{Tables, late_from}
