@@ -1,0 +1,70 @@
+#!/usr/bin/env python3
+"""Runs `mu` over a large input and into a large output and counts its system calls: it reads in pieces of 64 KiB and
+writes in pieces of 32 KiB, not byte by byte, line by line or event by event.
+
+    tools/system_calls.py      the program that ./prove left, or an unproved build; the last line is
+                               `N passed, M failed`
+
+No clause says so: a contract speaks of the bytes that were read and written, and a source or a sink may take fewer than it
+is handed.
+"""
+import os
+import subprocess
+import sys
+import tempfile
+
+import trying
+from programs import tell
+
+READ_PIECE, WRITE_PIECE = 65_536, 32_768
+# Of both together: what a process needs beside its pieces (it begins, looks for its words and its end), and what ends a piece
+# early.
+BESIDE = 40
+COMMANDS_OF_JOB = 400
+JOB = ("mu 1\nreplicas 3\nring 64\nbudget 131071\nclient 0\n" + "put key value\n" * COMMANDS_OF_JOB + "end\n").encode()
+
+
+def counted(words, given):
+    """The output of a run, and how often it read and wrote."""
+    with tempfile.TemporaryFile() as source, tempfile.TemporaryFile() as out:
+        source.write(given)
+        source.seek(0)
+        run = subprocess.Popen(words, stdin=source, stdout=out, stderr=subprocess.DEVNULL)
+        # It has ended, and isn't waited for: so its figures are still there.
+        os.waitid(os.P_PID, run.pid, os.WEXITED | os.WNOWAIT)
+        with open(f"/proc/{run.pid}/io", encoding="ascii") as figures:
+            found = dict(line.split(": ") for line in figures.read().splitlines())
+        run.wait()
+        out.seek(0)
+        return out.read(), int(found["syscr"]), int(found["syscw"])
+
+
+def trouble(words, given, output, reads, writes):
+    """What is wrong with a run, if anything is."""
+    most_reads = len(given) // READ_PIECE + BESIDE
+    most_writes = len(output) // WRITE_PIECE + BESIDE
+    if reads > most_reads or writes > most_writes:
+        return (f"{' '.join(words[1:])}: {reads} reads of {len(given)} bytes and {writes} writes of {len(output)}, "
+                f"at most {most_reads} and {most_writes}")
+    return None
+
+
+def tried(path_of):
+    """How many runs were counted, and what is wrong with them."""
+    path = path_of("mu")
+    if not path:
+        return 0, []
+    trace, *calls = counted([path, "trace"], JOB)
+    found = [trouble([path, "trace"], JOB, trace, *calls)]
+    for words, given in (["check"], trace), (["tell"], trace), (["replay"], JOB):
+        found.append(trouble([path, *words], given, *counted([path, *words], given)))
+    return len(found), list(filter(None, found))
+
+
+def main():
+    count, wrong = tried(trying.program_of)
+    return tell(wrong, f"{count - len(wrong)} passed, {len(wrong)} failed")
+
+
+if __name__ == "__main__":
+    sys.exit(main())
