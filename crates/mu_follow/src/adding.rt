@@ -8,9 +8,8 @@ ghost use Rattle.mu_model.specs.Parts.{IsPossible};
 ghost use Rattle.mu_follow.specs.Follow.{StandsForFollow};
 ghost use Rattle.mu_follow.specs.Growing.{HasRoomToFollow};
 
-use crate::commits::make_room_for_commits;
 use crate::follow::Follow;
-use mu_model::{Config, NoMemory};
+use mu_model::{Config, NoMemory, positions_in, reserve_to};
 
 impl Follow {
     /// Makes room for one row more. Takes memory.
@@ -30,7 +29,7 @@ impl Follow {
         self.words.make_room()?;
         self.own_log.make_room()?;
         self.completion.make_room()?;
-        make_room_for_commits(&mut self.commits, &self.config)?;
+        reserve_to(&mut self.commits, positions_in(&self.config).saturating_add(1))?;
         Ok(())
     }
 

@@ -6,7 +6,6 @@ ghost use Rattle.mu_follow.specs.Paces.{HeadsRiseInTime};
 
 mod adding;
 mod catching_up;
-mod commits;
 mod completion;
 mod follow;
 mod groups;

@@ -16,13 +16,12 @@ ghost use Rattle.mu_follow.specs.Completion.{HoldsCompletion};
 ghost use Rattle.mu_follow.specs.Follow.{AwaitsEntry, HoldsFollow, StandsForFollow, commit_of};
 ghost use Rattle.mu_follow.specs.Kinds.{kind_of as kind_of_verb, put_spot};
 
-use crate::commits::push_commit;
 use crate::completion::Completion;
 use crate::follow::Follow;
 use crate::kind::{Kind, kind_of};
 use crate::outrunning::outrun_after;
 use mu_knowledge::{Commit, HeldRows, KnownLog, fuo_in};
-use mu_model::{Answer, Config, Event, Verb};
+use mu_model::{Answer, Config, Event, Verb, push_within};
 
 /// How many steps there were, after one more.
 fn steps_after(steps: u32) -> u32
@@ -319,6 +318,6 @@ impl Follow {
             &self.knowing,
             &self.rows,
         );
-        push_commit(&mut self.commits, Commit { position, value });
+        push_within(&mut self.commits, Commit { position, value });
     }
 }

@@ -12,7 +12,7 @@ ghost use Rattle.mu_model.specs.Parts.{IsPossible};
 ghost use Rattle.mu_knowledge.specs.FilledLog.{HasRoomForPosition, IsFilledTo, StandsForFilledLog, filled_spot, is_at};
 ghost use Rattle.mu_knowledge.specs.KnownLog.{is_set};
 
-use mu_model::{Answer, Config, Event, NoMemory, Verb, positions_in};
+use mu_model::{Answer, Config, Event, NoMemory, Verb, positions_in, push_within};
 use std::alloc::Global;
 
 /// Which positions of one log are known to be filled.
@@ -89,9 +89,7 @@ impl FilledLog {
             → HasRoomForPosition self.old → StandsForFilledLog c r p mine self.old
             → StandsForFilledLog (with_more c (row ∷ [])) r p mine self.new }
     {
-        if self.filled.len() < self.filled.capacity() {
-            self.filled.push_reserved(false);
-        }
+        push_within(&mut self.filled, false);
     }
 
     /// A log with no position filled yet. Takes memory for all positions.

@@ -15,8 +15,8 @@ ghost use Rattle.mu_knowledge.specs.KnownLog.{CountsCommands, HasRoomForRow, Sta
 
 use crate::client_rows::ClientRows;
 use mu_model::{
-    Answer, Config, Event, NoMemory, PAYLOADS, Verb, positions_in, row_client, row_rest,
-    stands_for_batch, stands_for_mark,
+    Answer, Config, Event, NoMemory, PAYLOADS, Verb, positions_in, push_within, reserve_to,
+    row_client, row_rest, stands_for_batch, stands_for_mark,
 };
 use std::alloc::Global;
 
@@ -108,38 +108,6 @@ fn rows_after(rows: usize, config: &Config, v: u16) -> usize
     rows.saturating_add(rows_of(config, v))
 }
 
-/// Adds a value if there is room. Takes no memory.
-fn push_value(values: &mut Vec<u16>, v: u16)
-    ensures items { length values.old.items < vec_capacity values.old
-        → values.new.items ≡ values.old.items ++ v ∷ [] }
-    ensures room { vec_capacity values.new ≡ vec_capacity values.old }
-{
-    if values.len() < values.capacity() {
-        values.push_reserved(v);
-    }
-}
-
-/// Makes room for so many values in all. Takes memory.
-fn make_room_to(values: &mut Vec<u16>, most: usize) -> Result<(), NoMemory>
-    ensures items { values.new.items ≡ values.old.items }
-    ensures grows { vec_capacity values.old ≤ vec_capacity values.new }
-    ensures room { IfOk result (λ done. most ≤ vec_capacity values.new) }
-{
-    let more = most.saturating_sub(values.len());
-    values.reserve(more)
-}
-
-/// Adds a position that was not seen, if there is room. Takes no memory.
-fn push_unseen(seen: &mut Vec<bool>)
-    ensures items { length seen.old.items < vec_capacity seen.old
-        → seen.new.items ≡ seen.old.items ++ false ∷ [] }
-    ensures room { vec_capacity seen.new ≡ vec_capacity seen.old }
-{
-    if seen.len() < seen.capacity() {
-        seen.push_reserved(false);
-    }
-}
-
 /// Whether the verb may make a value known, or tell what is decided.
 fn is_telling(verb: &Verb) -> bool
     ensures { result ≡ is_telling verb.now }
@@ -228,7 +196,7 @@ impl KnownLog {
             → StandsForKnownLog config.now r mine self.old → HasRoomForRow config.now self.new) }
     {
         self.by_client.make_room()?;
-        make_room_to(&mut self.values, positions_in(config).saturating_add(1))?;
+        reserve_to(&mut self.values, positions_in(config).saturating_add(1))?;
         self.seen.reserve(1)?;
         Ok(())
     }
@@ -241,7 +209,7 @@ impl KnownLog {
             → StandsForKnownLog config.now r mine self.new }
     {
         self.by_client.add_last(config);
-        push_unseen(&mut self.seen);
+        push_within(&mut self.seen, false);
     }
 
     /// Whether the replica `r` saw an entry at position `i` of its own region.
@@ -316,7 +284,7 @@ impl KnownLog {
         ensures seen { self.new.seen ≡ self.old.seen }
     {
         if let Some(v) = learnt {
-            push_value(&mut self.values, v);
+            push_within(&mut self.values, v);
             note_mark(&mut self.marks, config, v);
             count_rows(&mut self.counts, config, v);
             self.rows = rows_after(self.rows, config, v);

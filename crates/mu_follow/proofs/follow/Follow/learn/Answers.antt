@@ -28,7 +28,7 @@ returns-clause-stands c r mine e possible some held =
     let grows = applied_grows k r mine e in
     let few = few_commits k r mine in
     let same : length state.commits.items ≡ length (commits k r mine) = sym (length-map state.commits.items pair_of) ∙ ap length held.commits.are in
-    let pushed = c.push_commit.ensures.items (omega (arith, few, within, more, same, held.commits.room)) in
+    let pushed = c.push_within.ensures.items (omega (arith, few, within, more, same, held.commits.room)) in
     let steps = held.steps in
     record {
       config = held.config;
@@ -43,7 +43,7 @@ returns-clause-stands c r mine e possible some held =
       completion = c.count_applied.ensures r mine e good possible knowing rows held.completion;
       commits = record {
         are = ap (map pair_of) pushed ∙ (pairs_push state.commits.items _ ∙ (ap (λ l. l ++ (c.args.position, v) ∷ []) held.commits.are ∙ sym (ap (grown (commits k r mine)) some)));
-        room = omega (arith, held.commits.room, c.push_commit.ensures.room);
+        room = omega (arith, held.commits.room, c.push_within.ensures.room);
       };
       outrun = held.outrun ∙ outrun_stays k r e.by e.verb e.answer mine (ap is_look kind);
       progress = record {
