@@ -90,6 +90,8 @@ impl<M: Memory> Model for MemoryPort<M> {
 }
 
 impl<M: Memory> MemoryPort<M> {
+    ghost use Rattle.mu_model.specs.Legal.{IsLegal};
+
     /// Passes the memory to the replica `by`, whose port this is from now on. Takes no memory.
     pub fn pass_to(&mut self, by: u8)
         requires { by < self.old.config.replicas }
@@ -99,6 +101,14 @@ impl<M: Memory> MemoryPort<M> {
         ensures limit { self.new.row_limit ≡ self.old.row_limit }
     {
         self.by = by;
+    }
+
+    /// The kept list, in true order.
+    pub fn events(&self) -> &[Event]
+        ensures events { result.now ≡ self.now.events }
+        ensures legal { IsLegal self.now.config self.now.events }
+    {
+        self.memory.events()
     }
 
     /// The memory. Takes no memory.
