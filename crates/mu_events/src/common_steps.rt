@@ -1,10 +1,12 @@
-//! The steps of the verbs that most lines have, each read by a path of its own.
-ghost use Rattle.std.specs.Prelude.{◌≡◌, [], ◌∷◌, IfSome, Some, codes, false};
+//! The steps of the verbs that most lines have, each read by a path of its own: the first eight
+//! bytes of a text tell which.
+ghost use Rattle.std.specs.Prelude.{◌≡◌, ◌≢◌, ℕ, List, [], ◌∷◌, ◌++◌, IfSome, MatchOption, Some, codes, false};
 ghost use Rattle.std.specs.Option.{option_map};
 ghost use Rattle.std.specs.Str.{bytes_eq};
 ghost use Rattle.mu_model.specs.declared.event.Verb.{Verb as SomeVerb};
 ghost use Rattle.mu_events.specs.Events.{of_three, of_two, sides};
 ghost use Rattle.mu_events.specs.Steps.{step_after};
+ghost use Rattle.mu_text.specs.declared.TheConstants.{SPACE};
 ghost use Rattle.mu_text.specs.Lines.{words};
 ghost use Rattle.mu_text.specs.Numbers.{of_8, of_16, of_64};
 
@@ -12,15 +14,62 @@ use crate::events::{found, is_equals, split_first, step_named};
 use mu_model::{Answer, Verb};
 use mu_text::{SPACE, of_8, of_16, of_64};
 
+/// What follows these eight bytes in a text, if it begins with them: all eight are compared at once.
+#[inline(always)]
+fn after_eight(text: &[u8], eight: [u8; 8]) -> Option<&[u8]>
+    ensures { MatchOption result ((rest : List ℕ) → text.now ≢ eight ++ rest)
+        (λ rest. text.now ≡ eight ++ rest.now) }
+{
+    let [a, b, c, d, e, f, g, h, rest @ ..] = text else {
+        return None;
+    };
+    let front = u64::from_le_bytes([*a, *b, *c, *d, *e, *f, *g, *h]);
+    if front == u64::from_le_bytes(eight) {
+        Some(rest)
+    } else {
+        None
+    }
+}
+
+/// What follows a space, if a text begins with one.
+#[inline(always)]
+fn after_space(text: &[u8]) -> Option<&[u8]>
+    ensures { IfSome result (λ rest. text.now ≡ SPACE ∷ rest.now) }
+{
+    match text {
+        [SPACE, rest @ ..] => Some(rest),
+        _ => None,
+    }
+}
+
+/// Whether the text is that of a beat.
+#[inline(always)]
+pub(crate) fn is_beat(text: &[u8]) -> bool
+    ensures { result ≡ bytes_eq text.now (codes "beat = done") }
+{
+    match after_eight(text, *b"beat = d") {
+        Some(rest) => is_rest_of_beat(rest),
+        None => false,
+    }
+}
+
+/// Whether the text ends as that of a beat does: a pattern is compared in place.
+#[inline(always)]
+fn is_rest_of_beat(text: &[u8]) -> bool
+    ensures { result ≡ bytes_eq text.now (codes "one") }
+{
+    match text {
+        b"one" => true,
+        _ => false,
+    }
+}
+
 /// What follows `readrow` in a text, if it begins so.
 #[inline(always)]
 pub(crate) fn after_readrow(text: &[u8]) -> Option<&[u8]>
     ensures { IfSome result (λ rest. words text.now ≡ codes "readrow" ∷ words rest.now) }
 {
-    match text {
-        [b'r', b'e', b'a', b'd', b'r', b'o', b'w', SPACE, rest @ ..] => Some(rest),
-        _ => None,
-    }
+    after_eight(text, *b"readrow ")
 }
 
 /// What follows `readask` in a text, if it begins so.
@@ -28,10 +77,7 @@ pub(crate) fn after_readrow(text: &[u8]) -> Option<&[u8]>
 pub(crate) fn after_readask(text: &[u8]) -> Option<&[u8]>
     ensures { IfSome result (λ rest. words text.now ≡ codes "readask" ∷ words rest.now) }
 {
-    match text {
-        [b'r', b'e', b'a', b'd', b'a', b's', b'k', SPACE, rest @ ..] => Some(rest),
-        _ => None,
-    }
+    after_eight(text, *b"readask ")
 }
 
 /// What follows `readbeat` in a text, if it begins so.
@@ -39,21 +85,7 @@ pub(crate) fn after_readask(text: &[u8]) -> Option<&[u8]>
 pub(crate) fn after_readbeat(text: &[u8]) -> Option<&[u8]>
     ensures { IfSome result (λ rest. words text.now ≡ codes "readbeat" ∷ words rest.now) }
 {
-    match text {
-        [
-            b'r',
-            b'e',
-            b'a',
-            b'd',
-            b'b',
-            b'e',
-            b'a',
-            b't',
-            SPACE,
-            rest @ ..,
-        ] => Some(rest),
-        _ => None,
-    }
+    after_space(after_eight(text, *b"readbeat")?)
 }
 
 /// What follows `writerow` in a text, if it begins so.
@@ -61,21 +93,7 @@ pub(crate) fn after_readbeat(text: &[u8]) -> Option<&[u8]>
 pub(crate) fn after_writerow(text: &[u8]) -> Option<&[u8]>
     ensures { IfSome result (λ rest. words text.now ≡ codes "writerow" ∷ words rest.now) }
 {
-    match text {
-        [
-            b'w',
-            b'r',
-            b'i',
-            b't',
-            b'e',
-            b'r',
-            b'o',
-            b'w',
-            SPACE,
-            rest @ ..,
-        ] => Some(rest),
-        _ => None,
-    }
+    after_space(after_eight(text, *b"writerow")?)
 }
 
 /// What follows `look` in a text, if it begins so.

@@ -19,9 +19,19 @@ pub fn event_line(event: &Event) -> Line
     ensures room { length result < LINE_BYTES }
 {
     let mut line = Line::new();
-    line.push_number(u64::from(event.by));
-    push_step(&mut line, event);
+    push_event(&mut line, event);
     line
+}
+
+/// Adds the line of an event: at most 139 bytes. Who prints many events uses one line again.
+pub fn push_event(line: &mut Line, event: &Event)
+    requires { length line.old + 158 ≤ LINE_BYTES }
+    ensures bytes { line.new ≡ line.old ++ event_line_of event.now }
+    ensures fits { FitsEvent event.now }
+    ensures room { length line.new ≤ length line.old + 139 }
+{
+    line.push_number(u64::from(event.by));
+    push_step(line, event);
 }
 
 /// Adds a step and what it found, with a space before it: at most 136 bytes. More than half of all

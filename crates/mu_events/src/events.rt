@@ -11,7 +11,7 @@ ghost use Rattle.mu_text.specs.Lines.{words};
 ghost use Rattle.mu_text.specs.Numbers.{below, is_digit, wide_number_of};
 
 use crate::common_steps::{
-    after_look, after_readask, after_readbeat, after_readrow, after_writerow, look_step,
+    after_look, after_readask, after_readbeat, after_readrow, after_writerow, is_beat, look_step,
     read_ask_step, read_beat_step, read_row_step, write_row_step,
 };
 use mu_model::{Answer, Event, Fence, Target, Verb};
@@ -72,16 +72,6 @@ fn below(replicas: u8, replica: u8) -> Option<u8>
     ensures { result ≡ below replicas (Some replica) }
 {
     (replica < replicas).then_some(replica)
-}
-
-/// Whether the text is that of a beat: a pattern is compared in place.
-fn is_beat(text: &[u8]) -> bool
-    ensures { result ≡ bytes_eq text.now (codes "beat = done") }
-{
-    match text {
-        b"beat = done" => true,
-        _ => false,
-    }
 }
 
 /// The step that follows the replica: its verb and what it found. More than half of all lines are

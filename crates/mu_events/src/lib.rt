@@ -7,5 +7,5 @@ mod event_lines;
 mod events;
 
 pub use answers::push_answer;
-pub use event_lines::{event_line, events_are_read_back};
+pub use event_lines::{event_line, events_are_read_back, push_event};
 pub use events::event;

@@ -1,22 +1,28 @@
--- The decimal digits of a number, from the last one on.
-use Rattle.std.proofs.Common.{◌≡◌, ℕ, ◌+◌, ◌/◌, ◌%◌, ◌^◌, ◌<◌, ◌≤◌, ◌⊎◌, inl, inr, List, [], ◌∷◌, ◌++◌, length, ap, ◌∙◌, sym, append_assoc, length-append, arith}
+-- The decimal digits of a number, two at a time.
+use Rattle.std.proofs.Common.{◌≡◌, ℕ, ◌+◌, ◌/◌, ◌%◌, ◌^◌, ◌<◌, ◌≤◌, List, [], ◌∷◌, ◌++◌, length, ap, ◌∙◌, append_assoc, length-append, arith}
 use Rattle.std.specs.Fmt.{decimal}
 use Rattle.std.proofs.lemmas.Fmt.{decimal_digit, decimal_step}
 
--- the digits of a number are its last one behind those before it, which are none below ten
-pub decimal_behind : (old mid : List ℕ) (n : ℕ) → n < 2 ^ 64 → ((10 ≤ n) × (mid ≡ old ++ decimal (n / 10))) ⊎ ((n < 10) × (mid ≡ old))
-    → mid ++ (48 + n % 10) ∷ [] ≡ old ++ decimal n
-decimal_behind old mid n small (inl p) =
-    ap (λ l. l ++ (48 + n % 10) ∷ []) p.1 ∙ append_assoc old (decimal (n / 10)) ((48 + n % 10) ∷ []) ∙ ap (λ l. old ++ l) (sym (decimal_step n p.0 small))
-decimal_behind old mid n small (inr p) =
-    let last : n % 10 ≡ n = omega arith in
-    ap (λ l. l ++ (48 + n % 10) ∷ []) p.1 ∙ ap (λ k. old ++ (48 + k) ∷ []) last ∙ ap (λ l. old ++ l) (sym (decimal_digit n p.0))
+-- both digits of a number that has two
+abbrev pub pair_of : ℕ → List ℕ
+pair_of n = (48 + n / 10) ∷ (48 + n % 10) ∷ []
 
--- the digits before the last one are one fewer
-pub length-decimal_step : (n : ℕ) → n < 2 ^ 64 → 10 ≤ n → length (decimal n) ≡ length (decimal (n / 10)) + 1
-length-decimal_step n small large = ap length (decimal_step n large small) ∙ length-append (decimal (n / 10)) ((48 + n % 10) ∷ [])
+pub decimal_pair : (n : ℕ) → 10 ≤ n → n < 100 → decimal n ≡ pair_of n
+decimal_pair n large small =
+    decimal_step n large (omega (arith, small)) ∙ ap (λ l. l ++ (48 + n % 10) ∷ []) (decimal_digit (n / 10) (omega (arith, small)))
 
-pub length-behind : (old mid : List ℕ) (n : ℕ) → n < 2 ^ 64 → ((10 ≤ n) × (mid ≡ old ++ decimal (n / 10))) ⊎ ((n < 10) × (mid ≡ old))
-    → length mid + 1 ≡ length old + length (decimal n)
-length-behind old mid n small cases =
-    sym (length-append mid ((48 + n % 10) ∷ [])) ∙ ap length (decimal_behind old mid n small cases) ∙ length-append old (decimal n)
+-- the digits of a greater number are its last two behind those before them
+pub decimal_pairs : (n : ℕ) → 100 ≤ n → n < 2 ^ 64 → decimal n ≡ decimal (n / 100) ++ pair_of (n % 100)
+decimal_pairs n large small =
+    let hundreds : n / 10 / 10 ≡ n / 100 = omega arith in
+    let tens : n / 10 % 10 ≡ n % 100 / 10 = omega arith in
+    let ones : n % 10 ≡ n % 100 % 10 = omega arith in
+    decimal_step n (omega (arith, large)) small
+    ∙ ap (λ l. l ++ (48 + n % 10) ∷ []) (decimal_step (n / 10) (omega (arith, large)) (omega (arith, small)))
+    ∙ append_assoc (decimal (n / 10 / 10)) ((48 + n / 10 % 10) ∷ []) ((48 + n % 10) ∷ [])
+    ∙ ap (λ k. decimal k ++ (48 + n / 10 % 10) ∷ (48 + n % 10) ∷ []) hundreds
+    ∙ ap (λ k. decimal (n / 100) ++ (48 + k) ∷ (48 + n % 10) ∷ []) tens
+    ∙ ap (λ k. decimal (n / 100) ++ (48 + n % 100 / 10) ∷ (48 + k) ∷ []) ones
+
+pub length-decimal_pairs : (n : ℕ) → 100 ≤ n → n < 2 ^ 64 → length (decimal n) ≡ length (decimal (n / 100)) + 2
+length-decimal_pairs n large small = ap length (decimal_pairs n large small) ∙ length-append (decimal (n / 100)) (pair_of (n % 100))

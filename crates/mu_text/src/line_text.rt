@@ -1,5 +1,5 @@
 //! One line under construction.
-ghost use Rattle.std.specs.Prelude.{◌≡◌, ◌+◌, ◌<◌, ◌≤◌, ◌^◌, [], ◌∷◌, ◌++◌, length};
+ghost use Rattle.std.specs.Prelude.{◌≡◌, ◌+◌, ◌/◌, ◌%◌, ◌<◌, ◌≤◌, ◌^◌, [], ◌∷◌, ◌++◌, length};
 ghost use Rattle.std.specs.Fmt.{decimal};
 
 use crate::ZERO;
@@ -37,7 +37,15 @@ impl Line {
         }
     }
 
-    /// Adds bytes at the end.
+    /// Takes all bytes away, so that the line is used again.
+    pub fn clear(&mut self)
+        ensures { self.new ≡ [] }
+    {
+        self.len = 0;
+    }
+
+    /// Adds bytes at the end. Inlined, so that words of the program are copied in place.
+    #[inline(always)]
     pub fn push(&mut self, bytes: &[u8])
         requires { length self.old + length bytes.now ≤ LINE_BYTES }
         ensures bytes { self.new ≡ self.old ++ bytes.now }
@@ -85,15 +93,31 @@ impl Line {
         }
     }
 
-    /// Adds the digits of a number, the last one last.
+    /// Adds the digits of a number, two at a time: half as many divisions, and calls.
+    #[inline(never)]
     fn push_digits(&mut self, number: u64)
         requires { length self.old + length (decimal number) ≤ LINE_BYTES }
         ensures { self.new ≡ self.old ++ decimal number }
     {
-        if number >= 10 {
-            self.push_digits(number / 10);
+        if number < 10 {
+            self.push_byte(ZERO + number as u8);
+        } else if number < 100 {
+            self.push_pair(number);
+        } else {
+            self.push_digits(number / 100);
+            self.push_pair(number % 100);
         }
-        self.push_byte(ZERO + (number % 10) as u8);
+    }
+
+    /// Adds the two digits of a number below 100.
+    #[inline(always)]
+    fn push_pair(&mut self, pair: u64)
+        requires small { pair < 100 }
+        requires room { length self.old + 2 ≤ LINE_BYTES }
+        ensures bytes { self.new ≡ self.old ++ (48 + pair / 10) ∷ (48 + pair % 10) ∷ [] }
+    {
+        self.push_byte(ZERO + (pair / 10) as u8);
+        self.push_byte(ZERO + (pair % 10) as u8);
     }
 
     /// The bytes so far.
