@@ -29,7 +29,10 @@ impl Follow {
         self.words.make_room()?;
         self.own_log.make_room()?;
         self.completion.make_room()?;
-        reserve_to(&mut self.commits, positions_in(&self.config).saturating_add(1))?;
+        reserve_to(
+            &mut self.commits,
+            positions_in(&self.config).saturating_add(1),
+        )?;
         Ok(())
     }
 
