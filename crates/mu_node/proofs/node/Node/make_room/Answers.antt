@@ -64,7 +64,7 @@ returns-clause-room c k r mine held =
     record {
       follow = subst (λ z. HasRoomToFollow z c.make_room.new.self) is (c.in_ok-make_room.ensures.room r mine (subst (λ z. StandsForFollow z r mine old.follow) (sym is) held.beside.follow));
       lead = omega (arith, c.in_ok-make_room-2.ensures.room, long, led);
-      answers = omega (arith, c.in_ok-make_room-3.ensures.room, c.saturating_add-2.ensures, c.len.ensures, rows, c.requires.config.few);
-      log_room = omega (arith, c.in_ok-reserve.ensures.ok, c.in_ok-reserve.ensures.len, c.saturating_add.ensures, c.positions_in.ensures.count, c.positions_in.ensures.few, rows, marks);
-      commit_room = omega (arith, c.in_ok-reserve-2.ensures.ok, c.in_ok-reserve-2.ensures.len, c.saturating_add.ensures, c.positions_in.ensures.count, c.positions_in.ensures.few, rows, marks);
+      answers = omega (arith, c.in_ok-make_room-3.ensures.room, c.saturating_add.ensures, c.len-rows.ensures, rows, c.requires.config.few);
+      log_room = omega (arith, c.in_ok-reserve.ensures.ok, c.in_ok-reserve.ensures.len, c.saturating_add-most.ensures, c.positions_in.ensures.count, c.positions_in.ensures.few, rows, marks);
+      commit_room = omega (arith, c.in_ok-reserve-2.ensures.ok, c.in_ok-reserve-2.ensures.len, c.saturating_add-most.ensures, c.positions_in.ensures.count, c.positions_in.ensures.few, rows, marks);
     }
