@@ -222,8 +222,8 @@ impl Node {
     }
 
     /// Takes an event of the leader, and tells it the answer. Most are words of rows, or fences
-    /// while no majority answers: with their verbs written out the compiler sees what takes them, as in
-    /// `note`.
+    /// while no majority answers: with their verbs written out the compiler sees what takes them,
+    /// as in `note`.
     #[inline(always)]
     fn took_led(&mut self, verb: Verb, by: u8, answer: Answer, heeded: Note) -> Note
         ghost mine: { List SomeEvent }
