@@ -71,6 +71,10 @@ impl Memory for ListFabric {
         answer
     }
 
+    fn ask(&mut self, by: u8, p: u8) -> Answer {
+        self.step(by, Verb::Ask(p))
+    }
+
     fn events(&self) -> &[Event] {
         self.kept.as_slice()
     }

@@ -45,6 +45,7 @@ fn other(r: u8, place: u8) -> u8
 impl Node {
     /// What is due in a background turn, if anything is. Before the head is raised, what is there
     /// is applied to the replica's own store, and handed on.
+    #[inline(always)]
     pub(crate) fn background(&mut self) -> Option<Verb>
         requires config { IsConfig self.old.follow.config }
         ensures stands { (full : Bool) → (c : Config) → (r : ℕ) → (mine : List SomeEvent)

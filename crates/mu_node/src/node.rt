@@ -28,7 +28,7 @@ use mu_grant::Grants;
 use mu_input::Job;
 use mu_knowledge::Commit;
 use mu_lead::{Lead, Note};
-use mu_model::{End, NoMemory, Stop, Verb, positions_in};
+use mu_model::{End, NoMemory, Stop, positions_in};
 use mu_port::Port;
 use std::alloc::Global;
 
@@ -229,7 +229,7 @@ impl Node {
     {
         if self.asks_out_of_turn() {
             let note = self.leave_leadership();
-            let answer = port.step(Verb::Ask(0));
+            let answer = port.ask(0);
             self.took_again(id, answer);
             note
         } else {

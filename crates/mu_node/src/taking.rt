@@ -133,6 +133,7 @@ impl Node {
     }
 
     /// Tells the replayer the entry that a put of the leader made known, if its note says so.
+    #[inline(always)]
     fn learn(&mut self, position: usize, note: Note)
         requires config { IsConfig self.old.follow.config }
         ensures none { value_committed note ≡ None → self.new ≡ self.old }
@@ -220,8 +221,9 @@ impl Node {
         }
     }
 
-    /// Takes an event of the leader, and tells it the answer. Most are words of rows: with their
-    /// verbs written out the compiler sees what takes them, as in `note`.
+    /// Takes an event of the leader, and tells it the answer. Most are words of rows, or fences
+    /// while no majority answers: with their verbs written out the compiler sees what takes them,
+    /// as in `note`.
     #[inline(always)]
     fn took_led(&mut self, verb: Verb, by: u8, answer: Answer, heeded: Note) -> Note
         ghost mine: { List SomeEvent }
@@ -248,6 +250,9 @@ impl Node {
         match (verb, answer) {
             (Verb::WriteRow(row, word, value), Answer::Done) => {
                 self.take_led(Verb::WriteRow(row, word, value), by, Answer::Done, heeded)
+            }
+            (Verb::Fence(p), Answer::Seen(fence)) => {
+                self.take_led(Verb::Fence(p), by, Answer::Seen(fence), heeded)
             }
             _ => self.take_led(verb, by, answer, heeded),
         }

@@ -17,6 +17,7 @@ pub trait Memory: Drop + Sized {
     ghost use Rattle.mu_model.specs.Legal.{IsLegal};
     ghost use Rattle.mu_model.specs.declared.config.Config.{Config};
     ghost use Rattle.mu_model.specs.declared.event.Event.{Event};
+    ghost use Rattle.mu_model.specs.declared.event.Verb.{Verb as SomeVerb};
 
     ghost config: { Self → Config };
 
@@ -38,6 +39,19 @@ pub trait Memory: Drop + Sized {
         ensures answer { result ≡ answer_of (config self.old) by (history (events self.old)) verb }
         ensures events { events self.new
             ≡ events self.old ++ (record { by = by; verb = verb; answer = result }) ∷ [] }
+        ensures config { config self.new ≡ config self.old }
+        ensures limit { row_limit self.new ≡ row_limit self.old }
+        ensures legal { IsLegal (config self.new) (events self.new) };
+
+    /// The same of an ask, which has a call of its own.
+    fn ask(&mut self, by: u8, p: u8) -> Answer
+        requires { Allowed (config self.old) by (part by (history (events self.old)))
+            (SomeVerb.Ask p) }
+        ensures answer { result
+            ≡ answer_of (config self.old) by (history (events self.old)) (SomeVerb.Ask p) }
+        ensures events { events self.new
+            ≡ events self.old
+            ++ (record { by = by; verb = SomeVerb.Ask p; answer = result }) ∷ [] }
         ensures config { config self.new ≡ config self.old }
         ensures limit { row_limit self.new ≡ row_limit self.old }
         ensures legal { IsLegal (config self.new) (events self.new) };
@@ -145,6 +159,10 @@ impl<M: Memory> Port for MemoryPort<M> {
     #[inline(always)]
     fn step(&mut self, verb: Verb) -> Answer {
         self.memory.step(self.by, verb)
+    }
+
+    fn ask(&mut self, p: u8) -> Answer {
+        self.memory.ask(self.by, p)
     }
 
     ghost same_refl = { λ x. (refl, refl, refl) };

@@ -13,6 +13,7 @@ pub trait Port {
     ghost use Rattle.mu_model.specs.Parts.{IsPossible};
     ghost use Rattle.mu_model.specs.declared.config.Config.{Config};
     ghost use Rattle.mu_model.specs.declared.event.Event.{Event};
+    ghost use Rattle.mu_model.specs.declared.event.Verb.{Verb as SomeVerb};
     ghost use Rattle.mu_port.specs.Telling.{FitsTold, Tells};
 
     ghost number: { Self → ℕ };
@@ -41,6 +42,20 @@ pub trait Port {
             ≡ (record { by = number self.old; verb = verb; answer = result }) ∷ part self.old }
         ensures told { Tells (config self.old) (number self.old) (whole self.old)
             (whole self.new) verb result }
+        ensures same { same self.old self.new }
+        ensures possible { IsPossible (config self.new) (number self.new) (part self.new) }
+        ensures fits { FitsTold (config self.new) (number self.new) (part self.new)
+            (whole self.new) };
+
+    /// The same of an ask. An eager node makes one out of turn: with a call of its own for it a node
+    /// calls `step` at one place, where the compiler inlines it.
+    fn ask(&mut self, p: u8) -> Answer
+        requires { Allowed (config self.old) (number self.old) (part self.old) (SomeVerb.Ask p) }
+        ensures part { part self.new
+            ≡ (record { by = number self.old; verb = SomeVerb.Ask p; answer = result })
+            ∷ part self.old }
+        ensures told { Tells (config self.old) (number self.old) (whole self.old)
+            (whole self.new) (SomeVerb.Ask p) result }
         ensures same { same self.old self.new }
         ensures possible { IsPossible (config self.new) (number self.new) (part self.new) }
         ensures fits { FitsTold (config self.new) (number self.new) (part self.new)

@@ -94,6 +94,10 @@ impl Port for SharedPort {
         }
     }
 
+    fn ask(&mut self, p: u8) -> Answer {
+        self.step(Verb::Ask(p))
+    }
+
     ghost same_refl = { λ x. record { table = refl; config = refl; id = refl } };
 
     ghost same_trans = { λ x y z p q. record {

@@ -114,6 +114,10 @@ impl Memory for WordFabric {
         }
     }
 
+    fn ask(&mut self, by: u8, p: u8) -> Answer {
+        self.make(by, Verb::Ask(p))
+    }
+
     fn events(&self) -> &[Event] {
         self.kept.as_slice()
     }

@@ -56,8 +56,8 @@ leave_leadership-note-requires g c =
     let parts = asks_parts node.zeal node.follow.config node.id g.mine asks in
     (to_own (λ x i l. LivesForNode x i l node) k node.follow.config r node.id (g.P.Port.part c.args.port.now) g.mine own id c.requires.1.0 held, (parts.1.0, parts.1.1))
 
-pub step-answer-requires : goal.step-answer-requires
-step-answer-requires g c =
+pub ask-answer-requires : goal.ask-answer-requires
+ask-answer-requires g c =
     let held = c.requires.1.1.1.1.1.1.0 in
     let inside = held.beside.follow.inside in
     record { budget = c.requires.1.1.1.1.1.0; replica = inside; may = (omega (arith, inside), (inl refl, tt)) }
@@ -99,7 +99,7 @@ took_again-requires g c =
 pub returns-then-asks_out_of_turn-clause-stands : goal.returns-then-asks_out_of_turn-clause-stands
 returns-then-asks_out_of_turn-clause-stands g c full was =
     let old = c.args.port.now in
-    let now = c.step-answer.new.self in
+    let now = c.ask-answer.new.self in
     let k = g.P.Port.config old in
     let r = g.P.Port.number old in
     let node = c.args.self.now in
@@ -108,7 +108,7 @@ returns-then-asks_out_of_turn-clause-stands g c full was =
     let own = held.beside.follow.config in
     let id = held.beside.id in
     let config = ap (λ (f : Follow). f.config) c.leave_leadership-note.ensures.follow in
-    let answer = c.step-answer.result in
+    let answer = c.ask-answer.result in
     let going = to_own (λ x i l. outrun x i l ≡ None) k node.follow.config r node.id (g.P.Port.part old) g.mine own id c.requires.1.0 c.requires.1.1.1.1.1.1.1 in
     let stands = to_own (λ x i l. StandsAs full x i l node) k node.follow.config r node.id (g.P.Port.part old) g.mine own id c.requires.1.0 was in
     let asks = (and_parts (asks_out_of_turn node.zeal node.follow.config node.id g.mine) (is_odd (length g.mine)) (sym c.asks_out_of_turn.ensures ∙ c.if-asks_out_of_turn.true)).0 in
@@ -117,13 +117,13 @@ returns-then-asks_out_of_turn-clause-stands g c full was =
     let follows : full ≡ true → FollowsTurn new.zeal new.follow.config c.args.id g.mine (event_by c.args.id (Verb.Ask 0) answer) = λ on. to_own (λ x i l. FollowsTurn new.zeal x i l (event_by i (Verb.Ask 0) answer)) node.follow.config new.follow.config node.id c.args.id g.mine g.mine config (c.requires.1.1.0 ∙ sym id) refl
     (subst (λ z. FollowsTurn z node.follow.config node.id g.mine (event_by node.id (Verb.Ask 0) answer)) (sym c.leave_leadership-note.ensures.zeal) (follows_asked node.follow.config node.id g.mine node answer (and_parts (asks_out_of_turn node.zeal node.follow.config node.id g.mine) (is_odd (length g.mine)) (sym c.asks_out_of_turn.ensures ∙ c.if-asks_out_of_turn.true)).1 going (in_full full node.follow.config node.id g.mine node on stands) asks)) in
     moved k (g.P.Port.config now) new.follow.config r (g.P.Port.number now) c.args.id (g.P.Port.part old) g.mine (g.P.Port.part now) (Verb.Ask 0) (Verb.Ask 0) answer c.took_again.new.self full
-    (g.met.P.Port.same_config old now c.step-answer.ensures.same) (g.met.P.Port.same_number old now c.step-answer.ensures.same)
-    (config ∙ own) c.requires.1.1.0 c.requires.1.0 refl c.step-answer.ensures.part c.step-answer.ensures.possible (c.took_again.ensures.stands full gone follows)
+    (g.met.P.Port.same_config old now c.ask-answer.ensures.same) (g.met.P.Port.same_number old now c.ask-answer.ensures.same)
+    (config ∙ own) c.requires.1.1.0 c.requires.1.0 refl c.ask-answer.ensures.part c.ask-answer.ensures.possible (c.took_again.ensures.stands full gone follows)
 
 pub returns-then-asks_out_of_turn-clause-made : goal.returns-then-asks_out_of_turn-clause-made
 returns-then-asks_out_of_turn-clause-made g c was =
     let old = c.args.port.now in
-    let now = c.step-answer.new.self in
+    let now = c.ask-answer.new.self in
     let k = g.P.Port.config old in
     let r = g.P.Port.number old in
     let mine = g.P.Port.part old in
@@ -131,13 +131,13 @@ returns-then-asks_out_of_turn-clause-made g c was =
     let held = c.requires.1.1.1.1.1.1.0 in
     let own = held.beside.follow.config in
     let id = held.beside.id in
-    let answer = c.step-answer.result in
+    let answer = c.ask-answer.result in
     let odd = (and_parts (asks_out_of_turn node.zeal node.follow.config node.id g.mine) (is_odd (length g.mine)) (sym c.asks_out_of_turn.ensures ∙ c.if-asks_out_of_turn.true)).1 in
     let asks = (and_parts (asks_out_of_turn node.zeal node.follow.config node.id g.mine) (is_odd (length g.mine)) (sym c.asks_out_of_turn.ensures ∙ c.if-asks_out_of_turn.true)).0 in
     record {
       verb = Verb.Ask 0;
       answer = answer;
-      part = c.step-answer.ensures.part;
+      part = c.ask-answer.ensures.part;
       made = to_port (λ x i l. IsMade node.zeal x i l (Verb.Ask 0)) k node.follow.config r node.id mine g.mine own id c.requires.1.0 (made_asked node.zeal node.follow.config node.id g.mine odd asks);
       tells = to_port (λ x i l. TellsNote node.zeal x i l node.lead answer c.leave_leadership-note.result) k node.follow.config r node.id mine g.mine own id c.requires.1.0 (tells_asked node.zeal node.follow.config node.id g.mine node.lead answer c.leave_leadership-note.result odd asks c.leave_leadership-note.ensures.told);
     }
@@ -145,7 +145,7 @@ returns-then-asks_out_of_turn-clause-made g c was =
 pub returns-then-asks_out_of_turn-clause-going : goal.returns-then-asks_out_of_turn-clause-going
 returns-then-asks_out_of_turn-clause-going g c was =
     let old = c.args.port.now in
-    let now = c.step-answer.new.self in
+    let now = c.ask-answer.new.self in
     let k = g.P.Port.config old in
     let r = g.P.Port.number old in
     let mine = g.P.Port.part old in
@@ -157,13 +157,13 @@ returns-then-asks_out_of_turn-clause-going g c was =
     let id = held.beside.id in
     let config = ap (λ (f : Follow). f.config) c.leave_leadership-note.ensures.follow in
     let same = c.requires.1.1.0 ∙ sym id in
-    let answer = c.step-answer.result in
+    let answer = c.ask-answer.result in
     let odd = (and_parts (asks_out_of_turn node.zeal node.follow.config node.id g.mine) (is_odd (length g.mine)) (sym c.asks_out_of_turn.ensures ∙ c.if-asks_out_of_turn.true)).1 in
     let asks = asks_parts node.zeal node.follow.config node.id g.mine (and_parts (asks_out_of_turn node.zeal node.follow.config node.id g.mine) (is_odd (length g.mine)) (sym c.asks_out_of_turn.ensures ∙ c.if-asks_out_of_turn.true)).0 in
     let stands = to_own (λ x i l. StandsForNode x i l node) k node.follow.config r node.id mine g.mine own id c.requires.1.0 was in
     let possible = possible_own k (g.P.Port.config now) node.follow.config r (g.P.Port.number now) node.id mine g.mine (g.P.Port.part now) (Verb.Ask 0) (Verb.Ask 0) answer
-    (g.met.P.Port.same_config old now c.step-answer.ensures.same) (g.met.P.Port.same_number old now c.step-answer.ensures.same)
-    own id c.requires.1.0 refl c.step-answer.ensures.part c.step-answer.ensures.possible in
+    (g.met.P.Port.same_config old now c.ask-answer.ensures.same) (g.met.P.Port.same_number old now c.ask-answer.ensures.same)
+    own id c.requires.1.0 refl c.ask-answer.ensures.part c.ask-answer.ensures.possible in
     let goes = to_own (λ x i l. IsPossible x i (event_by i (Verb.Ask 0) answer ∷ l) → next.under_way ≡ true) new.follow.config node.follow.config c.args.id node.id g.mine g.mine (sym config) (sym same) refl c.took_again.ensures.going in
     to_port (λ x i l. MovesGoing x i l node.lead next c.leave_leadership-note.result) k node.follow.config r node.id mine g.mine own id c.requires.1.0
     (moves_asked node.follow.config node.id g.mine node.lead next c.leave_leadership-note.result odd asks.1.0 (stands.paces refl).listed (goes possible) c.leave_leadership-note.ensures.told)
@@ -187,8 +187,8 @@ plan-plan-requires g c =
       ),
     )
 
-pub step-answer-requires-else-asks_out_of_turn : goal.step-answer-requires-else-asks_out_of_turn
-step-answer-requires-else-asks_out_of_turn g c =
+pub step-answer-requires : goal.step-answer-requires
+step-answer-requires g c =
     let k = g.P.Port.config c.args.port.now in
     let r = g.P.Port.number c.args.port.now in
     let mine = g.P.Port.part c.args.port.now in
@@ -247,7 +247,7 @@ follows_of c r mine old planned due answer good possible short going stands held
 pub returns-else-asks_out_of_turn-clause-stands : goal.returns-else-asks_out_of_turn-clause-stands
 returns-else-asks_out_of_turn-clause-stands g c full was =
     let old = c.args.port.now in
-    let now = c.step-answer-else-asks_out_of_turn.new.self in
+    let now = c.step-answer.new.self in
     let plan = c.plan-plan.ensures in
     let node = c.args.self.now in
     let new = c.plan-plan.new.self in
@@ -259,7 +259,7 @@ returns-else-asks_out_of_turn-clause-stands g c full was =
     let short = to_own (λ x i l. length l < x.budget) (g.P.Port.config old) node.follow.config (g.P.Port.number old) node.id (g.P.Port.part old) g.mine own id c.requires.1.0 c.requires.1.1.1.1.1.0 in
     let calm : is_odd (length g.mine) ≡ true → asks_out_of_turn node.zeal node.follow.config node.id g.mine ≡ false = left_false (asks_out_of_turn node.zeal node.follow.config node.id g.mine) (is_odd (length g.mine)) (sym c.asks_out_of_turn.ensures ∙ c.if-asks_out_of_turn.false) in
     let due = due_of c.plan-plan.result in
-    let answer = c.step-answer-else-asks_out_of_turn.result in
+    let answer = c.step-answer.result in
     let going = to_own (λ x i l. outrun x i l ≡ None) (g.P.Port.config old) node.follow.config (g.P.Port.number old) node.id (g.P.Port.part old) g.mine own id c.requires.1.0 c.requires.1.1.1.1.1.1.1 in
     let stands = to_own (λ x i l. StandsAs full x i l node) (g.P.Port.config old) node.follow.config (g.P.Port.number old) node.id (g.P.Port.part old) g.mine own id c.requires.1.0 was in
     let lives = as_far full node.follow.config node.id g.mine node stands in
@@ -271,13 +271,13 @@ returns-else-asks_out_of_turn-clause-stands g c full was =
     to_own (λ x i l. FollowsTurn new.zeal x i l (event_by i (verb_or_beat due) answer)) node.follow.config new.follow.config node.id c.args.id g.mine g.mine plan.config (c.requires.1.1.0 ∙ sym id) refl
     (subst (λ z. FollowsTurn z node.follow.config node.id g.mine (event_by node.id (verb_or_beat due) answer)) (sym plan.zeal) (follows_of node.follow.config node.id g.mine node new due answer good possible short going whole (plan.planned false lives) (plan.led whole) (plan.cycle whole) calm)) in
     moved (g.P.Port.config old) (g.P.Port.config now) new.follow.config (g.P.Port.number old) (g.P.Port.number now) c.args.id (g.P.Port.part old) g.mine (g.P.Port.part now) c.plan-plan.result.verb (verb_or_beat due) answer c.took.new.self full
-    (g.met.P.Port.same_config old now c.step-answer-else-asks_out_of_turn.ensures.same) (g.met.P.Port.same_number old now c.step-answer-else-asks_out_of_turn.ensures.same)
-    (plan.config ∙ own) c.requires.1.1.0 c.requires.1.0 c.plan-plan.ensures.made c.step-answer-else-asks_out_of_turn.ensures.part c.step-answer-else-asks_out_of_turn.ensures.possible (c.took.ensures.stands full planned idles follows reads)
+    (g.met.P.Port.same_config old now c.step-answer.ensures.same) (g.met.P.Port.same_number old now c.step-answer.ensures.same)
+    (plan.config ∙ own) c.requires.1.1.0 c.requires.1.0 c.plan-plan.ensures.made c.step-answer.ensures.part c.step-answer.ensures.possible (c.took.ensures.stands full planned idles follows reads)
 
 pub returns-else-asks_out_of_turn-clause-made : goal.returns-else-asks_out_of_turn-clause-made
 returns-else-asks_out_of_turn-clause-made g c was =
     let old = c.args.port.now in
-    let now = c.step-answer-else-asks_out_of_turn.new.self in
+    let now = c.step-answer.new.self in
     let k = g.P.Port.config old in
     let r = g.P.Port.number old in
     let mine = g.P.Port.part old in
@@ -288,10 +288,10 @@ returns-else-asks_out_of_turn-clause-made g c was =
     let own = held.beside.follow.config in
     let id = held.beside.id in
     let due = due_of c.plan-plan.result in
-    let answer = c.step-answer-else-asks_out_of_turn.result in
+    let answer = c.step-answer.result in
     let possible = possible_own k (g.P.Port.config now) node.follow.config r (g.P.Port.number now) node.id mine g.mine (g.P.Port.part now) c.plan-plan.result.verb (verb_or_beat due) answer
-    (g.met.P.Port.same_config old now c.step-answer-else-asks_out_of_turn.ensures.same) (g.met.P.Port.same_number old now c.step-answer-else-asks_out_of_turn.ensures.same)
-    own id c.requires.1.0 c.plan-plan.ensures.made c.step-answer-else-asks_out_of_turn.ensures.part c.step-answer-else-asks_out_of_turn.ensures.possible in
+    (g.met.P.Port.same_config old now c.step-answer.ensures.same) (g.met.P.Port.same_number old now c.step-answer.ensures.same)
+    own id c.requires.1.0 c.plan-plan.ensures.made c.step-answer.ensures.part c.step-answer.ensures.possible in
     let took = to_own (λ x i l. TellsTook x i l c.plan-plan.result.leads due c.plan-plan.result.heeded answer c.took.result) new.follow.config node.follow.config c.args.id node.id g.mine g.mine (sym plan.config) (id ∙ sym c.requires.1.1.0) refl c.took.ensures.note in
     let says = to_own (λ x i l. SaysTook x i l c.plan-plan.result.leads due c.plan-plan.result.heeded new.lead c.took.new.self.lead answer c.took.result) new.follow.config node.follow.config c.args.id node.id g.mine g.mine (sym plan.config) (id ∙ sym c.requires.1.1.0) refl c.took.ensures.says in
     let stands = to_own (λ x i l. StandsForNode x i l node) k node.follow.config r node.id mine g.mine own id c.requires.1.0 was in
@@ -300,7 +300,7 @@ returns-else-asks_out_of_turn-clause-made g c was =
     record {
       verb = c.plan-plan.result.verb;
       answer = answer;
-      part = c.step-answer-else-asks_out_of_turn.ensures.part;
+      part = c.step-answer.ensures.part;
       made = to_port (λ x i l. IsMade node.zeal x i l c.plan-plan.result.verb) k node.follow.config r node.id mine g.mine own id c.requires.1.0
           (subst (λ v. IsMade node.zeal node.follow.config node.id g.mine v) (sym c.plan-plan.ensures.made) (record { replication = λ odd. ap verb_or_beat (turn_listed node.follow.config node.id g.mine node due stands (plan.led stands) calm odd); background = λ even. ((plan.cycle stands even).first, subst (λ l. IsBackgroundDue node.follow.config node.id g.mine l (plan.cycle stands even).first) (ap leads_at listed.place) (plan.cycle stands even).background, ap verb_or_beat (plan.cycle stands even).whole) }));
       tells = to_port (λ x i l. TellsNote node.zeal x i l node.lead answer c.took.result) k node.follow.config r node.id mine g.mine own id c.requires.1.0
@@ -317,7 +317,7 @@ returns-else-asks_out_of_turn-clause-going g c was =
     let own = held.beside.follow.config in
     let id = held.beside.id in
     let due = due_of c.plan-plan.result in
-    let answer = c.step-answer-else-asks_out_of_turn.result in
+    let answer = c.step-answer.result in
     let next = c.took.new.self.lead in
     let stands = to_own (λ x i l. StandsForNode x i l node) (g.P.Port.config old) node.follow.config (g.P.Port.number old) node.id (g.P.Port.part old) g.mine own id c.requires.1.0 was in
     let says = to_own (λ x i l. SaysTook x i l c.plan-plan.result.leads due c.plan-plan.result.heeded new.lead next answer c.took.result) new.follow.config node.follow.config c.args.id node.id g.mine g.mine (sym plan.config) (id ∙ sym c.requires.1.1.0) refl c.took.ensures.says in
