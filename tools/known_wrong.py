@@ -66,6 +66,13 @@ LEMMAS = "pub idle : A\nidle zero = x\nidle (suc n) = idle n\n\npub used : A\nus
 # A source that uses four of the ghost names that it imports.
 GHOST_USES = ("ghost use A.B.{first, is_last, last as final, rest as others};\nghost use A.C.{◌<◌, ◌≤◌, if◌then◌else◌};\n"
               "/// Is ≤ is_last.\nfn f()\n    ensures { if first < 1 then others else 0 }\n{}\n")
+# A source that says want of memory as an allocator does, and what would make it up.
+SAYS_NO_MEMORY = ("use mu_model::NoMemory;\nimpl From<AllocError> for End {\n    fn from(_failed: AllocError) -> End {\n"
+                  "        End::NoMemory\n    }\n}\n/// Err(AllocError)\nfn told() -> Said\n    ensures { result ≡ NoMemory }\n{\n"
+                  "    match made() {\n        Ok(made) => Said::Made(made),\n        Err(NoMemory) => Said::NoMemory,\n    }\n}\n")
+MADE_UP = [("Err(NoMemory)", "Err(_)"), ("use mu_model::NoMemory;\n", ""), ("_failed: AllocError", "_failed: Failed"),
+           ("Said::Made(made)", "Said::NoMemory"), ("match made()", "match Err(AllocError)"),
+           ("use mu_model", "use std::alloc::AllocError as Refused;\nuse mu_model")]
 # A page, what stands in it, and what would be stale.
 WRONG_FIGURES = [
     ("docs/ALIVE.md", "| 580 / 1,078 + 166 |", "| 580 / 1,078 + 167 |"),
@@ -291,6 +298,13 @@ def tells_idle_imports():
     yield list(surface.idle_names(GHOST_USES)) == ["is_last", "last as final", "◌≤◌"]
 
 
+def tells_made_up():
+    """Want of memory that no allocator told is told, once for each time, and no other."""
+    yield not list(surface.made_up_in(SAYS_NO_MEMORY))
+    for stands, wrong in MADE_UP:
+        yield len(list(surface.made_up_in(SAYS_NO_MEMORY.replace(stands, wrong, 1)))) == 1
+
+
 def tells_pages():
     """What a page names is found, and each page names something."""
     line, wanted = PAGE_LINE
@@ -420,7 +434,7 @@ def tells_unfair_runs():
 JUDGES = [
     tells_failures, tells_answers, tells_sums, tells_parts, tells_tables, tells_stops, tells_edits, tells_faults,
     tells_missing_answers, tells_statuses, tells_reports, tells_bounds, tells_other_words,
-    tells_own_traces, tells_pages, tells_clauses, tells_figures, tells_uncited_lemmas, tells_idle_imports,
+    tells_own_traces, tells_pages, tells_clauses, tells_figures, tells_uncited_lemmas, tells_idle_imports, tells_made_up,
     tells_stored_inputs, tells_rules, tells_breaks, tells_refused_memory, tells_finishers, tells_costs,
     tells_silent_definitions, tells_hangs, tells_unfair_runs]
 

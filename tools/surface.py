@@ -1,15 +1,25 @@
 #!/usr/bin/env python3
-"""Prints what a crate shows to other crates and no other crate uses, and what is cited or imported for nothing.
+"""Prints what a crate shows to other crates and no other crate uses, what is cited or imported for nothing, and
+where want of memory is said without an allocator's error.
 
-    tools/surface.py        a line for each; the last line is `surface: N shown, N unused, N hidden, N uncited, N idle`
+    tools/surface.py        a line for each; the last line is `surface: N shown, N unused, N hidden, N uncited, N idle,
+                            N made up`
 
 Looked at are lemma files (`pub mod` in proofs/Lib.antt, used by an import of the file), and what
 src/lib.rt shows of other crates (`pub use other::..`, used by an import of the name from this crate). A
 lemma file that is `mod` but that another crate imports is hidden, and that crate won't be proved. A lemma
 or a definition in a lemma file is cited if its name stands in that file beside its own lines, or if another
 source imports it from that file; proofs of goals are cited by the prover, and examples by nobody. A ghost
-name is idle if a source imports it and doesn't have each of its words or signs beside its imports. The status
-is 1 if something is unused, hidden, uncited or idle.
+name is idle if a source imports it and doesn't have each of its words or signs beside its imports.
+
+Want of memory may come in place of any answer, and no contract can say that it comes only if an allocation
+failed, since the error of an allocator is a value that anybody can write. So nobody may: outside of contracts
+`AllocError`, `AllocFailed` and `NoMemory` stand only as types and in patterns, and a variant `X::NoMemory` is
+made only by a function that is given such an error (`fn from(_failed: AllocError)`), or in the arm of a match
+on want of memory (`Err(NoMemory) => Said::NoMemory`), or in the functions of MADE_UP. What is made elsewhere
+is made up. Tests say what they expect, so the crates `worked_` aren't looked at.
+
+The status is 1 if something is unused, hidden, uncited, idle or made up.
 """
 import os
 import re
@@ -28,6 +38,20 @@ NAMED = re.compile(r"(\w+)::proofs::(\w+)::([\w-]+)")
 GHOST_USE = re.compile(r"^ghost use [^{;]+\{([^}]*)\};\n", re.MULTILINE)
 WORD = re.compile(r"[A-Za-z_][\w'-]*")
 NAMES = re.compile(r"\b(\w+)::(\{[^}]*\}|\w+)")
+# Functions that say want of memory for another reason: no memory has as many bytes as were asked for; the
+# system says that the words of the command line can't be had, but not as an allocator does.
+MADE_UP = {("mu_io", "read_all"), ("mu_drawing", "unread"), ("mu_top", "end_without_words")}
+# What is no code: comments, texts, ghost items, and imports; and where a clause begins.
+NO_CODE = re.compile(r'//[^\n]*|b?"(?:[^"\\]|\\.)*"|\bghost use [^;]*;|\b(?:pub )?use [^;]*;')
+CLAUSE = re.compile(r"\b(?:(?:requires|ensures)\*?(?: \w+)? \{|ghost [\w ]+(?: =|:) \{)")
+HEADER = re.compile(r"\b(?:fn|impl|enum)\b[^{;]*")
+REFUSAL = re.compile(r"(?<![\w:])((?:\w+::)*)(AllocError|AllocFailed|NoMemory)\b(?!\s*>|<|::from\b)")
+# What stands behind a pattern, and before what an arm on want of memory answers.
+IN_PATTERN = re.compile(r"[\s)]*(?:\|[^=;]*)?=(?!=)")
+IN_ARM = re.compile(r"\b(?:AllocError|NoMemory)\)*\s*=>\s*(?:return )?[\w:(]*$")
+GIVEN = re.compile(r":\s*(?:AllocError|AllocFailed<\w+>|NoMemory)\s*[,)]")
+IMPORTS = re.compile(r"^(?:pub )?use ([^;]*);", re.MULTILINE)
+RENAMED = re.compile(r"\bAlloc(?:Error|Failed) as (?!NoMemory\b)\w+")
 
 
 def sources(crate):
@@ -128,8 +152,54 @@ def idle_imports(crates):
                 yield f"{os.path.relpath(path, TOP)}: {name} is imported for nothing"
 
 
+def bare_code(text):
+    """A source's code alone: without comments, texts, imports, ghost items and clauses."""
+    rest, code = NO_CODE.sub(" ", text), ""
+    while (found := CLAUSE.search(rest)) is not None:
+        end, depth = found.end(), 1
+        while depth:
+            depth += {"{": 1, "}": -1}.get(rest[end], 0)
+            end += 1
+        code, rest = code + rest[: found.start()], rest[end:]
+    return code + rest
+
+
+def made_up_in(text):
+    """The functions in which a source says want of memory without an allocator's error: a name for each time."""
+    if RENAMED.search(text):
+        yield "a name for an allocator's error"
+    code = bare_code(text)
+    headers = list(HEADER.finditer(code))
+    known = {name for names in IMPORTS.findall(text) for name in WORD.findall(names)}
+    for found in REFUSAL.finditer(code):
+        before, header = code[: found.start()], [it for it in headers if it.start() < found.start()]
+        if any(it.end() > found.start() for it in header) or header[-1][0].startswith("enum"):
+            continue
+        if IN_PATTERN.match(code, found.end()):
+            # Without the import it would be a variable, which takes any error.
+            if found[1] or found[2] in known:
+                continue
+        elif found[1] and (GIVEN.search(header[-1][0]) or IN_ARM.search(before)):
+            continue
+        yield re.match(r"(?:fn (\w+))?", header[-1][0])[1] or header[-1][0].strip()
+
+
+def made_up(crates):
+    """Where want of memory is made up, and which exception is none any more."""
+    left = set(MADE_UP)
+    for crate in crates:
+        for path, text in () if crate.startswith("worked_") else sources(crate):
+            for function in made_up_in(text) if path.endswith(".rt") else ():
+                if (crate, function) in left:
+                    left.remove((crate, function))
+                else:
+                    yield f"{os.path.relpath(path, TOP)}: {function} makes up want of memory"
+    for crate, function in sorted(left):
+        yield f"crates/{crate}: {function} is no exception for want of memory any more"
+
+
 def judged():
-    """How much is shown, and what is unused, hidden but imported, cited nowhere, or imported for nothing."""
+    """How much is shown, and what is unused, hidden but imported, cited nowhere, imported for nothing, or made up."""
     crates = sorted(os.listdir(CRATES))
     used = used_by(crates)
 
@@ -139,7 +209,7 @@ def judged():
     all_shown = [(crate, name, where) for crate in crates for name, where in shown(crate)]
     unused = [where for crate, name, where in all_shown if not others(crate, name)]
     missing = [where for crate in crates for name, where in hidden(crate) if others(crate, name)]
-    return len(all_shown), (unused, missing, list(uncited(crates)), list(idle_imports(crates)))
+    return len(all_shown), (unused, missing, list(uncited(crates)), list(idle_imports(crates)), list(made_up(crates)))
 
 
 def main():
@@ -147,7 +217,7 @@ def main():
     count, found = judged()
     for where in sum(found, []):
         print(where)
-    told = ", ".join(f"{len(it)} {kind}" for it, kind in zip(found, ("unused", "hidden", "uncited", "idle")))
+    told = ", ".join(f"{len(it)} {kind}" for it, kind in zip(found, ("unused", "hidden", "uncited", "idle", "made up")))
     print(f"surface: {count} shown, {told}")
     return 1 if any(found) else 0
 

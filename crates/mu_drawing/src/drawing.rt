@@ -129,7 +129,7 @@ fn breach_of(broken: &Broken) -> Breach
     Breach {
         step: broken.index,
         event: broken.event,
-        fault: fault_line(broken),
+        fault: fault_line(&broken.fault),
     }
 }
 

@@ -4,10 +4,7 @@ use Rattle.std.specs.Bool.{⊤}
 use Rattle.std.specs.Fmt.{decimal}
 use Rattle.std.specs.List.{All}
 use Rattle.std.specs.Str.{bytes_eq}
-use Rattle.std.specs.Result.{IfOk, result_or}
 use Rattle.std.specs.declared.option.Option.{Option}
-use Rattle.std.specs.declared.result.Result.{Result}
-use Rattle.std.specs.declared.result.Result.TheVariants.{Ok, Err}
 use Rattle.std.proofs.lemmas.Bool.Decides.{Decides-eqb, eqb_tells, nat_tests}
 use Rattle.std.proofs.lemmas.List.Elements.{All-cons, All-head, All-nil, All-push, All-tail}
 use Rattle.mu_model.specs.declared.script.Pause.{Pause}
@@ -77,17 +74,11 @@ length-pauses_in_order r pauses = omega (arith, ap length (pauses_in_order-key r
 abbrev HasRoom : Script → Type 0
 HasRoom script = length script.stops + length script.pauses ≤ MOST_SCRIPT_LINES
 
-in_order-few : (E : Type 0) (made : Result Script E) (replicas : ℕ) (stops : List Stop) (pauses : List Pause) → IfOk made (λ script. script ≡ script_of replicas stops pauses) → length stops + length pauses ≤ MOST_SCRIPT_LINES → IfOk made HasRoom
-in_order-few E (Ok script) replicas stops pauses is few =
+pub in_order-few : (script : Script) (replicas : ℕ) (stops : List Stop) (pauses : List Pause) → script ≡ script_of replicas stops pauses → length stops + length pauses ≤ MOST_SCRIPT_LINES → HasRoom script
+in_order-few script replicas stops pauses is few =
     let fewer_stops : length script.stops ≤ length stops = omega (arith, ap (λ (s : Script). length s.stops) is, length-stops_in_order replicas stops) in
     let fewer_pauses : length script.pauses ≤ length pauses = omega (arith, ap (λ (s : Script). length s.pauses) is, length-pauses_in_order replicas pauses) in
     omega (arith, fewer_stops, fewer_pauses, few)
-in_order-few E (Err e) replicas stops pauses is few = tt
-
-pub told-few : (E F : Type 0) (made : Result Script E) (end : F) (told : Result Script F) (replicas : ℕ) (stops : List Stop) (pauses : List Pause) → told ≡ result_or made (Err end)
-    → IfOk made (λ script. script ≡ script_of replicas stops pauses) → length stops + length pauses ≤ MOST_SCRIPT_LINES → IfOk told (λ script. length script.stops + length script.pauses ≤ MOST_SCRIPT_LINES)
-told-few E F (Ok script) end told replicas stops pauses is so few = subst (λ (told : Result Script F). IfOk told HasRoom) (sym is) (in_order-few F (Ok script) replicas stops pauses so few)
-told-few E F (Err e) end told replicas stops pauses is so few = subst (λ (told : Result Script F). IfOk told HasRoom) (sym is) tt
 
 -- put in order, they may still be a script's
 pub AreScripted-in_order : (replicas : ℕ) (stops : List Stop) (pauses : List Pause) → AreScripted replicas stops pauses → AreScripted replicas (stops_in_order replicas stops) (pauses_in_order replicas pauses)

@@ -85,8 +85,8 @@ pub fn script(alloc: Global, lines: &mut LineReader<'_>, replicas: u8) -> Result
             ScriptLine::Stop(stop) => stops.push(stop)?,
             ScriptLine::Pause(pause) => pauses.push(pause)?,
             ScriptLine::End => {
-                let ordered = script_of(alloc, replicas, stops.as_slice(), pauses.as_slice());
-                return ordered.or(Err(InputEnd::NoMemory));
+                let ordered = script_of(alloc, replicas, stops.as_slice(), pauses.as_slice())?;
+                return Ok(ordered);
             }
         }
         number += 1;

@@ -3,10 +3,11 @@ ghost use Rattle.std.specs.Prelude.{◌≡◌, ◌≢◌, ◌+◌, ◌-◌, ◌<
 ghost use Rattle.std.specs.Io.KnownBytes.{Appends, Consumes, IsAtEnd, Keeps};
 ghost use Rattle.mu_io.specs.Faults.{Rose};
 ghost use Rattle.mu_io.specs.Whole.{OnFault, OnNoMemory, OnTooLong, TakesAtMost};
+ghost use Rattle.mu_io.specs.declared.whole.ReadEnd.TheVariants.{NoMemory};
 ghost use Rattle.mu_io.specs.declared.whole.TheConstants.{PIECE};
 
 use crate::{Failed, Sink, Source};
-use std::alloc::Global;
+use std::alloc::{AllocError, Global};
 use std::error::Error;
 use std::fmt;
 use std::marker::Model;
@@ -65,6 +66,14 @@ impl fmt::Display for ReadEnd {
 
 impl Error for ReadEnd {}
 
+impl From<AllocError> for ReadEnd {
+    ghost from_gives = { λ _ end. end ≡ NoMemory };
+
+    fn from(_failed: AllocError) -> ReadEnd {
+        ReadEnd::NoMemory
+    }
+}
+
 /// Reads to the end of the input, which has at most `limit` bytes, in pieces of at most [`PIECE`].
 /// Takes memory for `limit + 1` bytes and one piece before the first read, and touches only what
 /// comes.
@@ -95,15 +104,12 @@ pub fn read_all<S: Source>(alloc: Global, source: &mut S, limit: usize) -> Resul
     ensures no_memory { OnNoMemory result (source.new ≡ source.old) }
     ensures never_falls { S.faults source.old ≤ S.faults source.new }
 {
+    // No memory has more bytes than a number counts.
     let Some(size) = limit.checked_add(1) else {
         return Err(ReadEnd::NoMemory);
     };
-    let Ok(mut buffer) = Vec::with_capacity(alloc, size) else {
-        return Err(ReadEnd::NoMemory);
-    };
-    let Ok(mut piece) = vec![in alloc; 0u8; size.min(PIECE)] else {
-        return Err(ReadEnd::NoMemory);
-    };
+    let mut buffer = Vec::with_capacity(alloc, size)?;
+    let mut piece = vec![in alloc; 0u8; size.min(PIECE)]?;
     let Ok(filled) = fill(source, &mut buffer, size, piece.as_mut_slice()) else {
         return Err(ReadEnd::Fault);
     };

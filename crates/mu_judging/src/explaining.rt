@@ -37,7 +37,7 @@ pub fn explain_trace(alloc: Global, bytes: &[u8]) -> Said
     let events = journal.as_slice();
     let (line, broken) = match located(alloc, bytes, &job.config, events) {
         Ok(found) => found,
-        Err(_) => return Said::NoMemory,
+        Err(NoMemory) => return Said::NoMemory,
     };
     if broken.is_some() {
         return Said::Explained {
@@ -58,7 +58,7 @@ fn noted(alloc: Global, job: &Job, events: &[Event]) -> Said
     let stops = job.script.stops.as_slice();
     match strays_of(alloc, job.config.replicas, stops, events) {
         Ok(strays) => said_with(events.len() as u32, strays),
-        Err(_) => Said::NoMemory,
+        Err(NoMemory) => Said::NoMemory,
     }
 }
 

@@ -7,6 +7,7 @@ ghost use Rattle.mu_report.specs.Said.{IsShort};
 use crate::explaining::located;
 use mu_input::{InputEnd, read_trace};
 use mu_mistakes::refused_at;
+use mu_model::NoMemory;
 use mu_outcome::Broken;
 use mu_report::Said;
 use mu_telling::moment_of;
@@ -30,7 +31,7 @@ pub fn show_trace(alloc: Global, bytes: &[u8], count: u32) -> Said
     let events = journal.as_slice();
     let (line, broken) = match located(alloc, bytes, &job.config, events) {
         Ok(found) => found,
-        Err(_) => return Said::NoMemory,
+        Err(NoMemory) => return Said::NoMemory,
     };
     if is_broken_before(&broken, count) {
         return Said::Explained {
@@ -46,7 +47,7 @@ pub fn show_trace(alloc: Global, bytes: &[u8], count: u32) -> Said
         count_within(count, events.len()),
     ) {
         Ok(moment) => Said::Shown(moment),
-        Err(_) => Said::NoMemory,
+        Err(NoMemory) => Said::NoMemory,
     }
 }
 

@@ -7,6 +7,7 @@ ghost use Rattle.mu_report.specs.Said.{IsShort};
 use crate::explaining::located;
 use mu_input::{InputEnd, read_trace};
 use mu_mistakes::refused_at;
+use mu_model::NoMemory;
 use mu_report::Said;
 use mu_telling::account_of;
 use std::alloc::Global;
@@ -28,7 +29,7 @@ pub fn tell_trace(alloc: Global, bytes: &[u8]) -> Said
     let events = journal.as_slice();
     let (line, broken) = match located(alloc, bytes, &job.config, events) {
         Ok(found) => found,
-        Err(_) => return Said::NoMemory,
+        Err(NoMemory) => return Said::NoMemory,
     };
     if broken.is_some() {
         return Said::Explained {
@@ -39,6 +40,6 @@ pub fn tell_trace(alloc: Global, bytes: &[u8]) -> Said
     }
     match account_of(alloc, job, events) {
         Ok(account) => Said::Told(account),
-        Err(_) => Said::NoMemory,
+        Err(NoMemory) => Said::NoMemory,
     }
 }

@@ -7,6 +7,7 @@ ghost use Rattle.mu_top.specs.Answers.{Tells};
 
 use crate::front::{put_bytes, put_said};
 use crate::tasks::{Work, asked_after, asked_of};
+use mu_model::NoMemory;
 use mu_outcome::Status;
 use mu_report::{Said, status_for};
 use mu_top::{told_alone, told_of_bulk};
@@ -66,12 +67,12 @@ pub(crate) fn say(alloc: Global, said: Said, out: &mut [u8]) -> Answered
             status: status_for(&said).code(),
             taken,
         },
-        Err(_) => no_memory(out),
+        Err(refusal) => no_memory(refusal, out),
     }
 }
 
-/// Says that there was no memory.
-pub(crate) fn no_memory(out: &mut [u8]) -> Answered
+/// Says that there was no memory, as an allocator told.
+pub(crate) fn no_memory(_refusal: NoMemory, out: &mut [u8]) -> Answered
     ensures { PutsSaid NoMemorySaid out.old out.new result.status result.taken }
 {
     Answered {

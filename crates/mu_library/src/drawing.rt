@@ -38,7 +38,7 @@ fn tell(alloc: Global, told: Output, out: &mut [u8]) -> Answered
         },
         Output::Said(said) => match put_said(alloc, &said, out) {
             Ok(taken) => Answered { status, taken },
-            Err(_) => no_memory(out),
+            Err(refusal) => no_memory(refusal, out),
         },
         Output::Drawn(sheet) => Answered {
             status,

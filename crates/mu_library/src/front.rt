@@ -6,7 +6,7 @@ ghost use Rattle.mu_report.specs.Said.{text, IsShort};
 use crate::sinks::Kept;
 use mu_model::NoMemory;
 use mu_report::{Said, print_counted};
-use std::alloc::{AllocError, Global};
+use std::alloc::Global;
 
 /// Copies the first bytes of the text to the front of the room, as many as have room, and answers
 /// how many bytes the text has.
@@ -33,6 +33,6 @@ pub(crate) fn put_said(alloc: Global, said: &Said, out: &mut [u8]) -> Result<usi
     let mut kept = Kept::new(alloc);
     match print_counted(&mut kept, said) {
         Ok(_) => Ok(put_bytes(kept.as_slice(), out)),
-        Err(_) => Err(AllocError),
+        Err(_) => Err(kept.refusal()),
     }
 }

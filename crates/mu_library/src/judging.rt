@@ -1,11 +1,12 @@
 //! A judge in the hands of a C program.
 ghost use Rattle.std.specs.Prelude.{◌≡◌, ◌⊎◌, None, Some};
 ghost use Rattle.mu_library.specs.Calls.{CanTake, OpensJudge, PutsSaid, SaysOfJudge, TakesLine};
-ghost use Rattle.mu_report.specs.declared.said.Said.TheVariants.{NoMemory};
+ghost use Rattle.mu_report.specs.declared.said.Said.TheVariants.{NoMemory as NoMemorySaid};
 
 use crate::answering::{Answered, no_memory, say};
 use mu_handle::Handle;
 use mu_judging::LineJudge;
+use mu_model::NoMemory;
 use mu_report::Said;
 use mu_top::INPUT_LIMIT;
 use std::alloc::Global;
@@ -32,7 +33,7 @@ fn keep(alloc: Global, handle: &mut Handle, judge: LineJudge, out: &mut [u8]) ->
     ensures { ((result.status ≡ 0) × (handle.new.held ≡ Some judge) × (result.taken ≡ 0)
         × (out.new ≡ out.old))
         ⊎ ((handle.new.held ≡ handle.old.held)
-        × PutsSaid NoMemory out.old out.new result.status result.taken) }
+        × PutsSaid NoMemorySaid out.old out.new result.status result.taken) }
 {
     match Box::new(alloc, judge) {
         Ok(judge) => {
@@ -42,7 +43,7 @@ fn keep(alloc: Global, handle: &mut Handle, judge: LineJudge, out: &mut [u8]) ->
                 taken: 0,
             }
         }
-        Err(_) => no_memory(out),
+        Err(refusal) => no_memory(NoMemory::from(refusal), out),
     }
 }
 

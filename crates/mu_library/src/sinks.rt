@@ -1,9 +1,10 @@
 //! A sink in memory that grows.
-ghost use Rattle.std.specs.Prelude.{◌≡◌, ◌<◌, ◌≤◌, [], IfOk, OnErr, OnOk, Some, length, take};
+ghost use Rattle.std.specs.Prelude.{◌≡◌, ◌≢◌, ◌<◌, ◌≤◌, [], IfOk, OnErr, OnOk, Some, length, take};
 ghost use Rattle.std.specs.Io.KnownBytes.{Appends, Keeps};
 ghost use Rattle.mu_io.specs.Faults.{Rose};
 
 use mu_io::{Failed, Sink};
+use mu_model::NoMemory;
 use std::alloc::Global;
 use std::marker::Model;
 
@@ -13,14 +14,18 @@ use std::marker::Model;
 pub(crate) struct Kept {
     bytes: Vec<u8>,
     faults: u64,
+    /// The allocator's last error.
+    refusal: Option<NoMemory>,
 }
 
 impl Model for Kept {
-    ghost use Rattle.std.specs.Prelude.{List, ℕ};
+    ghost use Rattle.std.specs.Prelude.{List, ℕ, IsSome, ◌≢◌};
 
     ghost Value = { List ℕ × ℕ };
 
     ghost view = { λ k. (k.bytes.items, k.faults) };
+
+    ghost invariant = { λ k. k.faults ≢ 0 → IsSome k.refusal };
 }
 
 impl Kept {
@@ -31,6 +36,7 @@ impl Kept {
         Kept {
             bytes: Vec::new(alloc),
             faults: 0,
+            refusal: None,
         }
     }
 
@@ -39,6 +45,13 @@ impl Kept {
         ensures { result.now ≡ self.now.0 }
     {
         self.bytes.as_slice()
+    }
+
+    /// The allocator's error for which it failed.
+    pub(crate) fn refusal(&self) -> NoMemory
+        requires { self.now.1 ≢ 0 }
+    {
+        self.refusal.unwrap()
     }
 }
 
@@ -59,8 +72,9 @@ impl Sink for Kept {
     {
         match self.bytes.extend_from_slice(from) {
             Ok(()) => Ok(from.len()),
-            Err(_) => {
+            Err(refusal) => {
                 self.faults = self.faults.saturating_add(1);
+                self.refusal = Some(refusal);
                 Err(Failed)
             }
         }

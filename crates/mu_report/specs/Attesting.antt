@@ -16,13 +16,13 @@ item_words (Item.Got row) = codes "got " ++ decimal row
 item_words (Item.Told by row reply) =
     decimal by ++ codes " told " ++ decimal row ++ codes " = " ++ reply_words reply
 
--- whose row an item is
+-- the row that an item names; 0 for an event, of which no row is told
 abbrev pub row_in : Item → ℕ
 row_in (Item.Event event) = 0
 row_in (Item.Got row) = row
 row_in (Item.Told by row reply) = row
 
--- which replica made it
+-- the replica that made an item; 0 for a command that was got, which no replica makes
 abbrev pub maker_of : Item → ℕ
 maker_of (Item.Event event) = event.by
 maker_of (Item.Got row) = 0

@@ -127,7 +127,8 @@ reason_words (Reason.NoWord word) =
     sentence (codes "a row has the words 0 to 11, and no word #") (decimal word ∷ [])
 reason_words (Reason.OtherWord row word given spelled client number) =
     sentence (codes "word # of row #, which is command #.# of the job, is # and not #")
-    (decimal word ∷ decimal row ∷ decimal client ∷ decimal number ∷ decimal spelled ∷ decimal given ∷ [])
+    (decimal word ∷ decimal row ∷ decimal client ∷ decimal number ∷ decimal spelled
+    ∷ decimal given ∷ [])
 reason_words (Reason.Written row word) =
     sentence (codes "word # of row # is written already") (decimal word ∷ decimal row ∷ [])
 reason_words (Reason.NoWriter value) =

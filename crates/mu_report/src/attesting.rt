@@ -9,8 +9,6 @@ use crate::reasons::fault_line;
 use crate::words::push_reply;
 use mu_clients::{Attested, Flaw, Flawed, Item};
 use mu_events::event_line;
-use mu_model::{Answer, Event, Verb};
-use mu_outcome::{Broken, Fault};
 
 /// Prints that an attested list is right, and how many items it has. Takes no memory.
 pub fn print_attested<P: Printer>(out: &mut P, counts: &Attested)
@@ -79,7 +77,7 @@ fn item_line(item: &Item) -> Line
     line
 }
 
-/// Whose row an item is.
+/// The row that an item names; 0 for an event, of which no row is told.
 fn row_in(item: &Item) -> u16
     ensures { result ≡ row_in_item item.now }
 {
@@ -90,7 +88,7 @@ fn row_in(item: &Item) -> u16
     }
 }
 
-/// Which replica made it.
+/// The replica that made an item; 0 for a command that was got, which no replica makes.
 fn maker_of(item: &Item) -> u8
     ensures { result ≡ maker_of_item item.now }
 {
@@ -101,21 +99,6 @@ fn maker_of(item: &Item) -> u8
     }
 }
 
-/// A list that this fault breaks: of the event nothing is told.
-fn broken_by(fault: Fault) -> Broken
-    ensures { result.fault ≡ fault }
-{
-    Broken {
-        index: 0,
-        event: Event {
-            by: 0,
-            verb: Verb::Beat,
-            answer: Answer::Done,
-        },
-        fault,
-    }
-}
-
 /// What is wrong with an item.
 fn flaw_line(item: &Item, flaw: &Flaw) -> Line
     ensures bytes { result ≡ flaw_words item.now flaw.now }
@@ -123,7 +106,7 @@ fn flaw_line(item: &Item, flaw: &Flaw) -> Line
 {
     let mut line = Line::new();
     match flaw {
-        Flaw::Fault(fault) => return fault_line(&broken_by(*fault)),
+        Flaw::Fault(fault) => return fault_line(fault),
         Flaw::GotBefore => {
             line.push(b"not allowed: row ");
             line.push_number(u64::from(row_in(item)));

@@ -33,9 +33,7 @@ pub fn print_words<P: Printer>(out: &mut P, words: &[u8])
     requires { length words.now < LINE_BYTES }
     ensures { P.Prints out.old (words.now ∷ []) out.new }
 {
-    let mut line = Line::new();
-    line.push(words);
-    out.print_line(line);
+    out.print_bytes(words);
 }
 
 /// Prints a line of these words and a number.

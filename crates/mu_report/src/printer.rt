@@ -15,6 +15,11 @@ pub trait Printer {
     // From the first state it came to the second by printing these lines.
     ghost Prints: { Self → List (List ℕ) → Self → Type 0 };
 
+    /// Prints a line of these bytes.
+    fn print_bytes(&mut self, bytes: &[u8])
+        requires { length bytes.now < LINE_BYTES }
+        ensures { Prints self.old (bytes.now ∷ []) self.new };
+
     /// Prints a line.
     fn print_line(&mut self, line: Line)
         requires { length line < LINE_BYTES }
@@ -114,11 +119,15 @@ impl<K: Sink> Printer for SinkPrinter<'_, K> {
         × Printed K.written K.faults (over s) lines (over t) };
 
     #[inline(always)]
-    fn print_line(&mut self, line: Line) {
-        if !self.held.has_room(line.as_slice()) {
+    fn print_bytes(&mut self, bytes: &[u8]) {
+        if !self.held.has_room(bytes) {
             self.write();
         }
-        self.held.push_line(line.as_slice());
+        self.held.push_line(bytes);
+    }
+
+    fn print_line(&mut self, line: Line) {
+        self.print_bytes(line.as_slice());
     }
 
     ghost nothing = { λ s. (refl, printed_nothing _ _ _) };

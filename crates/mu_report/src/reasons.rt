@@ -334,20 +334,20 @@ fn first_line(events: u32, number: u32, broken: &Option<Broken>) -> Line
     line
 }
 
-/// What is wrong with it.
-pub fn fault_line(broken: &Broken) -> Line
-    ensures bytes { result ≡ fault_words broken.now.fault }
+/// What is wrong with an event.
+pub fn fault_line(fault: &Fault) -> Line
+    ensures bytes { result ≡ fault_words fault.now }
     ensures room { length result < LINE_BYTES }
 {
     let mut line = Line::new();
-    match broken.fault {
+    match fault {
         Fault::NotAllowed(reason) => {
             line.push(b"not allowed: ");
-            push_reason(&mut line, reason);
+            push_reason(&mut line, *reason);
         }
         Fault::WrongAnswer { expected } => {
             line.push(b"wrong answer: expected ");
-            push_answer(&mut line, &expected);
+            push_answer(&mut line, expected);
         }
     }
     line
@@ -360,6 +360,6 @@ pub fn print_explained<P: Printer>(out: &mut P, events: u32, line: u32, broken: 
     out.print_line(first_line(events, line, broken));
     if let Some(broken) = broken {
         out.print_line(event_line(&broken.event));
-        out.print_line(fault_line(broken));
+        out.print_line(fault_line(&broken.fault));
     }
 }

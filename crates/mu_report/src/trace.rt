@@ -6,7 +6,7 @@ ghost use Rattle.mu_report.specs.Trace.{event_line as event_line_of, batch_lines
 use crate::line::{HasLine, Line, print_each, print_numbered, print_words};
 use crate::printer::Printer;
 use kv_store::Command;
-use mu_events::event_line;
+use mu_events::push_event;
 use mu_input::op_line;
 use mu_model::{Config, Event, Pause, Script, Stop};
 use mu_outcome::{AllEvents, Outcome};
@@ -26,12 +26,15 @@ pub fn print_trace<P: Printer>(out: &mut P, outcome: &Outcome)
     print_words(out, b"end");
 }
 
-/// Prints events, a line each.
+/// Prints events, a line each: it is the same one, since most of a trace are events.
 fn print_events<P: Printer>(out: &mut P, events: &[Event])
     ensures { P.Prints out.old (map event_line_of events.now) out.new }
 {
+    let mut line = Line::new();
     for event in events {
-        out.print_line(event_line(event));
+        line.clear();
+        push_event(&mut line, event);
+        out.print_bytes(line.as_slice());
     }
 }
 

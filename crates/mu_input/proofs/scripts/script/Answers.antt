@@ -4,8 +4,7 @@ use Rattle.mu_text.specs.Lines.{words}
 use Rattle.mu_text.specs.declared.TheConstants.{MANY_WORDS}
 use Rattle.mu_input.specs.declared.TheConstants.{MOST_SCRIPT_LINES}
 use Rattle.mu_input.specs.declared.scripts.ScriptLine.TheVariants as line
-use Rattle.mu_input.specs.declared.job.InputEnd.TheVariants.{NoMemory}
-use Rattle.mu_input.proofs.ScriptBack.{told-few}
+use Rattle.mu_input.proofs.ScriptBack.{in_order-few}
 use Rattle.mu_input.proofs.StopsAndPauses.{line_by_line, room, told}
 use Rattle.mu_input.proofs.scripts.script.Goals as goal
 use Rattle.mu_input.proofs.scripts.script.Goals.{in-Stop+in_ok-push-in-Stop, in-Pause+in_ok-push-in-Pause}
@@ -15,7 +14,7 @@ returns-in-End-clause-lines c =
     let l = c.loop-line in
     let few : length c.as_slice-in-End.result.now + length c.as_slice-in-End-2.result.now ≤ MOST_SCRIPT_LINES =
     omega (arith, l.invariant.few, ap length c.as_slice-in-End.ensures.value, ap length c.as_slice-in-End-2.ensures.value) in
-    told-few _ _ c.script_of-ordered.result NoMemory c.or.result c.args.replicas c.as_slice-in-End.result.now c.as_slice-in-End-2.result.now c.or.ensures c.script_of-ordered.ensures few
+    in_order-few c.in_ok-ordered-in-End.ordered c.args.replicas c.as_slice-in-End.result.now c.as_slice-in-End-2.result.now c.in_ok-ordered-in-End.ensures few
 
 pub loop-line-preserved : goal.loop-line-preserved
 loop-line-preserved c =
