@@ -1,0 +1,4 @@
+mod FirstWords
+mod Going
+mod LinesSoFar
+mod Served
