@@ -1,0 +1,4 @@
+pub mod Holds
+pub mod Seating
+pub mod Stepping
+pub mod Turning

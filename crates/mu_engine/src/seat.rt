@@ -1,0 +1,61 @@
+//! A replica in its rounds.
+ghost use Rattle.std.specs.Prelude.{IfOk, [], map, replicate, vec_capacity, ◌<◌, ◌≡◌};
+ghost use Rattle.mu_model.specs.Contents.{IsConfig};
+ghost use Rattle.mu_engine.specs.Live.{after_round as hold_after, free};
+ghost use Rattle.mu_engine.specs.Seats.{AreSeated, Plays, Sits, hold_of};
+
+use crate::hold::Hold;
+use mu_input::Job;
+use mu_model::NoMemory;
+use mu_node::{Node, Zeal};
+use std::alloc::Global;
+use word_fabric::WordPort;
+
+/// A replica, and what keeps it from its turns.
+#[derive(Drop)]
+pub(crate) struct Seat {
+    pub(crate) node: Node,
+    pub(crate) hold: Hold,
+}
+
+impl Seat {
+    /// Its turn in a round, if nothing keeps it from that: the memory is passed to it.
+    pub(crate) fn play(&mut self, port: &mut WordPort)
+        requires config { IsConfig port.old.config }
+        requires inside { self.old.node.id < port.old.config.replicas }
+        requires sits { Sits port.old.config self.old.node.id port.old.events self.old }
+        ensures config { port.new.config ≡ port.old.config }
+        ensures sits { Sits port.old.config self.old.node.id port.new.events self.new }
+        ensures plays { Plays port.old.config self.old.node.id self.old.hold port.old.events
+            port.new.events }
+        ensures hold { self.new.hold ≡ hold_after self.old.hold }
+    {
+        let free = self.hold.is_free();
+        self.hold = self.hold.after_round();
+        if free {
+            port.pass_to(self.node.id());
+            let _turn = self.node.turn_on(port);
+        }
+    }
+}
+
+/// The replicas of a job before any event, each held by nothing. Takes all memory of theirs.
+pub(crate) fn seats(alloc: Global, job: &Job) -> Result<Vec<Seat>, NoMemory>
+    requires config { IsConfig job.now.config }
+    requires stops { job.now.script.stops ≡ [] }
+    ensures seated { IfOk result (λ seats. AreSeated job.now.config [] seats.items) }
+    ensures free { IfOk result
+        (λ seats. map hold_of seats.items ≡ replicate job.now.config.replicas free) }
+{
+    let mut seats = Vec::with_capacity(alloc, usize::from(job.config.replicas))?;
+    for id in 0..job.config.replicas {
+        seats.push_reserved(Seat {
+            node: Node::new(alloc, job, id, Zeal::Plain)?,
+            hold: Hold {
+                stopped: false,
+                rounds: 0,
+            },
+        });
+    }
+    Ok(seats)
+}

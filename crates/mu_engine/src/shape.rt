@@ -1,0 +1,14 @@
+//! What an engine is started with.
+
+/// What an engine is started with. It runs version 2 of the protocol, with batches of one command.
+#[derive(Clone, Copy, Debug, PartialEq, Eq)]
+pub struct Shape {
+    /// How many replicas there are: 1 to 7.
+    pub replicas: u8,
+    /// How many slots the log of a region has: 8 to 1,024.
+    pub ring: u16,
+    /// How many steps one replica may take: 1 to 131,071.
+    pub budget: u32,
+    /// How many commands may be submitted: 0 to 1,500.
+    pub room: u16,
+}
