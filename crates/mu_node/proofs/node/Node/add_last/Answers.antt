@@ -1,0 +1,44 @@
+use Rattle.std.proofs.Common.{[], ◌∷◌, ◌∙◌, ap, arith, length, refl, subst, sym}
+use Rattle.mu_model.specs.Contents.{IsConfig, row_count}
+use Rattle.mu_model.specs.Growing.{with_more}
+use Rattle.mu_model.specs.Parts.{IsPossible}
+use Rattle.mu_node.specs.declared.node.Node.{Node}
+use Rattle.mu_node.specs.Node.{LivesForNode}
+use Rattle.mu_node.proofs.Growing.{follow_over, known_before, lead_over, node_more}
+use Rattle.mu_node.proofs.node.Node.add_last.Goals as goal
+
+pub add_last-requires : goal.add_last-requires
+add_last-requires g c = (subst IsConfig (sym c.requires.lives.beside.follow.config) c.requires.was, subst IsConfig (sym c.requires.copy) c.requires.config)
+
+pub add_last-2-requires : goal.add_last-2-requires
+add_last-2-requires g c =
+    let growth = g.growth in
+    let k = growth.config in
+    let r = growth.replica in
+    let mine = growth.mine in
+    let old = c.args.self.now in
+    let held = c.requires.lives in
+    let possible = subst (λ i. IsPossible old.lead.config i mine) (sym held.lead.id) (subst (λ z. IsPossible z r mine) (sym held.lead.config) c.requires.possible) in
+    let follow = follow_over k growth.row r mine c.args.config c.args.copy old.follow c.add_last.new.self c.requires.copy c.requires.grown c.requires.possible c.requires.room.follow held.beside.follow (c.add_last.ensures.stands growth.row r mine) in
+    let known = known_before k growth.row r mine c.known.result.now old.lead held.lead (c.known.ensures (with_more k (growth.row ∷ [])) r mine (length mine) follow) in
+    let long = held.lead.stands.tables.rows in
+    let rows = ap row_count held.lead.config in
+    let room = c.requires.room.lead in
+    (held.lead.stands, (possible, (known, (c.requires.config, omega (arith, long, rows, room)))))
+
+pub returns-clause-lives : goal.returns-clause-lives
+returns-clause-lives g c =
+    let growth = g.growth in
+    let k = growth.config in
+    let row = growth.row in
+    let r = growth.replica in
+    let mine = growth.mine in
+    let old = c.args.self.now in
+    let held = c.requires.lives in
+    let more = with_more k (row ∷ []) in
+    let follow = follow_over k row r mine c.args.config c.args.copy old.follow c.add_last.new.self c.requires.copy c.requires.grown c.requires.possible c.requires.room.follow held.beside.follow (c.add_last.ensures.stands row r mine) in
+    let values = c.known.ensures more r mine (length mine) follow in
+    let log = c.log.ensures more r mine (length mine) follow in
+    let lead = lead_over k row r mine c.args.config c.known.result.now c.log.result.now old.lead c.add_last-2.new.self c.requires.grown held.lead log values c.add_last-2.ensures.config c.add_last-2.ensures.id c.add_last-2.ensures.stands in
+    subst (λ z. LivesForNode z r mine _) (sym c.requires.grown)
+    (node_more k row r mine old _ c.requires.was (subst IsConfig c.requires.grown c.requires.config) c.requires.possible held c.requires.room follow c.add_last.ensures.handed lead refl refl refl refl refl refl refl refl)
