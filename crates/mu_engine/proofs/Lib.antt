@@ -1,4 +1,7 @@
+pub mod First
+pub mod Going
 pub mod Holds
+pub mod Linear
 pub mod Seating
 pub mod Stepping
 pub mod Turning

@@ -42,7 +42,7 @@ pub steps_on : (c : Config) (holds : List Hold) (events old new steps : List Eve
 steps_on c holds events old new steps k hold list held (inl none) was = (steps, none.0 ∙ list, record { free = free; ascending = was.ascending; all = all })
   where
     free : (i : ℕ) (e : Event) → slice_get steps i ≡ Some e → (e.by < suc k) × (takes_turn holds e.by ≡ true)
-    free i e at = let was = was.free i e at in let low = was.0 in (omega (arith, low), was.1)
+    free i e at = let had = was.free i e at in let low = had.0 in (omega (arith, low), had.1)
 
     all : (r : ℕ) → r < suc k → takes_turn holds r ≡ true → HasStep r steps ⊎ IsHalted c r (part r (history events))
     all r low turn = elim (cases_lt r k) [
@@ -65,7 +65,7 @@ steps_on c holds events old new steps k hold list held (inr one) was = (
 
     free : (i : ℕ) (f : Event) → slice_get (steps ++ one.0 ∷ []) i ≡ Some f → (f.by < suc k) × (takes_turn holds f.by ≡ true)
     free = each_pushed (λ i f. (f.by < suc k) × (takes_turn holds f.by ≡ true)) steps one.0
-        (λ i f at. let was = was.free i f at in let low = was.0 in (omega (arith, low), was.1))
+        (λ i f at. let had = was.free i f at in let low = had.0 in (omega (arith, low), had.1))
         (let by = one.1 in (omega (arith, by), ap (takes_turn holds) by ∙ ap is_free_at held ∙ one.2))
 
     -- what stands before the last

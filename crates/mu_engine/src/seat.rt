@@ -32,11 +32,33 @@ impl Seat {
     {
         let free = self.hold.is_free();
         self.hold = self.hold.after_round();
-        if free {
-            port.pass_to(self.node.id());
-            let _turn = self.node.turn_on(port);
+        if !free {
+            return;
         }
+        port.pass_to(self.node.id());
+        self.node.turn_on(port);
     }
+    //SUBMIT
+    /// Goes over to a configuration with one row more, before the memory does. Takes no memory. The
+    /// memory and the row are only for the clauses.
+    pub(crate) fn add_last(&mut self, _port: &WordPort, _row: &Row, config: Config, copy: Config)
+        ghost growth: { Growth }
+        requires is { growth ≡ growth_of _port.now.config _row.now self.old.node.id
+            _port.now.events }
+        requires was { IsConfig growth.config }
+        requires config { IsConfig config }
+        requires copy { copy ≡ config }
+        requires grown { config ≡ with_more growth.config (growth.row ∷ []) }
+        requires possible { IsPossible growth.config growth.replica growth.mine }
+        requires lives { LivesForNode growth.config growth.replica growth.mine self.old.node }
+        requires room { HasRoomForRow growth.config self.old.node }
+        ensures lives { LivesForNode config growth.replica growth.mine self.new.node }
+        ensures stops { self.new.node.stops ≡ self.old.node.stops }
+        ensures hold { self.new.hold ≡ self.old.hold }
+    {
+        self.node.add_last(config, copy);
+    }
+    //END
 }
 
 /// The replicas of a job before any event, each held by nothing. Takes all memory of theirs.

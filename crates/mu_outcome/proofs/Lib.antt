@@ -7,4 +7,4 @@ pub mod LogCommands
 pub mod LogsAgreeing
 pub mod LongestLogs
 pub mod Places
-mod Spelled
+pub mod Spelled

@@ -44,29 +44,31 @@ logs_begin c events r s legal =
     lists_agree (log_after c events r) (log_after c events s) (λ i v w a b.
     known_agree c r s (history events) legal i v w (applied_known c r i v (part r (history events)) a) (applied_known c s i w (part s (history events)) b))
 
+-- the longest log is that of a replica, or there is nothing in any
+pub longest_among : (c : Config) (events : List Event) → (longest_after c events ≡ []) ⊎ ((k : ℕ) × (k < c.replicas) × (log_after c events k ≡ longest_after c events))
+longest_among c events = elim (longest_is (logs_after c events c.replicas)) [
+  | inl none ↦ inl none
+  | inr some ↦
+      let within = slice_get_within (logs_after c events c.replicas) some.0 (longest_after c events) some.1 in
+      let count = logs_count c events c.replicas in
+      let low : some.0 < c.replicas = omega (arith, within, count) in
+      inr (some.0, low, same_some (log_after c events some.0) (longest_after c events) (sym (log_at c events c.replicas some.0 low) ∙ some.1))
+]
+
 -- a log begins the longest
-begins_longest : (c : Config) (events : List Event) (r : ℕ) → IsLegal c events → r < c.replicas → IsPrefixOf (log_after c events r) (longest_after c events)
-begins_longest c events r legal low = elim (longest_is logs) [
-  | inl none ↦ (let zero = ap length none in let nothing = empty_one (log_after c events r) (omega (arith, short, zero)) in (longest logs, ap (λ l. l ++ longest logs) (sym nothing)))
-  | inr some ↦ among some.0 some.1
+pub begins_longest : (c : Config) (events : List Event) (r : ℕ) → IsLegal c events → r < c.replicas → IsPrefixOf (log_after c events r) (longest_after c events)
+begins_longest c events r legal low = elim (longest_among c events) [
+  | inl none ↦ (let zero = ap length none in let nothing = empty_one (log_after c events r) (omega (arith, short, zero)) in (longest_after c events, ap (λ l. l ++ longest_after c events) (sym nothing)))
+  | inr some ↦ (
+      let long = ap length some.2 in
+      subst (λ l. IsPrefixOf (log_after c events r) l) some.2 (elim (logs_begin c events r some.0 legal) [
+        | inl begins ↦ begins
+        | inr begins ↦ ([], sym (append-nil (log_after c events r) ∙ same_begun (log_after c events some.0) (log_after c events r) begins (omega (arith, short, long))))
+      ]))
 ]
   where
-    logs : List (List ℕ)
-    logs = logs_after c events c.replicas
-
-    short : length (log_after c events r) ≤ length (longest (logs_after c events c.replicas))
+    short : length (log_after c events r) ≤ length (longest_after c events)
     short = longest_most (logs_after c events c.replicas) r (log_after c events r) (log_at c events c.replicas r low)
-
-    among : (k : ℕ) → slice_get (logs_after c events c.replicas) k ≡ Some (longest (logs_after c events c.replicas)) → IsPrefixOf (log_after c events r) (longest (logs_after c events c.replicas))
-    among k at =
-        let count = logs_count c events c.replicas in
-        let within = slice_get_within logs k (longest logs) at in
-        let is : log_after c events k ≡ longest logs = same_some (log_after c events k) (longest logs) (sym (log_at c events c.replicas k (omega (arith, within, count))) ∙ at) in
-        let long = ap length is in
-        subst (λ l. IsPrefixOf (log_after c events r) l) is (elim (logs_begin c events r k legal) [
-          | inl begins ↦ begins
-          | inr begins ↦ ([], sym (append-nil (log_after c events r) ∙ same_begun (log_after c events k) (log_after c events r) begins (omega (arith, short, long))))
-        ])
 
 pub logs_agree_law : LogsAgree
 logs_agree_law job events good have legal = record {

@@ -1,9 +1,12 @@
-use Rattle.std.proofs.Common.{◌≡◌, ◌∙◌, ◌<◌, ◌+◌, suc, Some, [], ap, append-nil, arith, inl, inr, length, length-set, map, refl, set, subst, sym, omega}
+use Rattle.std.proofs.Common.{◌≡◌, ◌∙◌, ◌<◌, ◌+◌, ◌++◌, suc, List, Some, [], ap, append-nil, arith, length, length-set, map, set, subst, sym}
 use Rattle.std.specs.Prelude.{slice_index_or}
 use Rattle.std.specs.List.{slice_get}
+use Rattle.std.proofs.lemmas.List.{length-map}
 use Rattle.std.proofs.lemmas.Option.{slice_get-get_or}
+use Rattle.mu_model.specs.declared.event.Event.{Event}
 use Rattle.mu_model.proofs.Lists.{get_set_other}
-use Rattle.mu_engine.specs.Live.{after_round}
+use Rattle.mu_engine.specs.Live.{after_round, changed_at}
+use Rattle.mu_engine.specs.Rounds.{AreSteps}
 use Rattle.mu_engine.specs.Seats.{hold_of}
 use Rattle.mu_engine.proofs.Holds.{aged, aged_all, aged_next, changed_map, hold_there}
 use Rattle.mu_engine.proofs.Seating.{plays_there, seated_on, sits_own, sits_there}
@@ -57,3 +60,21 @@ loop-k-preserved c =
           ∙ aged_next k (map hold_of c.args.seats.now) ∙ ap (λ n. aged n (map hold_of c.args.seats.now)) one;
       steps = subst (λ n. (steps : List Event) × (c.play.new.port.events ≡ first ++ steps) × AreSteps f (map hold_of c.args.seats.now) first n steps) one after;
     }
+
+pub returns-clause-holds : goal.returns-clause-holds
+returns-clause-holds c =
+    let holds = map hold_of c.args.seats.now in
+    let long = length-map hold_of c.args.seats.now in
+    c.loop-k.invariant.holds ∙ aged_all c.loop-k.k holds (omega (arith, long, c.loop-k-test.false, c.loop-k.invariant.count))
+
+pub returns-clause-steps : goal.returns-clause-steps
+returns-clause-steps c =
+    let f = c.args.port.now.config in
+    let holds = map hold_of c.args.seats.now in
+    let events = c.args.port.now.events in
+    let steps = c.loop-k.invariant.steps in
+    let all : c.loop-k.k ≡ f.replicas = omega (arith, c.loop-k-test.false, c.loop-k.auto.k-end, c.loop-k.invariant.count, c.loop-k.invariant.seated.count) in
+    (steps.0, steps.1, subst (λ n. AreSteps f holds events n steps.0) all steps.2)
+
+pub returns-clause-legal : goal.returns-clause-legal
+returns-clause-legal c = c.id.ensures.fits.legal
