@@ -1,5 +1,6 @@
 pub mod First
 pub mod Going
+pub mod Growing
 pub mod Holds
 pub mod Linear
 pub mod Seating

@@ -1,11 +1,19 @@
--- copies, rooms: the configuration with one row more, for all that keep one; and room for that row
--- in all replicas.
+-- growth, copies, rooms: a row that comes at a moment, seen from a replica; the configuration
+-- with it, for all that keep one; and room for it in all replicas.
 use Rattle.std.specs.Prelude.{List, Some, length, ℕ, ◌≡◌}
 use Rattle.std.specs.List.{slice_get}
 use Rattle.mu_model.specs.declared.config.Config.{Config}
-use Rattle.mu_node.specs.Growing.{HasRoomForRow}
+use Rattle.mu_model.specs.declared.config.Row.{Row}
+use Rattle.mu_model.specs.declared.event.Event.{Event}
+use Rattle.mu_model.specs.Histories.{history, part}
+use Rattle.mu_node.specs.Growing.{Growth, HasRoomForRow}
 use Rattle.mu_engine.specs.declared.growing.Copies.{Copies}
 use Rattle.mu_engine.specs.declared.seat.Seat.{Seat}
+
+-- a row comes after these events, seen from replica r
+abbrev pub growth_of : Config → Row → ℕ → List Event → Growth
+growth_of c row r events =
+    record { config = c; row = row; replica = r; mine = part r (history events) }
 
 -- each pair is of this configuration twice
 abbrev pub ArePairs : Config → List (Config × Config) → Type 0

@@ -1,3 +1,4 @@
+pub mod Growing
 pub mod Inside
 pub mod Laws
 pub mod Live

@@ -1,20 +1,21 @@
 //! The engine.
-ghost use Rattle.std.specs.Prelude.{IfOk, List, length, map, ◌++◌, ◌<◌, ◌≡◌};
+ghost use Rattle.std.specs.Prelude.{IfOk, List, Some, length, map, ◌++◌, ◌<◌, ◌≡◌};
+ghost use Rattle.std.specs.List.{slice_get};
 ghost use Rattle.mu_model.specs.declared.event.Event.{Event as SomeEvent};
 ghost use Rattle.mu_model.specs.Contents.{IsConfig};
-ghost use Rattle.mu_model.specs.Legal.{IsLegal};
 ghost use Rattle.mu_outcome.specs.LogsAfter.{AgreesNow};
 ghost use Rattle.mu_engine.specs.Live.{after_round, changed_at, first_live, paused, stopped};
+ghost use Rattle.mu_engine.specs.Moments.{IsMoment};
 ghost use Rattle.mu_engine.specs.Rounds.{IsRound};
 ghost use Rattle.mu_engine.specs.Shapes.{HasLimits, first_job as job_at_first};
 
+use crate::hold::Hold;
 use crate::rounds::play_round;
 use crate::seat::{Seat, seats};
 use crate::shape::Shape;
 use kv_store::Command;
 use mu_input::Job;
 use mu_model::{Config, Event, NoMemory, Script, Sequence};
-use mu_outcome::logs_agree;
 use mu_port::Memory;
 use std::alloc::Global;
 use std::marker::Model;
@@ -87,7 +88,7 @@ impl Engine {
         let job = first_job(alloc, shape);
         let commands = Vec::with_capacity(alloc, usize::from(shape.room))?;
         let seats = seats(alloc, &job)?;
-        let memory = WordFabric::start(alloc, &job.config)?;
+        let memory = WordFabric::start_with_room(alloc, &job.config, shape.room)?;
         let Job {
             config,
             commands: _,
@@ -134,9 +135,18 @@ impl Engine {
         self.seats[usize::from(replica)].hold.rounds = rounds;
     }
 
+    /// What keeps a replica from its turns.
+    pub fn hold_of(&self, replica: u8) -> Hold
+        requires { replica < length self.now.holds }
+        ensures { slice_get self.now.holds replica ≡ Some result }
+    {
+        self.seats[usize::from(replica)].hold
+    }
+
     /// What all replicas know: the rows of the commands so far, among others.
     pub fn config(&self) -> &Config
-        ensures { result.now ≡ self.now.job.config }
+        ensures config { result.now ≡ self.now.job.config }
+        ensures replicas { length self.now.holds ≡ self.now.job.config.replicas }
     {
         &self.config
     }
@@ -158,10 +168,8 @@ impl Engine {
     /// The events so far, in true order: a legal list of the commands so far.
     pub fn events(&self) -> &[Event]
         ensures events { result.now ≡ self.now.events }
-        ensures config { IsConfig self.now.job.config }
-        ensures legal { IsLegal self.now.job.config self.now.events }
+        ensures moment { IsMoment self.now.job self.now.events }
     {
-        let _config = &self.config;
         self.port.events()
     }
 
@@ -170,6 +178,5 @@ impl Engine {
         ensures { AgreesNow self.now.job self.now.events }
     {
         let _config = &self.config;
-        logs_agree();
     }
 }

@@ -8,7 +8,6 @@ ghost use Rattle.mu_engine.specs.Rounds.{IsRound};
 ghost use Rattle.mu_engine.specs.Seats.{AreSeated, hold_of};
 
 use crate::seat::Seat;
-use mu_port::Port;
 use word_fabric::WordPort;
 
 /// One round.
@@ -21,10 +20,11 @@ pub(crate) fn play_round(port: &mut WordPort, seats: &mut [Seat])
     ensures steps { (steps : List Event) × (port.new.events ≡ port.old.events ++ steps)
         × IsRound port.old.config (map hold_of seats.old) port.old.events steps }
     ensures legal { IsLegal port.new.config port.new.events }
+    ensures limit { port.new.row_limit ≡ port.old.row_limit }
 {
     for k in 0..seats.len() {
         seats[k].play(port);
     }
     // The list of a port is legal.
-    port.id();
+    port.events();
 }

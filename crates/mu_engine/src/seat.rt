@@ -1,12 +1,17 @@
 //! A replica in its rounds.
-ghost use Rattle.std.specs.Prelude.{IfOk, [], map, replicate, vec_capacity, ◌<◌, ◌≡◌};
+ghost use Rattle.std.specs.Prelude.{IfOk, [], map, replicate, ◌<◌, ◌∷◌, ◌≡◌};
 ghost use Rattle.mu_model.specs.Contents.{IsConfig};
+ghost use Rattle.mu_model.specs.Growing.{with_more};
+ghost use Rattle.mu_model.specs.Parts.{IsPossible};
+ghost use Rattle.mu_node.specs.Growing.{Growth, HasRoomForRow};
+ghost use Rattle.mu_node.specs.Node.{LivesForNode};
+ghost use Rattle.mu_engine.specs.Growing.{growth_of};
 ghost use Rattle.mu_engine.specs.Live.{after_round as hold_after, free};
 ghost use Rattle.mu_engine.specs.Seats.{AreSeated, Plays, Sits, hold_of};
 
 use crate::hold::Hold;
 use mu_input::Job;
-use mu_model::NoMemory;
+use mu_model::{Config, NoMemory, Row};
 use mu_node::{Node, Zeal};
 use std::alloc::Global;
 use word_fabric::WordPort;
@@ -29,6 +34,7 @@ impl Seat {
         ensures plays { Plays port.old.config self.old.node.id self.old.hold port.old.events
             port.new.events }
         ensures hold { self.new.hold ≡ hold_after self.old.hold }
+        ensures limit { port.new.row_limit ≡ port.old.row_limit }
     {
         let free = self.hold.is_free();
         self.hold = self.hold.after_round();
@@ -38,7 +44,7 @@ impl Seat {
         port.pass_to(self.node.id());
         self.node.turn_on(port);
     }
-    //SUBMIT
+
     /// Goes over to a configuration with one row more, before the memory does. Takes no memory. The
     /// memory and the row are only for the clauses.
     pub(crate) fn add_last(&mut self, _port: &WordPort, _row: &Row, config: Config, copy: Config)
@@ -58,7 +64,6 @@ impl Seat {
     {
         self.node.add_last(config, copy);
     }
-    //END
 }
 
 /// The replicas of a job before any event, each held by nothing. Takes all memory of theirs.

@@ -52,6 +52,7 @@ loop-k-preserved c =
     let after = steps_on f (map hold_of c.args.seats.now) first c.loop-k.port.events c.play.new.port.events before.0 k old.hold before.1 held plays before.2 in
     record {
       config = c.play.ensures.config ∙ c.loop-k.invariant.config;
+      limit = c.play.ensures.limit ∙ c.loop-k.invariant.limit;
       count = length-set seats k new ∙ c.loop-k.invariant.count;
       ahead = λ r above. get_set_other seats r k new (λ same. absurd (omega (arith, above, same))) ∙ c.loop-k.invariant.ahead r (omega (arith, above));
       seated = seated_on f c.loop-k.port.events c.play.new.port.events seats k old.hold new plays sat c.loop-k.invariant.seated;
@@ -77,4 +78,4 @@ returns-clause-steps c =
     (steps.0, steps.1, subst (λ n. AreSteps f holds events n steps.0) all steps.2)
 
 pub returns-clause-legal : goal.returns-clause-legal
-returns-clause-legal c = c.id.ensures.fits.legal
+returns-clause-legal c = c.events.ensures.legal

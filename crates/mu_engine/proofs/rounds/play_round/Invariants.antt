@@ -9,6 +9,7 @@ use Rattle.mu_engine.proofs.rounds.play_round.Given as goal
 abbrev pub invariant-loop-k : goal.invariant-loop-k
 invariant-loop-k l = record {
   config : l.port.config ≡ l.fn.port.config;
+  limit : l.port.row_limit ≡ l.fn.port.row_limit;
   count : length l.seats ≡ length l.fn.seats;
   ahead : (r : ℕ) → l.k ≤ r → slice_get l.seats r ≡ slice_get l.fn.seats r;
   seated : AreSeated l.fn.port.config l.port.events l.seats;
