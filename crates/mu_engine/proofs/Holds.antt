@@ -19,6 +19,12 @@ changed_map f [] k old new at is = cc
 changed_map f (first ∷ seats) zero old new at is = ap (λ h. h ∷ map hold_of seats) (is ∙ ap (λ (s : Seat). f s.hold) (sym (same_some first old at)))
 changed_map f (first ∷ seats) (suc k) old new at is = ap (λ l. first.hold ∷ l) (changed_map f seats k old new at is)
 
+-- the same if nothing changes that holds it
+pub held_map : (seats : List Seat) (k : ℕ) (old new : Seat) → slice_get seats k ≡ Some old → new.hold ≡ old.hold → map hold_of (set seats k new) ≡ map hold_of seats
+held_map [] k old new at is = cc
+held_map (first ∷ seats) zero old new at is = ap (λ h. h ∷ map hold_of seats) (is ∙ ap (λ (s : Seat). s.hold) (sym (same_some first old at)))
+held_map (first ∷ seats) (suc k) old new at is = ap (λ l. first.hold ∷ l) (held_map seats k old new at is)
+
 -- what holds the first k replicas is as after a round, and what holds the others as before it
 abbrev pub aged : ℕ → List Hold → List Hold
 aged zero holds = holds

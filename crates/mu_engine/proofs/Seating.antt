@@ -31,6 +31,16 @@ seated_on c old new seats k hold after plays sits was = record {
   ];
 }
 
+-- they sit there if one of them is changed
+pub seated_set : (c : Config) (events : List Event) (seats : List Seat) (k : ℕ) (new : Seat) → Sits c k events new → AreSeated c events seats → AreSeated c events (set seats k new)
+seated_set c events seats k new sits was = record {
+  count = length-set seats k new ∙ was.count;
+  each = λ r seat at. elim (set_get seats k new r seat at) [
+    | inl here ↦ subst (λ i. Sits c i events seat) (sym here.0) (subst (λ s. Sits c k events s) here.1 sits)
+    | inr other ↦ was.each r seat other.1
+  ];
+}
+
 -- a replica sits at its own id
 pub sits_own : (f c : Config) (r : ℕ) (events : List Event) (seat : Seat) → f ≡ c → Sits c r events seat → Sits f seat.node.id events seat
 sits_own f c r events seat same sits = subst (λ k. Sits k seat.node.id events seat) (sym same) (subst (λ i. Sits c i events seat) (sym sits.lives.beside.id) sits)

@@ -34,9 +34,6 @@ part_waits k events steps below =
     ∙ ap (λ l. l ++ part k (history events)) (sym (history-part k steps) ∙ ap reverse (none_own k steps below))
 
 -- the steps with one more turn
-abbrev Goes : Config → List Hold → List Event → List Event → ℕ → Type 0
-Goes c holds events new n = (more : List Event) × (new ≡ events ++ more) × AreSteps c holds events n more
-
 pub steps_on : (c : Config) (holds : List Hold) (events old new steps : List Event) (k : ℕ) (hold : Hold) → old ≡ events ++ steps → slice_get holds k ≡ Some hold → Plays c k hold old new → AreSteps c holds events k steps
     → (more : List Event) × (new ≡ events ++ more) × AreSteps c holds events (suc k) more
 steps_on c holds events old new steps k hold list held (inl none) was = (steps, none.0 ∙ list, record { free = free; ascending = was.ascending; all = all })

@@ -97,7 +97,7 @@ pub(crate) fn add_last(
     seats: &mut [Seat],
     port: &WordPort,
     row: &Row,
-    copies: Vec<(Config, Config)>,
+    mut copies: Vec<(Config, Config)>,
 )
     requires config { IsConfig port.now.config }
     requires grown { IsConfig (with_more port.now.config (row.now ∷ [])) }
@@ -108,9 +108,11 @@ pub(crate) fn add_last(
     ensures seated { AreSeated (with_more port.now.config (row.now ∷ [])) port.now.events seats.new }
     ensures holds { map hold_of seats.new ≡ map hold_of seats.old }
 {
-    let mut k = 0;
-    for (config, copy) in copies {
+    for k in 0..seats.len() {
+        let (config, copy) = match copies.pop() {
+            Some(pair) => pair,
+            None => unreachable!(),
+        };
         seats[k].add_last(port, row, config, copy);
-        k += 1;
     }
 }
