@@ -1,7 +1,7 @@
+pub mod Adding
 pub mod Asking
 pub mod First
 pub mod Going
-pub mod Growing
 pub mod Holds
 pub mod Linear
 pub mod Seating

@@ -12,12 +12,18 @@ use Rattle.mu_input.specs.Batches.{followers}
 use Rattle.mu_input.specs.Heads.{HasHead, HaveHeads}
 use Rattle.mu_model.specs.declared.config.Config.{Config}
 use Rattle.mu_model.specs.declared.config.Row.{Row}
-use Rattle.mu_model.specs.Contents.{word_of}
+use Rattle.mu_model.specs.declared.event.Event.{Event}
+use Rattle.mu_model.specs.Contents.{IsConfig, row_count, rows_before, word_of}
 use Rattle.mu_model.specs.Growing.{with_more}
 use Rattle.mu_model.proofs.Basics.{same_some}
 use Rattle.mu_model.proofs.Lists.{get_push_here, get_push_other}
 use Rattle.mu_rows.specs.Rows.{IsCommand, spelled}
-use Rattle.mu_engine.specs.Live.{row_of}
+use Rattle.mu_agree.proofs.Growing.{grown_is_config_law, legal_stays_law}
+use Rattle.mu_input.specs.declared.job.Job.{Job}
+use Rattle.mu_engine.specs.declared.hold.Hold.{Hold}
+use Rattle.mu_engine.specs.Live.{Live, row_of, with_command}
+use Rattle.mu_engine.specs.Moments.{IsMoment}
+use Rattle.mu_engine.specs.Shapes.{no_script}
 
 -- a batch of one command has no followers
 pub alone : (command : Request) (commands : List Request) → followers 1 command commands ≡ 0
@@ -56,3 +62,34 @@ spelled_push c commands command was is = record { count = count; each = each }
           let same = was.count in
           subst (λ words. Spells words x) (sym (words_kept c (row_of command ∷ []) j (omega (arith, low, same)))) (was.each j x there)
     ]
+
+-- the moment after a command was submitted
+pub moment_grown : (job : Job) (events : List Event) (command : Request) (words : List ℕ) → IsMoment job events → job.config.width ≡ 1 → row_count job.config < 1500 → IsCommand command
+    → command.number ≡ rows_before job.config command.client (row_count job.config) + 1
+    → words ≡ spelled command 0 → slice_index words 0 / 2 ^ 8 % 2 ^ 8 ≡ command.client → slice_index words 0 / 2 ^ 16 % 2 ^ 16 ≡ command.number → slice_index words 0 / 2 ^ 56 ≡ 0
+    → IsMoment (with_command job command) events
+moment_grown job events command words was plain few is numbered told client number rest = record {
+  config = grown;
+  heads = subst (λ w. HaveHeads w (job.commands ++ command ∷ []) (job.config.rows ++ row_of command ∷ [])) (sym plain)
+      (heads_push job.commands job.config.rows command (row_of command) (subst (λ w. HaveHeads w job.commands job.config.rows) plain was.heads) head);
+  spelled = spelled_push job.config job.commands command was.spelled is;
+  legal = legal_stays_law job.config (row_of command ∷ []) events was.config grown was.legal;
+}
+  where
+    head : HasHead (row_of command) command 0
+    head = record {
+      client = ap (λ ws. slice_index ws 0 / 2 ^ 8 % 2 ^ 8) (sym told) ∙ client;
+      number = ap (λ ws. slice_index ws 0 / 2 ^ 16 % 2 ^ 16) (sym told) ∙ number;
+      rest = ap (λ ws. slice_index ws 0 / 2 ^ 56) (sym told) ∙ rest;
+    }
+
+    grown : IsConfig (with_more job.config (row_of command ∷ []))
+    grown = grown_is_config_law job.config (row_of command) was.config few head.rest (head.number ∙ numbered ∙ ap (λ x. rows_before job.config x (row_count job.config) + 1) (sym head.client))
+
+-- an engine by its parts
+abbrev pub live_by : Config → List Request → ℕ → List Event → List Hold → Live
+live_by c commands room events holds = record { job = record { config = c; commands = commands; script = no_script }; room = room; events = events; holds = holds }
+
+pub live_same : (c d : Config) (xs ys : List Request) (m n : ℕ) (es fs : List Event) (hs gs : List Hold) → c ≡ d → xs ≡ ys → m ≡ n → es ≡ fs → hs ≡ gs → live_by c xs m es hs ≡ live_by d ys n fs gs
+live_same c d xs ys m n es fs hs gs one two three four five =
+    ap (λ k. live_by k xs m es hs) one ∙ ap (λ l. live_by d l m es hs) two ∙ ap (λ k. live_by d ys k es hs) three ∙ ap (λ l. live_by d ys n l hs) four ∙ ap (λ l. live_by d ys n fs l) five
