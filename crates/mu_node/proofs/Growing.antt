@@ -110,13 +110,12 @@ answers_kept c row r mine a good grown possible room held commands are = record 
 -- the node lives for the same events with one row more if its replayer and its leader stand for them
 pub node_more : (c : Config) (row : Row) (r : ℕ) (mine : List Event) (old new : Node) → IsConfig c → IsConfig (with_more c (row ∷ [])) → IsPossible c r mine → LivesForNode c r mine old → HasRoomForRow c old
     → StandsForFollow (with_more c (row ∷ [])) r mine new.follow → new.follow.progress.handed ≡ old.follow.progress.handed → StandsForLead (with_more c (row ∷ [])) r mine new.lead
-    → new.id ≡ old.id → new.replicas ≡ old.replicas → new.budget ≡ old.budget → new.grants ≡ old.grants → new.watch ≡ old.watch → new.log ≡ old.log → new.commits ≡ old.commits → new.answers ≡ old.answers → LivesForNode (with_more c (row ∷ [])) r mine new
-node_more c row r mine old new good grown possible held room follow handed lead id replicas budget grants watch log commits answers =
+    → new.id ≡ old.id → new.replicas ≡ old.replicas → new.budget ≡ old.budget → new.grants ≡ old.grants → new.watch ≡ old.watch → new.log.items ≡ old.log.items → vec_capacity old.log ≤ vec_capacity new.log
+    → new.commits.items ≡ old.commits.items → vec_capacity old.commits ≤ vec_capacity new.commits → new.answers ≡ old.answers → LivesForNode (with_more c (row ∷ [])) r mine new
+node_more c row r mine old new good grown possible held room follow handed lead id replicas budget grants watch log log_grows commits commits_grow answers =
     let one = one_more c row in
     let logs = room.log_room in
     let list = room.commit_room in
-    let both = ap vec_capacity log in
-    let made = ap vec_capacity commits in
     record {
       beside = record {
         id = id ∙ held.beside.id;
@@ -125,14 +124,14 @@ node_more c row r mine old new good grown possible held room follow handed lead 
         grants = rw grants held.beside.grants;
         watch = rw watch (record { scores = held.beside.watch.scores; named = held.beside.watch.named; failed = held.beside.watch.failed });
         follow = follow;
-        no_log = ap (λ l. l.items) log ∙ held.beside.no_log;
-        log_room = omega (arith, one, logs, both);
-        no_commits = ap (λ l. l.items) commits ∙ held.beside.no_commits;
-        commit_room = omega (arith, one, list, made);
+        no_log = log ∙ held.beside.no_log;
+        log_room = omega (arith, one, logs, log_grows);
+        no_commits = commits ∙ held.beside.no_commits;
+        commit_room = omega (arith, one, list, commits_grow);
       };
       lead = lead;
       handed = handed ∙ (held.handed ∙ sym (handed_kept c (row ∷ []) r mine good grown possible));
-      answers = λ commands are. subst (λ a. HoldsAnswers (with_more c (row ∷ [])) commands (take (handed_before (with_more c (row ∷ [])) r mine) (applied (with_more c (row ∷ [])) r mine)) a) (sym answers) (answers_kept c row r mine old.answers good grown possible room.answers held.answers commands are);
+      answers = λ commands are. subst (λ (a : Answering). HoldsAnswers (with_more c (row ∷ [])) commands (take (handed_before (with_more c (row ∷ [])) r mine) (applied (with_more c (row ∷ [])) r mine)) a) (sym answers) (answers_kept c row r mine old.answers good grown possible room.answers held.answers commands are);
       reads = reads_kept c (row ∷ []) r mine good grown possible held.reads;
       cycle = λ on. absurd (true≢false (sym on));
       made = λ on. absurd (true≢false (sym on));

@@ -1,6 +1,7 @@
 -- Where a row stands among those of entries, and the reply beside it.
 use Rattle.std.proofs.Common.{◌≡◌, ◌∙◌, ℕ, zero, suc, ◌+◌, ◌%◌, ◌<◌, ◌≤◌, ◌==◌, ◌||◌, Bool, true, false, cond, List, [], ◌∷◌, ◌++◌, None, Some, ap, append-nil, append_assoc, arith, drop, length, length-append, refl, subst, sym, take, true≢false}
 use Rattle.std.specs.Prelude.{if◌then◌else◌}
+use Rattle.std.specs.declared.option.Option.{Option}
 use Rattle.std.specs.List.{slice_get}
 use Rattle.std.proofs.lemmas.Bool.{ne_eqb}
 use Rattle.std.proofs.lemmas.List.{take-append-drop}
@@ -14,8 +15,8 @@ use Rattle.mu_model.proofs.Scans.{rows_in-append}
 use Rattle.mu_follow.specs.Groups.{group_size}
 use Rattle.mu_follow.proofs.Full.{includes_both, includes_next}
 use Rattle.mu_follow.proofs.Growing.{from_below}
-use Rattle.mu_node.specs.Telling.{IsFirstAt}
-use Rattle.mu_node.proofs.Answering.{take_more}
+use Rattle.mu_node.specs.Telling.{IsFirstAt, TellsPlace}
+use Rattle.mu_node.proofs.Answering.{take_more, take_whole}
 
 -- nothing stands beside a number that isn't there
 pub beside_none : (x : ℕ) (rows : List ℕ) (told : List Reply) → includes x rows ≡ false → beside x rows told ≡ None
@@ -140,3 +141,23 @@ passed_here c entries row i v before at there passed first =
     subst (λ l. IsFirstAt row l (before + at)) (sym (rows_split c entries i v there))
     (subst (λ n. IsFirstAt row (rows_in c (take i entries) ++ (rows_of c v ++ rows_in c (drop (i + 1) entries))) (n + at)) (sym passed.count)
     (first_after row (rows_in c (take i entries)) (rows_of c v) (rows_in c (drop (i + 1) entries)) at passed.lacks first))
+
+-- and its place is one of theirs
+pub passed_low : (c : Config) (entries : List ℕ) (row i v before at : ℕ) → slice_get entries i ≡ Some v → Passed c entries row i before → IsFirstAt row (rows_of c v) at → before + at < length (rows_in c entries)
+passed_low c entries row i v before at there passed first =
+    let fits = passed_few c entries row i v before there passed in
+    let long = group_long c v in
+    let whole = ap length first.whole in
+    let both = length-append first.before (row ∷ first.after) in
+    let count = first.count in
+    omega (arith, fits, long, whole, both, count)
+
+-- it is none of all entries
+pub passed_all : (c : Config) (entries : List ℕ) (row i before : ℕ) → length entries ≤ i → Passed c entries row i before → includes row (rows_in c entries) ≡ false
+passed_all c entries row i before all passed = ap (λ l. includes row (rows_in c l)) (sym (take_whole i entries all)) ∙ passed.lacks
+
+-- what is told of the entries by the replayer's configuration
+pub told_of : (c own : Config) (row : ℕ) (entries handed : List ℕ) (told : Option ℕ) → own ≡ c → handed ≡ entries → length (rows_in c entries) < 65536 → (length (rows_in own handed) < 65536 → TellsPlace row (rows_in own handed) told) → TellsPlace row (rows_in c entries) told
+told_of c own row entries handed told same is few tells =
+    let all : rows_in own handed ≡ rows_in c entries = ap (λ z. rows_in z handed) same ∙ ap (rows_in c) is in
+    subst (λ l. TellsPlace row l told) all (tells (subst (λ l. length l < 65536) (sym all) few))

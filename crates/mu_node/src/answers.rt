@@ -85,6 +85,13 @@ impl Answers {
         self.replies.as_slice()
     }
 
+    /// The reply at a place, counted from 0, if there are as many.
+    pub fn reply(&self, at: usize) -> Option<Reply>
+        ensures { result ≡ slice_get self.now.replies at }
+    {
+        self.replies.as_slice().get(at).copied()
+    }
+
     /// Applies a command, if there is room, and keeps its reply. Takes no memory.
     fn answer(&mut self, command: &Command)
         ensures table { 0 < self.old.left

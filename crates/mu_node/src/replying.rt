@@ -48,7 +48,7 @@ impl Node {
             (replies (groups_of c commands (take (handed_before c r mine) (applied c r mine)))) }
     {
         match place_in(self.follow.config(), self.handed_on(), row) {
-            Some(at) => self.replies().get(at).copied(),
+            Some(at) => self.answers.reply(at),
             None => None,
         }
     }

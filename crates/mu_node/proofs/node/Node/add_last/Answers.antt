@@ -8,7 +8,10 @@ use Rattle.mu_node.proofs.Growing.{follow_over, known_before, lead_over, node_mo
 use Rattle.mu_node.proofs.node.Node.add_last.Goals as goal
 
 pub add_last-requires : goal.add_last-requires
-add_last-requires g c = (subst IsConfig (sym c.requires.lives.beside.follow.config) c.requires.was, subst IsConfig (sym c.requires.copy) c.requires.config)
+add_last-requires g c = record {
+  was = subst IsConfig (sym c.requires.1.1.1.1.1.0.beside.follow.config) c.requires.0;
+  config = subst IsConfig (sym c.requires.1.1.0) c.requires.1.0;
+}
 
 pub add_last-2-requires : goal.add_last-2-requires
 add_last-2-requires g c =
@@ -17,14 +20,14 @@ add_last-2-requires g c =
     let r = growth.replica in
     let mine = growth.mine in
     let old = c.args.self.now in
-    let held = c.requires.lives in
-    let possible = subst (λ i. IsPossible old.lead.config i mine) (sym held.lead.id) (subst (λ z. IsPossible z r mine) (sym held.lead.config) c.requires.possible) in
-    let follow = follow_over k growth.row r mine c.args.config c.args.copy old.follow c.add_last.new.self c.requires.copy c.requires.grown c.requires.possible c.requires.room.follow held.beside.follow (c.add_last.ensures.stands growth.row r mine) in
+    let held = c.requires.1.1.1.1.1.0 in
+    let possible = subst (λ i. IsPossible old.lead.config i mine) (sym held.lead.id) (subst (λ z. IsPossible z r mine) (sym held.lead.config) c.requires.1.1.1.1.0) in
+    let follow = follow_over k growth.row r mine c.args.config c.args.copy old.follow c.add_last.new.self c.requires.1.1.0 c.requires.1.1.1.0 c.requires.1.1.1.1.0 c.requires.1.1.1.1.1.1.follow held.beside.follow (c.add_last.ensures.stands growth.row r mine) in
     let known = known_before k growth.row r mine c.known.result.now old.lead held.lead (c.known.ensures (with_more k (growth.row ∷ [])) r mine (length mine) follow) in
     let long = held.lead.stands.tables.rows in
     let rows = ap row_count held.lead.config in
-    let room = c.requires.room.lead in
-    (held.lead.stands, (possible, (known, (c.requires.config, omega (arith, long, rows, room)))))
+    let room = c.requires.1.1.1.1.1.1.lead in
+    (held.lead.stands, (possible, (known, (c.requires.1.0, omega (arith, long, rows, room)))))
 
 pub returns-clause-lives : goal.returns-clause-lives
 returns-clause-lives g c =
@@ -34,11 +37,11 @@ returns-clause-lives g c =
     let r = growth.replica in
     let mine = growth.mine in
     let old = c.args.self.now in
-    let held = c.requires.lives in
+    let held = c.requires.1.1.1.1.1.0 in
     let more = with_more k (row ∷ []) in
-    let follow = follow_over k row r mine c.args.config c.args.copy old.follow c.add_last.new.self c.requires.copy c.requires.grown c.requires.possible c.requires.room.follow held.beside.follow (c.add_last.ensures.stands row r mine) in
+    let follow = follow_over k row r mine c.args.config c.args.copy old.follow c.add_last.new.self c.requires.1.1.0 c.requires.1.1.1.0 c.requires.1.1.1.1.0 c.requires.1.1.1.1.1.1.follow held.beside.follow (c.add_last.ensures.stands row r mine) in
     let values = c.known.ensures more r mine (length mine) follow in
     let log = c.log.ensures more r mine (length mine) follow in
-    let lead = lead_over k row r mine c.args.config c.known.result.now c.log.result.now old.lead c.add_last-2.new.self c.requires.grown held.lead log values c.add_last-2.ensures.config c.add_last-2.ensures.id c.add_last-2.ensures.stands in
-    subst (λ z. LivesForNode z r mine _) (sym c.requires.grown)
-    (node_more k row r mine old _ c.requires.was (subst IsConfig c.requires.grown c.requires.config) c.requires.possible held c.requires.room follow c.add_last.ensures.handed lead refl refl refl refl refl refl refl refl)
+    let lead = lead_over k row r mine c.args.config c.known.result.now c.log.result.now old.lead c.add_last-2.new.self c.requires.1.1.1.0 held.lead log values c.add_last-2.ensures.config c.add_last-2.ensures.id c.add_last-2.ensures.stands in
+    subst (λ z. LivesForNode z r mine _) (sym c.requires.1.1.1.0)
+    (node_more k row r mine old _ c.requires.0 (subst IsConfig c.requires.1.1.1.0 c.requires.1.0) c.requires.1.1.1.1.0 held c.requires.1.1.1.1.1.1 follow c.add_last.ensures.handed lead refl refl refl refl refl refl (omega arith) refl (omega arith) refl)

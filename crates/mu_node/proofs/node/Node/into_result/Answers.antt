@@ -6,7 +6,7 @@ use Rattle.mu_node.proofs.node.Node.into_result.Goals as goal
 pub into_live_result-requires : goal.into_live_result-requires
 into_live_result-requires c =
     let of = c.requires.stands in
-    (of.0, (of.1, (of.2, (of.3, (of.4, as_far true of.0 of.1 of.2 c.args.self of.5)))))
+    record { lives = (of.0, of.1, of.2, of.3, of.4, as_far true of.0 of.1 of.2 c.args.self of.5) }
 
 pub returns-clause-is : goal.returns-clause-is
 returns-clause-is c k r mine good possible held = record {
