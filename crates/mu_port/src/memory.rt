@@ -149,9 +149,9 @@ impl<M: Memory> Port for MemoryPort<M> {
 
     ghost same_refl = { λ x. (refl, refl, refl) };
 
-    ghost same_trans = { λ x y z p q. (q.0 ∙ p.0, q.1.0 ∙ p.1.0, q.1.1 ∙ p.1.1) };
+    ghost same_trans = { λ x y z p q. (q.0 ∙ p.0, q.1 ∙ p.1, q.2 ∙ p.2) };
 
-    ghost same_number = { λ x y p. p.1.0 };
+    ghost same_number = { λ x y p. p.1 };
 
     ghost same_config = { λ x y p. p.0 };
 }

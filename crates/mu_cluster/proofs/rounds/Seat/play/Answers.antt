@@ -19,7 +19,7 @@ returns-in-Took-clause-plays g c kind script rounds same sits =
     let old = c.args.port.now.events in
     let new = c.turn.new.port.events in
     let r = before.node.id in
-    let t = turned k old new c.pass_to.new.self c.turn.new.port r c.id-id.result script c.turn.result c.turn.new.self c.pass_to.ensures.replica c.id-id.ensures c.pass_to.ensures.config c.pass_to.ensures.events c.turn.ensures.same.1.0 c.turn.ensures.same.0 refl
+    let t = turned k old new c.pass_to.new.self c.turn.new.port r c.id-id.result script c.turn.result c.turn.new.self c.pass_to.ensures.replica c.id-id.ensures c.pass_to.ensures.config c.pass_to.ensures.events c.turn.ensures.same.1 c.turn.ensures.same.0 refl
     (record { stands = c.turn.ensures.stands; possible = c.turn.ensures.possible; did = c.turn.ensures.turn script (sym sits.stops) }) in
     let stops = ap (λ v. v.items) c.turn.ensures.stops ∙ sits.stops in
     let taken = c.steps.ensures k r (part_of r old) sits.stands in
@@ -40,7 +40,7 @@ returns-in-Took-clause-left g c kind script rounds sits =
     let old = c.args.port.now.events in
     let new = c.turn.new.port.events in
     let r = before.node.id in
-    let t = turned k old new c.pass_to.new.self c.turn.new.port r c.id-id.result script c.turn.result c.turn.new.self c.pass_to.ensures.replica c.id-id.ensures c.pass_to.ensures.config c.pass_to.ensures.events c.turn.ensures.same.1.0 c.turn.ensures.same.0 refl
+    let t = turned k old new c.pass_to.new.self c.turn.new.port r c.id-id.result script c.turn.result c.turn.new.self c.pass_to.ensures.replica c.id-id.ensures c.pass_to.ensures.config c.pass_to.ensures.events c.turn.ensures.same.1 c.turn.ensures.same.0 refl
     (record { stands = c.turn.ensures.stands; possible = c.turn.ensures.possible; did = c.turn.ensures.turn script (sym sits.stops) }) in
     let one = ap one_if_going c.if-self.false in
     let after : Seat = record { node = c.turn.new.self; waited = 0; ended = before.ended; next = c.pause_after-self.result } in
@@ -57,7 +57,7 @@ returns-in-Ended-clause-plays g c kind script rounds same sits =
     let old = c.args.port.now.events in
     let new = c.turn.new.port.events in
     let r = before.node.id in
-    let t = turned k old new c.pass_to.new.self c.turn.new.port r c.id-id.result script c.turn.result c.turn.new.self c.pass_to.ensures.replica c.id-id.ensures c.pass_to.ensures.config c.pass_to.ensures.events c.turn.ensures.same.1.0 c.turn.ensures.same.0 refl
+    let t = turned k old new c.pass_to.new.self c.turn.new.port r c.id-id.result script c.turn.result c.turn.new.self c.pass_to.ensures.replica c.id-id.ensures c.pass_to.ensures.config c.pass_to.ensures.events c.turn.ensures.same.1 c.turn.ensures.same.0 refl
     (record { stands = c.turn.ensures.stands; possible = c.turn.ensures.possible; did = c.turn.ensures.turn script (sym sits.stops) }) in
     let stops = ap (λ v. v.items) c.turn.ensures.stops ∙ sits.stops in
     let did = subst (λ u. IsTurn k script r (part_of r old) (part_of r new) (Some old) (Some new) u) c.in-Ended.is t.did in
