@@ -6,4 +6,5 @@ pub mod Holds
 pub mod Linear
 pub mod Seating
 pub mod Stepping
+pub mod Taking
 pub mod Turning

@@ -65,7 +65,7 @@ loop-k-preserved c =
 pub returns-clause-holds : goal.returns-clause-holds
 returns-clause-holds c =
     let holds = map hold_of c.args.seats.now in
-    let long = length-map hold_of c.args.seats.now in
+    let long = length-map c.args.seats.now hold_of in
     c.loop-k.invariant.holds ∙ aged_all c.loop-k.k holds (omega (arith, long, c.loop-k-test.false, c.loop-k.invariant.count))
 
 pub returns-clause-steps : goal.returns-clause-steps
