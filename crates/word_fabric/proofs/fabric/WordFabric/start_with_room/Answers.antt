@@ -1,7 +1,7 @@
 use Rattle.std.proofs.Common.{◌∙◌, ◌*◌, ap, arith, subst, sym}
 use Rattle.word_fabric.specs.Kept.{IsWordsKept}
 use Rattle.word_fabric.proofs.FirstWords.{kept_first}
-use Rattle.word_fabric.proofs.adding.WordFabric.start_with_room.Goals as goal
+use Rattle.word_fabric.proofs.fabric.WordFabric.start_with_room.Goals as goal
 
 pub invariant_of-result : goal.invariant_of-result
 invariant_of-result c =
