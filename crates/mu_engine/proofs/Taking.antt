@@ -16,12 +16,14 @@ use Rattle.mu_model.proofs.Basics.{same_some}
 use Rattle.mu_model.proofs.Lists.{get_front, get_push_here}
 use Rattle.mu_input.proofs.JobConfigs.{as_many}
 use Rattle.mu_engine.specs.declared.engine.Engine.TheInside as engine
+use Rattle.mu_engine.specs.declared.shape.Shape.{Shape}
 use Rattle.mu_engine.specs.Growing.{ArePairs}
 use Rattle.mu_engine.specs.Inside.{IsEngine, live_of}
 use Rattle.mu_engine.specs.Live.{row_of, with_command}
 use Rattle.mu_engine.specs.Moments.{IsMoment}
 use Rattle.mu_engine.specs.Seats.{AreSeated}
-use Rattle.mu_engine.specs.Shapes.{no_script}
+use Rattle.mu_engine.specs.Shapes.{HasLimits, first_config, no_script}
+use Rattle.mu_engine.proofs.First.{first_is_config, none_spelled}
 
 -- the last pair
 pub record IsPopped (g : Config) (old new : List (Config × Config)) (pair : Config × Config) : Type 0 where
@@ -89,3 +91,24 @@ kept e d was config commands room same limit legal seated = record {
   where
     items : d.commands.items ≡ e.commands.items
     items = ap (λ v. v.items) commands
+
+-- an engine before any command and any event
+pub first : (shape : Shape) (d : engine.Inside) → HasLimits shape → d.config ≡ first_config shape → d.commands.items ≡ [] → vec_capacity d.commands ≡ shape.room → d.room ≡ shape.room
+    → d.port.config ≡ d.config → d.port.events ≡ [] → d.port.row_limit ≡ shape.room → AreSeated d.config [] d.seats.items → IsEngine d
+first shape d limits config commands capacity room same events limit seated = record {
+  moment =
+      subst (λ c. IsMoment (job_by c d.commands.items) d.port.events) (sym config)
+      (subst (λ l. IsMoment (job_by (first_config shape) l) d.port.events) (sym commands)
+      (subst (λ l. IsMoment (job_by (first_config shape) []) l) (sym events) (record {
+        config = first_is_config shape limits;
+        heads = tt;
+        spelled = none_spelled shape;
+        legal = tt;
+      })));
+  width = ap (λ c. c.width) config;
+  same = same;
+  seated = subst (λ l. AreSeated d.config l d.seats.items) (sym events) seated;
+  space = (let none = ap length commands in omega (arith, none, capacity, room));
+  few = (let none = ap length commands in let few = limits.room in omega (arith, none, room, few));
+  limit = (let none = ap length commands in omega (arith, none, room, limit));
+}
