@@ -36,7 +36,7 @@ loop-k-preserved c =
       count = length-set seats k new ∙ c.loop-k.invariant.count;
       seated = seated_set f events seats k new kept c.loop-k.invariant.seated;
       room = λ r seat below there. elim (set_get seats k new r seat there) [
-        | inl here ↦ subst (λ (s : Seat). HasRoomForRow f s.node) here.1 (c.make_room.ensures.room f k (part_of k events) sits.lives)
+        | inl here ↦ subst (λ (s : Seat). HasRoomForRow f s.node) here.1 (c.in_ok-make_room.ensures.room f k (part_of k events) sits.lives)
         | inr other ↦ c.loop-k.invariant.room r seat (let differ = other.0 in omega (arith, below, differ)) other.1
       ];
       holds = held_map seats k old new at refl ∙ c.loop-k.invariant.holds;

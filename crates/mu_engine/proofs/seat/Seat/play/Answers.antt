@@ -6,7 +6,7 @@ use Rattle.mu_engine.proofs.Turning.{plays_on, turned}
 use Rattle.mu_engine.proofs.seat.Seat.play.Goals as goal
 
 pub returns-then-not-free-clause-plays : goal.returns-then-not-free-clause-plays
-returns-then-not-free-clause-plays c = inl (refl, λ free. absurd (true≢false (sym free ∙ (sym c.is_free.ensures ∙ c.if-not-free.false))))
+returns-then-not-free-clause-plays c = inl (refl, λ free. absurd (true≢false (sym free ∙ (sym c.is_free-free.ensures ∙ c.if-not-free.true))))
 
 pub returns-clause-sits : goal.returns-clause-sits
 returns-clause-sits c =
@@ -28,4 +28,4 @@ returns-clause-plays c =
     let r = before.node.id in
     let t = turned k old new c.pass_to.new.self c.turn_on.new.port r c.id.result c.turn_on.result c.turn_on.new.self c.pass_to.ensures.replica c.id.ensures c.pass_to.ensures.config c.pass_to.ensures.events c.turn_on.ensures.same.1 c.turn_on.ensures.same.0 refl
     (record { lives = c.turn_on.ensures.lives; did = c.turn_on.ensures.turn no_script (sym c.requires.sits.stops) }) in
-    plays_on k r before.hold old new c.turn_on.result c.turn_on.new.self (sym c.is_free.ensures ∙ c.if-not-free.true) t
+    plays_on k r before.hold old new c.turn_on.result c.turn_on.new.self (sym c.is_free-free.ensures ∙ c.if-not-free.false) t
