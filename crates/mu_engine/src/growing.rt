@@ -93,7 +93,7 @@ pub(crate) fn make_room(seats: &mut [Seat], _port: &WordPort) -> Result<(), NoMe
 
 /// Goes over to the configuration with one row more in each replica, before the memory does. Takes
 /// no memory.
-pub(crate) fn add_last(
+pub(crate) fn grow(
     seats: &mut [Seat],
     port: &WordPort,
     row: &Row,
@@ -113,6 +113,6 @@ pub(crate) fn add_last(
             Some(pair) => pair,
             None => unreachable!(),
         };
-        seats[k].add_last(port, row, config, copy);
+        seats[k].grow(port, row, config, copy);
     }
 }

@@ -47,7 +47,7 @@ impl Seat {
 
     /// Goes over to a configuration with one row more, before the memory does. Takes no memory. The
     /// memory and the row are only for the clauses.
-    pub(crate) fn add_last(&mut self, _port: &WordPort, _row: &Row, config: Config, copy: Config)
+    pub(crate) fn grow(&mut self, _port: &WordPort, _row: &Row, config: Config, copy: Config)
         ghost growth: { Growth }
         requires is { growth ≡ growth_of _port.now.config _row.now self.old.node.id
             _port.now.events }

@@ -6,7 +6,7 @@ ghost use Rattle.mu_engine.specs.declared.refusal.Refusal.{Refusal as SomeRefusa
 ghost use Rattle.mu_engine.specs.Live.{submitted};
 
 use crate::engine::Engine;
-use crate::growing::{Copies, add_last, make_room};
+use crate::growing::{Copies, grow, make_room};
 use crate::refusal::Refusal;
 use kv_store::{Command, Op};
 use mu_model::{Config, row_client};
@@ -69,7 +69,7 @@ impl Engine {
         // From here on nothing wants memory.
         let number = self.commands.len() as u16;
         let Copies { own, memory, nodes } = copies;
-        add_last(self.seats.as_mut_slice(), &self.port, &row, nodes);
+        grow(self.seats.as_mut_slice(), &self.port, &row, nodes);
         self.port.add_last(memory);
         self.config = own;
         self.commands.push_reserved(command);

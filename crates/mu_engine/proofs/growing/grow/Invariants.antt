@@ -4,10 +4,10 @@ use Rattle.mu_model.specs.Growing.{with_more}
 use Rattle.mu_engine.specs.declared.seat.Seat.{Seat}
 use Rattle.mu_engine.specs.Growing.{ArePairs, growth_of}
 use Rattle.mu_engine.specs.Seats.{Sits, hold_of}
-use Rattle.mu_engine.proofs.growing.add_last.Given as goal
+use Rattle.mu_engine.proofs.growing.grow.Given as goal
 
-abbrev pub ghost-add_last : goal.ghost-add_last
-ghost-add_last a = growth_of a._port.now.config a._row.now a.self.now.node.id a._port.now.events
+abbrev pub ghost-grow : goal.ghost-grow
+ghost-grow a = growth_of a._port.now.config a._row.now a.self.now.node.id a._port.now.events
 
 abbrev pub invariant-loop-k : goal.invariant-loop-k
 invariant-loop-k l = record {

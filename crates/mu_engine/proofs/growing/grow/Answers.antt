@@ -9,4 +9,4 @@ use Rattle.mu_engine.specs.declared.seat.Seat.{Seat}
 use Rattle.mu_engine.specs.Seats.{Sits, part_of}
 use Rattle.mu_engine.proofs.Holds.{held_map}
 use Rattle.mu_engine.proofs.Taking.{popped}
-use Rattle.mu_engine.proofs.growing.add_last.Goals as goal
+use Rattle.mu_engine.proofs.growing.grow.Goals as goal
