@@ -6,8 +6,8 @@ use Rattle.mu_node.specs.Telling.{IsFirstAt, TellsPlace}
 use Rattle.mu_node.proofs.Telling.{none_passed, passed_all, passed_few, passed_here, passed_low, passed_next}
 use Rattle.mu_node.proofs.replying.place_in.Goals as goal
 
-pub loop-i-initial : goal.loop-i-initial
-loop-i-initial c few = none_passed c.args.config.now c.args.entries.now c.args.row
+pub loop-i-init : goal.loop-i-init
+loop-i-init c few = none_passed c.args.config.now c.args.entries.now c.args.row
 
 pub returns-in-Some : goal.returns-in-Some
 returns-in-Some c few =
@@ -33,7 +33,7 @@ loop-i-preserved c few =
     let passed = c.loop-i.invariant few in
     let lacks = subst (λ o. TellsPlace c.args.row (rows_of k v) o) c.in_default.is c.place_in_entry.ensures in
     let fits = passed_few k entries c.args.row i v c.loop-i.before there passed in
-    passed_next k entries c.args.row i v c.loop-i.before _ there passed lacks (omega (arith, c.saturating_add.ensures, c.group_size.ensures, fits, few))
+    passed_next k entries c.args.row i v c.loop-i.before _ there passed lacks (omega (arith, c.saturating_add-before.ensures, c.from.ensures, c.group_size.ensures, fits, few))
 
 pub returns : goal.returns
 returns c few = passed_all c.args.config.now c.args.entries.now c.args.row c.loop-i.i c.loop-i.before (omega (arith, c.loop-i-test.false)) (c.loop-i.invariant few)

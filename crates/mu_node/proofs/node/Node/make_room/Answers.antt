@@ -28,21 +28,14 @@ returns-in_err-make_room-3-clause-keeps c k r mine held =
     let answers = c.make_room-3.ensures in
     node_same k r mine old _ held follow c.make_room.ensures.handed lead refl refl refl refl refl refl (omega arith) refl (omega arith) answers.table answers.replies answers.keeps
 
-pub returns-in_err-reserve-clause-keeps : goal.returns-in_err-reserve-clause-keeps
-returns-in_err-reserve-clause-keeps c k r mine held =
+pub returns-in_err-make_room_for_lists-clause-keeps : goal.returns-in_err-make_room_for_lists-clause-keeps
+returns-in_err-make_room_for_lists-clause-keeps c k r mine held =
     let old = c.args.self.now in
     let follow = follow_roomy k r mine old.follow c.make_room.new.self held.beside.follow (c.make_room.ensures.keeps r mine) in
     let lead = lead_roomy k r mine old.lead c.make_room-2.new.self held.lead c.make_room-2.ensures.config c.make_room-2.ensures.id (c.make_room-2.ensures.keeps mine) in
     let answers = c.make_room-3.ensures in
-    node_same k r mine old _ held follow c.make_room.ensures.handed lead refl refl refl refl refl c.reserve.ensures.items c.reserve.ensures.capacity refl (omega arith) answers.table answers.replies answers.keeps
-
-pub returns-in_err-reserve-2-clause-keeps : goal.returns-in_err-reserve-2-clause-keeps
-returns-in_err-reserve-2-clause-keeps c k r mine held =
-    let old = c.args.self.now in
-    let follow = follow_roomy k r mine old.follow c.make_room.new.self held.beside.follow (c.make_room.ensures.keeps r mine) in
-    let lead = lead_roomy k r mine old.lead c.make_room-2.new.self held.lead c.make_room-2.ensures.config c.make_room-2.ensures.id (c.make_room-2.ensures.keeps mine) in
-    let answers = c.make_room-3.ensures in
-    node_same k r mine old _ held follow c.make_room.ensures.handed lead refl refl refl refl refl c.reserve.ensures.items c.reserve.ensures.capacity c.reserve-2.ensures.items c.reserve-2.ensures.capacity answers.table answers.replies answers.keeps
+    let lists = c.make_room_for_lists.ensures in
+    node_same k r mine old _ held follow c.make_room.ensures.handed lead refl refl refl refl refl lists.log lists.log_grows lists.commits lists.commits_grow answers.table answers.replies answers.keeps
 
 pub returns-clause-keeps : goal.returns-clause-keeps
 returns-clause-keeps c k r mine held =
@@ -50,7 +43,8 @@ returns-clause-keeps c k r mine held =
     let follow = follow_roomy k r mine old.follow c.make_room.new.self held.beside.follow (c.make_room.ensures.keeps r mine) in
     let lead = lead_roomy k r mine old.lead c.make_room-2.new.self held.lead c.make_room-2.ensures.config c.make_room-2.ensures.id (c.make_room-2.ensures.keeps mine) in
     let answers = c.make_room-3.ensures in
-    node_same k r mine old _ held follow c.make_room.ensures.handed lead refl refl refl refl refl c.reserve.ensures.items c.reserve.ensures.capacity c.reserve-2.ensures.items c.reserve-2.ensures.capacity answers.table answers.replies answers.keeps
+    let lists = c.make_room_for_lists.ensures in
+    node_same k r mine old _ held follow c.make_room.ensures.handed lead refl refl refl refl refl lists.log lists.log_grows lists.commits lists.commits_grow answers.table answers.replies answers.keeps
 
 pub returns-clause-room : goal.returns-clause-room
 returns-clause-room c k r mine held =
@@ -58,13 +52,17 @@ returns-clause-room c k r mine held =
     let is = held.beside.follow.config in
     let rows = ap row_count is in
     let marks = ap reserve is in
+    let kept = c.make_room.ensures.config in
+    let grown = ap row_count (c.config.ensures ∙ kept) in
+    let listed = ap row_count (c.config-2.ensures ∙ kept) in
+    let marked = ap reserve (c.config-2.ensures ∙ kept) in
     let lead = lead_roomy k r mine old.lead c.make_room-2.new.self held.lead c.make_room-2.ensures.config c.make_room-2.ensures.id (c.make_room-2.ensures.keeps mine) in
     let long = lead.stands.tables.rows in
     let led = ap row_count lead.config in
     record {
       follow = subst (λ z. HasRoomToFollow z c.make_room.new.self) is (c.in_ok-make_room.ensures.room r mine (subst (λ z. StandsForFollow z r mine old.follow) (sym is) held.beside.follow));
       lead = omega (arith, c.in_ok-make_room-2.ensures.room, long, led);
-      answers = omega (arith, c.in_ok-make_room-3.ensures.room, c.saturating_add-2.ensures, c.len.ensures, rows, c.requires.config.few);
-      log_room = omega (arith, c.in_ok-reserve.ensures.ok, c.in_ok-reserve.ensures.len, c.saturating_add.ensures, c.positions_in.ensures.count, c.positions_in.ensures.few, rows, marks);
-      commit_room = omega (arith, c.in_ok-reserve-2.ensures.ok, c.in_ok-reserve-2.ensures.len, c.saturating_add.ensures, c.positions_in.ensures.count, c.positions_in.ensures.few, rows, marks);
+      answers = omega (arith, c.in_ok-make_room-3.ensures.room, c.rows_with_one.ensures, grown, rows);
+      log_room = omega (arith, c.in_ok-make_room_for_lists.ensures.log_room, listed, marked, rows, marks);
+      commit_room = omega (arith, c.in_ok-make_room_for_lists.ensures.commit_room, listed, marked, rows, marks);
     }
