@@ -1,3 +1,4 @@
+pub mod Beside
 pub mod Words
 pub mod Padding
 pub mod Kinds

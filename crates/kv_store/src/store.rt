@@ -57,6 +57,16 @@ impl Store {
         Ok(Store { texts })
     }
 
+    /// Makes room for this many commands more. An `Err` comes only for want of memory, and the table
+    /// stays.
+    pub fn make_room(&mut self, commands: usize) -> Result<(), NoMemory>
+        ensures table { self.new.table ≡ self.old.table }
+        ensures keeps { self.old.room ≤ self.new.room }
+        ensures room { IfOk result (λ done. commands ≤ self.new.room) }
+    {
+        self.texts.reserve(commands)
+    }
+
     /// What the table holds for the key. Takes no memory.
     pub fn look(&self, key: &Key) -> Option<Text>
         ensures { result ≡ map.get self.now.table key.now }

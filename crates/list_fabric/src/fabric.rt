@@ -17,12 +17,18 @@ pub struct ListFabric {
 }
 
 impl Model for ListFabric {
+    ghost use Rattle.mu_model.specs.Contents.{row_count};
     ghost use Rattle.mu_port.specs.Keeping.{Kept};
     ghost use Rattle.list_fabric.specs.Kept.{IsListKept};
 
     ghost Value = { Kept };
 
-    ghost view = { λ f. record { config = f.config; events = f.kept.events } };
+    // the regions have room for just the rows
+    ghost view = { λ f. record {
+      config = f.config;
+      events = f.kept.events;
+      row_limit = row_count f.config;
+    } };
 
     ghost invariant = { λ f. IsListKept f.config f.kept.events f.kept.room f.regions };
 }
@@ -50,6 +56,8 @@ impl Memory for ListFabric {
     ghost config = { λ f. f.config };
 
     ghost events = { λ f. f.events };
+
+    ghost row_limit = { λ f. f.row_limit };
 
     fn config(&self) -> &Config {
         &self.config

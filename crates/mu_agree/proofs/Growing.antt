@@ -1,7 +1,7 @@
 -- What a legal list comes to is the same with more rows at the end.
-use Rattle.std.proofs.Common.{◌≡◌, ℕ, zero, suc, ◌+◌, ◌/◌, ◌%◌, ◌^◌, ◌<◌, ◌≤◌, inl, inr, Bool, true, false, ◌&&◌, ◌||◌, not, ◌==◌, List, [], ◌∷◌, ◌++◌, length, length-append, refl, sym, ◌∙◌, ap, arith, Some, None, subst, eqb-true, true≢false}
+use Rattle.std.proofs.Common.{◌≡◌, ℕ, zero, suc, ◌+◌, ◌/◌, ◌%◌, ◌^◌, ◌<◌, ◌≤◌, ◌⊎◌, inl, inr, Bool, true, false, ◌&&◌, ◌||◌, not, ◌==◌, List, [], ◌∷◌, ◌++◌, length, length-append, refl, sym, ◌∙◌, ap, arith, Some, None, subst, eqb-true, true≢false}
 use Rattle.std.specs.declared.option.Option.{Option}
-use Rattle.std.specs.Prelude.{if◌then◌else◌, nat_lt, is_none, is_some}
+use Rattle.std.specs.Prelude.{if◌then◌else◌, nat_lt, is_none, is_some, slice_index}
 use Rattle.std.specs.List.{slice_get}
 use Rattle.std.proofs.lemmas.List.{reverse-append}
 use Rattle.std.proofs.lemmas.Option.{slice_get_within}
@@ -14,7 +14,7 @@ use Rattle.mu_model.specs.declared.event.Target.{Target}
 use Rattle.mu_model.specs.declared.event.Verb.{Verb}
 use Rattle.mu_model.specs.Allowed.{Needs}
 use Rattle.mu_model.specs.Answers.{answer_of}
-use Rattle.mu_model.specs.Contents.{IsConfig, StandsForEntry, begins_batch, client_of, command_count, config_word, holds_all, includes, is_batch, is_mark, marked, number_of, numbers_in, rest_of, row_count, rows_from, rows_in, rows_of, session, word_of}
+use Rattle.mu_model.specs.Contents.{IsConfig, StandsForEntry, begins_batch, client_of, command_count, config_word, holds_all, includes, is_batch, is_mark, marked, number_of, numbers_in, rest_of, row_count, rows_before, rows_from, rows_in, rows_of, session, word_of}
 use Rattle.mu_model.specs.Histories.{all_below, has, history, part}
 use Rattle.mu_model.specs.Knowledge.{applied, commits, committed, fills, front, grown, has_entry, has_row, has_word, is_filled, is_read, is_written, known, learnt_by, wrote, wrote_batch}
 use Rattle.mu_model.specs.Leaderships.{begins_leadership, is_member, proposal_number}
@@ -24,10 +24,10 @@ use Rattle.mu_model.specs.Picks.{first_value, highest_accepted, is_mark_offer, i
 use Rattle.mu_model.specs.Room.{has_room, head_read, is_mark_candidate, lacks_room, last_head, reserve}
 use Rattle.mu_model.specs.Scores.{is_failed}
 use Rattle.mu_model.proofs.Basics.{and_false, false_and}
-use Rattle.mu_model.proofs.Lists.{get_front, item_below}
+use Rattle.mu_model.proofs.Lists.{get_front, get_push_here, item_below}
 use Rattle.mu_model.proofs.Putting.{IsNew, MayEnter, MayPutSlot, head_applied, head_points, head_reached, put_facts, put_points, raise_facts, raise_points}
 use Rattle.mu_model.proofs.Parts.{filter-append, part_is_possible}
-use Rattle.mu_agree.specs.Growing.{AnswersStay, AppliedStays, CommitsStay, KnownStays, LaterRowsFollow, LegalStays}
+use Rattle.mu_agree.specs.Growing.{AnswersStay, AppliedStays, CommitsStay, GrownIsConfig, KnownStays, LaterRowsFollow, LegalStays}
 use Rattle.mu_model.specs.Growing.{with_more}
 use Rattle.mu_agree.proofs.Knowing.{known_stays}
 use Rattle.mu_agree.proofs.Prefixes.{known_agree}
@@ -67,6 +67,73 @@ number_kept c more j l = ap (λ w. w / 2 ^ 16 % 2 ^ 16) (word_kept c more j 0 l)
 pub begins_kept : (c : Config) (more : List Row) (j : ℕ) → j < row_count c → begins_batch (with_more c more) j ≡ begins_batch c j
 begins_kept c more zero l = refl
 begins_kept c more (suc j) l = ap (λ w. w == 0) (rest_kept c more j (omega arith))
+
+pub before_kept : (c : Config) (more : List Row) (client j : ℕ) → j ≤ row_count c → rows_before (with_more c more) client j ≡ rows_before c client j
+before_kept c more client zero l = refl
+before_kept c more client (suc j) l = rw (client_kept c more j (omega (arith, l)), before_kept c more client j (omega (arith, l))) refl
+
+-- the row that was added
+pub last_word : (c : Config) (row : Row) (k : ℕ) → config_word (with_more c (row ∷ [])) (row_count c) k ≡ slice_index row.words k
+last_word c row k = ap (λ o. word_of o k) (get_push_here c.rows (row_count c) row refl)
+
+pub last_client : (c : Config) (row : Row) → client_of (with_more c (row ∷ [])) (row_count c) ≡ slice_index row.words 0 / 2 ^ 8 % 2 ^ 8
+last_client c row = ap (λ w. w / 2 ^ 8 % 2 ^ 8) (last_word c row 0)
+
+-- how many rows are the client's with the one that was added
+pub before_added : (c : Config) (row : Row) (client : ℕ)
+    → rows_before (with_more c (row ∷ [])) client (row_count (with_more c (row ∷ [])))
+    ≡ (if slice_index row.words 0 / 2 ^ 8 % 2 ^ 8 == client then rows_before c client (row_count c) + 1 else rows_before c client (row_count c))
+before_added c row client =
+    ap (rows_before (with_more c (row ∷ [])) client) count
+    ∙ ap (λ w. if w == client then rows_before (with_more c (row ∷ [])) client (row_count c) + 1 else rows_before (with_more c (row ∷ [])) client (row_count c)) (last_client c row)
+    ∙ ap (λ k. if slice_index row.words 0 / 2 ^ 8 % 2 ^ 8 == client then k + 1 else k) (before_kept c (row ∷ []) client (row_count c) (omega arith))
+  where
+    count : row_count (with_more c (row ∷ [])) ≡ suc (row_count c)
+    count = let e = length-append c.rows (row ∷ []) in omega (arith, e)
+
+-- a row was there, or is the one that was added
+there_or_last : (c : Config) (row : Row) (j : ℕ) → j < row_count (with_more c (row ∷ [])) → (j < row_count c) ⊎ (j ≡ row_count c)
+there_or_last c row j l = elim (cases_lt j (row_count c)) [
+  | inl low ↦ inl low
+  | inr high ↦ inr (let e = length-append c.rows (row ∷ []) in omega (arith, e, l, high))
+]
+
+pub grown_is_config_law : GrownIsConfig
+grown_is_config_law c row g few rest number = record {
+  versions = g.versions;
+  plain = g.plain;
+  widths = g.widths;
+  replicas = g.replicas;
+  ring = g.ring;
+  budget = g.budget;
+  few = (let e = length-append c.rows (row ∷ []) in omega (arith, e, few));
+  rests = λ j l. elim (there_or_last c row j l) [
+    | inl low ↦ subst (λ n. n < c.width) (sym (rest_kept c (row ∷ []) j low)) (g.rests j low)
+    | inr last ↦ subst (λ n. n < c.width) (sym (no_rest j last)) (let w = g.widths.0 in omega (arith, w))
+  ];
+  numbers = λ j l. elim (there_or_last c row j l) [
+    | inl low ↦
+        number_kept c (row ∷ []) j low ∙ g.numbers j low
+        ∙ ap (λ n. n + 1) (sym (before_kept c (row ∷ []) (client_of c j) j (omega (arith, low))) ∙ ap (λ w. rows_before (with_more c (row ∷ [])) w j) (sym (client_kept c (row ∷ []) j low)))
+    | inr last ↦ subst (λ i. number_of (with_more c (row ∷ [])) i ≡ rows_before (with_more c (row ∷ [])) (client_of (with_more c (row ∷ [])) i) i + 1) (sym last) next
+  ];
+  batches = λ j k l more. elim (there_or_last c row j l) [
+    | inl low ↦ (let b = g.batches j k low (sym (rest_kept c (row ∷ []) j low) ∙ more) in (
+        (let all = more_rows c (row ∷ []) in let next = b.0 in omega (arith, all, next)),
+        client_kept c (row ∷ []) (j + 1) b.0 ∙ b.1 ∙ sym (client_kept c (row ∷ []) j low),
+        rest_kept c (row ∷ []) (j + 1) b.0 ∙ b.2,
+      ))
+    | inr last ↦ (let none : 0 ≡ suc k = sym (no_rest j last) ∙ more in absurd (omega (arith, none)))
+  ];
+}
+  where
+    no_rest : (j : ℕ) → j ≡ row_count c → rest_of (with_more c (row ∷ [])) j ≡ 0
+    no_rest j last = ap (rest_of (with_more c (row ∷ []))) last ∙ (ap (λ w. w / 2 ^ 56) (last_word c row 0) ∙ rest)
+
+    next : number_of (with_more c (row ∷ [])) (row_count c) ≡ rows_before (with_more c (row ∷ [])) (client_of (with_more c (row ∷ [])) (row_count c)) (row_count c) + 1
+    next =
+        ap (λ w. w / 2 ^ 16 % 2 ^ 16) (last_word c row 0) ∙ number
+        ∙ ap (λ n. n + 1) (sym (before_kept c (row ∷ []) (slice_index row.words 0 / 2 ^ 8 % 2 ^ 8) (row_count c) (omega arith)) ∙ ap (λ w. rows_before (with_more c (row ∷ [])) w (row_count c)) (sym (last_client c row)))
 
 -- the batches and the marks that were there
 pub row_batch_kept : (c : Config) (more : List Row) (v : ℕ) → v % 4096 < row_count c → is_batch (with_more c more) v ≡ is_batch c v

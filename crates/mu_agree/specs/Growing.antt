@@ -1,18 +1,28 @@
 -- growing: what is said of a list of events before rows are added to the configuration, and after
 -- it.
-use Rattle.std.specs.Prelude.{List, Some, true, ℕ, ◌%◌, ◌++◌, ◌<◌, ◌≡◌, ◌≤◌}
+use Rattle.std.specs.Prelude.{List, Some, [], slice_index, true, ℕ, ◌%◌, ◌++◌, ◌+◌, ◌/◌, ◌<◌, ◌^◌, ◌∷◌, ◌≡◌, ◌≤◌}
 use Rattle.std.specs.List.{slice_get}
 use Rattle.mu_model.specs.declared.config.Config.{Config}
 use Rattle.mu_model.specs.declared.config.Row.{Row}
 use Rattle.mu_model.specs.declared.event.Event.{Event}
 use Rattle.mu_model.specs.declared.event.Verb.{Verb}
 use Rattle.mu_model.specs.Answers.{answer_of}
-use Rattle.mu_model.specs.Contents.{IsConfig, is_batch, row_count}
+use Rattle.mu_model.specs.Contents.{IsConfig, is_batch, row_count, rows_before}
 use Rattle.mu_model.specs.Growing.{with_more}
 use Rattle.mu_model.specs.Histories.{history, part}
 use Rattle.mu_model.specs.Knowledge.{applied, commits, known}
 use Rattle.mu_model.specs.Legal.{IsLegal}
 use Rattle.mu_model.specs.Parts.{IsPossible}
+
+-- a configuration with one row more is one, if the row is a batch of its own and the next command
+-- of its client
+abbrev pub GrownIsConfig : Type 0
+GrownIsConfig =
+    (c : Config) (row : Row) → IsConfig c → row_count c < 1500
+    → slice_index row.words 0 / 2 ^ 56 ≡ 0
+    → slice_index row.words 0 / 2 ^ 16 % 2 ^ 16
+    ≡ rows_before c (slice_index row.words 0 / 2 ^ 8 % 2 ^ 8) (row_count c) + 1
+    → IsConfig (with_more c (row ∷ []))
 
 -- a step finds what it found before
 abbrev pub AnswersStay : Type 0

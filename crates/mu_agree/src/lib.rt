@@ -3,7 +3,7 @@
 #![tactic(auto)]
 
 ghost use Rattle.mu_agree.specs.Agreement.{AtMostOneChosen, FuoIsChosen, FuoIsKept, HeadWithinFuo, KnownAgree, KnownIsChosen, LogWithinFuo, LogWithinReach, LooksAreKept, MarksHaveCause, PlacesAreKept};
-ghost use Rattle.mu_agree.specs.Growing.{AnswersStay, AppliedStays, CommitsStay, KnownStays, LaterRowsFollow, LegalStays};
+ghost use Rattle.mu_agree.specs.Growing.{AnswersStay, AppliedStays, CommitsStay, GrownIsConfig, KnownStays, LaterRowsFollow, LegalStays};
 ghost use Rattle.mu_agree.specs.Journals.{BeginningsAreDiligent, ObeysOnce};
 ghost use Rattle.mu_agree.specs.Laws.{MinimumRises, MissesShutOut, NumbersDiffer, OnlyOwnersPut, SlotNumbersRise};
 ghost use Rattle.mu_agree.specs.Paces.{RecentAsksAreInTime, RecentReadsAreInTime};
@@ -246,6 +246,12 @@ pub fn recent_reads_are_in_time()
 /// A replica that has asked recently at each moment asks in time in each stretch.
 pub fn recent_asks_are_in_time()
     ensures { RecentAsksAreInTime }
+{}
+
+/// A configuration with one row more is a configuration, if the row is a batch of its own and the
+/// next command of its client.
+pub fn grown_is_config()
+    ensures { GrownIsConfig }
 {}
 
 /// A step finds what it found before rows were added.

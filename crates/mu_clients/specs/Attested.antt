@@ -3,6 +3,7 @@
 -- store's over what that replica has applied.
 use Rattle.std.specs.Prelude.{ℕ, ◌++◌, ◌==◌, ◌≡◌, ◌≢◌, List, [], ◌∷◌, None, Some, false, if◌then◌else◌, reverse, true}
 use Rattle.std.specs.declared.option.Option.{Option}
+pub use Rattle.kv_store.specs.Beside.{beside}
 use Rattle.kv_store.specs.Tables.{replies}
 use Rattle.kv_store.specs.declared.store.Reply.{Reply}
 use Rattle.mu_clients.specs.declared.items.Flaw.{Flaw}
@@ -45,12 +46,6 @@ rows_of_put c _ = []
 abbrev pub rows_put : Config → List Event → List ℕ
 rows_put c [] = []
 rows_put c (event ∷ past) = rows_put c past ++ rows_of_put c event.verb
-
--- the reply beside the first of these rows that is j
-abbrev pub beside : ℕ → List ℕ → List Reply → Option Reply
-beside j (row ∷ rows) (reply ∷ replies) =
-    if row == j then Some reply else beside j rows replies
-beside j _ _ = None
 
 -- the store's reply to the command of row j over a log, if the log has it
 abbrev pub reply_over : Job → List ℕ → ℕ → Option Reply

@@ -103,13 +103,13 @@ held_left again c script events n old new result was adds before ends is told = 
 
     here : Leaves again c script n (part_of n events) (old.logs.items ++ result.log ∷ []) (old.commits.items ++ result.commits ∷ []) (old.replies.items ++ result.replies ∷ []) (old.ends.items ++ end.0 ∷ [])
     here = record {
-      log_at = get_push_here old.logs.items n result.log (sym was.room.logs.0) ∙ ap (λ l. Some l) is.log;
+      log_at = get_push_here old.logs.items n result.log (sym was.room.logs.0) ∙ ap (λ l. Some l) is.left.log;
       made = result.commits;
       made_at = get_push_here old.commits.items n result.commits (sym was.room.commits.0);
-      made_is = is.commits;
+      made_is = is.left.commits;
       told = result.replies;
       told_at = get_push_here old.replies.items n result.replies (sym was.room.replies.0);
-      told_is = is.replies;
+      told_is = is.left.replies;
       end = end.0;
       end_at = get_push_here old.ends.items n end.0 (sym was.room.ends.0);
       obeys = record { ends = end.1.1; first = λ newer older other same some there. before newer older other same some there };

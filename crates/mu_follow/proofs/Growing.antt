@@ -35,7 +35,7 @@ use Rattle.mu_follow.proofs.Full.{includes_both}
 use Rattle.mu_follow.proofs.Kept.{applied_is}
 
 -- rows below a number hold no greater one
-from_below : (n i j : ℕ) → i + n ≤ j → includes j (rows_from n i) ≡ false
+pub from_below : (n i j : ℕ) → i + n ≤ j → includes j (rows_from n i) ≡ false
 from_below zero i j low = refl
 from_below (suc n) i j low = ap (λ t. if t then true else includes j (rows_from n (i + 1))) (ne_eqb i j (λ same. omega (arith, low, same))) ∙ from_below n (i + 1) j (omega (arith, low))
 
@@ -60,7 +60,7 @@ none_below (suc n) test fails =
     ∙ (ap (λ t. if t then n else n + 1) (fails n (omega arith)) ∙ omega arith)
 
 -- some of the values
-taken_entries : (c : Config) (k : ℕ) (values : List ℕ) → AreEntries c values → AreEntries c (take k values)
+pub taken_entries : (c : Config) (k : ℕ) (values : List ℕ) → AreEntries c values → AreEntries c (take k values)
 taken_entries c zero values are i v at = absurd (none_some_at v at)
   where
     none_some_at : (v : ℕ) → None ≡ Some v → ⊥
@@ -69,7 +69,7 @@ taken_entries c (suc k) [] are i v at = are i v at
 taken_entries c (suc k) (x ∷ xs) are zero v at = are 0 v at
 taken_entries c (suc k) (x ∷ xs) are (suc i) v at = taken_entries c k xs (λ j w here. are (suc j) w here) i v at
 
-one_more : (c : Config) (row : Row) → row_count (with_more c (row ∷ [])) ≡ suc (row_count c)
+pub one_more : (c : Config) (row : Row) → row_count (with_more c (row ∷ [])) ≡ suc (row_count c)
 one_more c row = let e = length-append c.rows (row ∷ []) in omega (arith, e)
 
 -- so no values hold all with one row more

@@ -1,10 +1,11 @@
 mod CatchingUp
 pub mod Due
-mod Full
-mod Growing
+pub mod Full
+pub mod Growing
 pub mod Handing
 pub mod Kept
 pub mod Paces
 pub mod Putting
+pub mod Spelled
 mod Stays
 pub mod Waiting

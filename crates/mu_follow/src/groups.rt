@@ -1,5 +1,5 @@
 //! The entry that is to be applied next, and the commands that it stands for.
-ghost use Rattle.std.specs.Prelude.{IfSome, List, None, Some, MatchOption, ℕ, ◌+◌, ◌<◌, ◌≡◌};
+ghost use Rattle.std.specs.Prelude.{IfSome, List, None, Some, MatchOption, take, ℕ, ◌+◌, ◌<◌, ◌≡◌};
 ghost use Rattle.std.specs.List.{slice_get};
 ghost use Rattle.kv_store.specs.Commands.{Request};
 ghost use Rattle.mu_model.specs.declared.config.Config.{Config};
@@ -12,6 +12,7 @@ ghost use Rattle.mu_follow.specs.Groups.{IsSpelled, Spells, group_size};
 
 use crate::follow::Follow;
 use kv_store::Command;
+use mu_knowledge::first_values;
 use mu_model::{Config, PAYLOADS, row_rest, stands_for_batch};
 use mu_rows::{decode, rows_differ};
 
@@ -24,8 +25,8 @@ pub struct Ready {
     pub rows: u16,
 }
 
-/// How many rows an entry has.
-fn size_of(config: &Config, v: u16) -> u16
+/// How many rows an entry has: those of its batch, 1 to 4; a mark has none.
+pub fn group_size(config: &Config, v: u16) -> u16
     ensures { result ≡ group_size config.now v }
 {
     if stands_for_batch(config, v) {
@@ -53,10 +54,18 @@ impl Follow {
         match self.knowing.known().get(self.progress.handed) {
             Some(value) => Some(Ready {
                 value: *value,
-                rows: size_of(&self.config, *value),
+                rows: group_size(&self.config, *value),
             }),
             None => None,
         }
+    }
+
+    /// The entries that were handed on to be applied, in order.
+    pub fn handed_on(&self) -> &[u16]
+        ensures { (c : Config) → (r : ℕ) → (mine : List Event) → StandsForFollow c r mine self.now
+            → result.now ≡ take self.now.progress.handed (applied c r mine) }
+    {
+        first_values(self.known(), self.progress.handed)
     }
 
     /// The command that a row spells, by its twelve words as the replica wrote or read them, and

@@ -18,7 +18,7 @@ mod published;
 
 pub use completion::Completion;
 pub use follow::{Follow, PLACES};
-pub use groups::Ready;
+pub use groups::{Ready, group_size};
 pub use noting::count_applied;
 pub use outrunning::outrun_after;
 pub use published::Published;

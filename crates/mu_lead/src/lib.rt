@@ -13,6 +13,7 @@ ghost use Rattle.mu_lead.specs.Resigning.{BeatsKeepCounts, CountsAreInTime};
 ghost use Rattle.mu_lead.specs.Rooms.{OthersKeepRooms, RoomsAreInTime};
 ghost use Rattle.mu_lead.specs.Welcomes.{FollowersJoinInTime};
 
+mod adding;
 mod again;
 mod batches;
 mod behind;

@@ -79,6 +79,15 @@ rows_first c n values =
     let long = length-append (rows_in c (take n values)) (rows_in c (drop n values)) in
     omega (arith, whole, both, long)
 
+-- the first entries that are applied have no more rows than there are
+pub few_rows_first : (c : Config) (r n : ℕ) (mine : List Event) → IsConfig c → IsPossible c r mine → length (rows_in c (take n (applied c r mine))) ≤ row_count c
+few_rows_first c r n mine good possible =
+    let first = rows_first c n (applied c r mine) in
+    let is = ap (λ l. length (rows_in c l)) (applied_is c r mine) in
+    let all = rows_first c (length (applied c r mine)) (known c r mine) in
+    let few = few_known c r mine good possible in
+    omega (arith, first, is, all, few)
+
 -- an entry has no more commands than rows
 group_rows : (c : Config) (commands : List Request) (v : ℕ) → length (group_of c commands v) ≤ length (rows_of c v)
 group_rows c commands v = go (is_batch c v)
@@ -98,13 +107,7 @@ groups_rows c commands (v ∷ vs) =
 
 -- what the first entries that are applied stand for are no more commands than there are rows
 pub few_first : (c : Config) (r n : ℕ) (mine : List Event) (commands : List Request) → IsConfig c → IsPossible c r mine → length (groups_of c commands (take n (applied c r mine))) ≤ row_count c
-few_first c r n mine commands good possible =
-    let some = groups_rows c commands (take n (applied c r mine)) in
-    let first = rows_first c n (applied c r mine) in
-    let is = ap (λ l. length (rows_in c l)) (applied_is c r mine) in
-    let all = rows_first c (length (applied c r mine)) (known c r mine) in
-    let few = few_known c r mine good possible in
-    omega (arith, some, first, is, all, few)
+few_first c r n mine commands good possible = let some = groups_rows c commands (take n (applied c r mine)) in let few = few_rows_first c r n mine good possible in omega (arith, some, few)
 
 -- and so all that are applied
 pub few_applied : (c : Config) (r : ℕ) (mine : List Event) (commands : List Request) → IsConfig c → IsPossible c r mine → length (groups_of c commands (applied c r mine)) ≤ row_count c

@@ -8,13 +8,14 @@ mod Diligent
 mod Failing
 pub mod Fetching
 pub mod FewRows
+mod Growing
 pub mod HeadRaises
 mod Heads
 mod Later
 mod Leading
 mod Leads
 pub mod Left
-mod Moving
+pub mod Moving
 pub mod Naming
 pub mod Numbered
 mod Open
@@ -24,6 +25,7 @@ mod Pacing
 pub mod Reading
 mod Replaying
 pub mod Rounding
+mod Telling
 mod Turning
 mod Watching
 mod Writing

@@ -2,11 +2,13 @@ pub mod Answering
 pub mod Answers
 pub mod Cycle
 pub mod Due
+pub mod Growing
 pub mod Journal
 pub mod Node
 pub mod Notes
 pub mod Paced
 pub mod Plans
 pub mod Reads
+pub mod Telling
 pub mod Turns
 pub mod Watch

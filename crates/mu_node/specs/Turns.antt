@@ -1,4 +1,4 @@
--- turn, result: what a turn of a replica does, and what it leaves.
+-- turn, left, result: what a turn of a replica does, and what it leaves.
 use Rattle.std.specs.Prelude.{Bool, List, None, Some, false, map, true, ℕ, ◌∷◌, ◌≡◌}
 use Rattle.std.specs.declared.option.Option.{Option}
 use Rattle.kv_store.specs.Commands.{Request}
@@ -64,13 +64,17 @@ IsTurnOn c script r mine now before after (Turn.Took note) =
 IsTurnOn c script r mine now before after (Turn.Ended end) =
     TellsHalt c script r mine (Some end) × (now ≡ mine) × (after ≡ before)
 
--- what a replica leaves is what the definitions give of its events, which are diligent; its replies
--- are those of the store to the commands that the rows of what it applied spell
-pub record IsResult (again : Bool) (c : Config) (r : ℕ) (mine : List Event)
-    (result : NodeResult) : Type 0 where
+-- what a replica leaves is what the definitions give of its events; its replies are those of the
+-- store to the commands that the rows of what it applied spell
+pub record IsLeft (c : Config) (r : ℕ) (mine : List Event) (result : NodeResult) : Type 0 where
   pub log : result.log ≡ applied c r mine
   pub commits : map pair_of result.commits ≡ commits c r mine
   pub replies :
       (commands : List Request) → AreSpelled c commands
       → result.replies ≡ replies (groups_of c commands (applied c r mine))
+
+-- the same, and its events are diligent
+pub record IsResult (again : Bool) (c : Config) (r : ℕ) (mine : List Event)
+    (result : NodeResult) : Type 0 where
+  pub left : IsLeft c r mine result
   pub diligent : IsDiligentBy again c r mine

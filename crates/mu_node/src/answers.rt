@@ -32,7 +32,7 @@ pub struct Answers {
 }
 
 impl Model for Answers {
-    ghost use Rattle.std.specs.Prelude.{vec_capacity, vec_len, ◌+◌, ◌≡◌, ◌≤◌};
+    ghost use Rattle.std.specs.Prelude.{vec_capacity, vec_len, ◌+◌, ◌≤◌};
     ghost use Rattle.mu_node.specs.Answering.{Answering, answering_code};
 
     ghost Value = { Answering };
@@ -46,7 +46,7 @@ impl Model for Answers {
     } };
 
     ghost invariant = { λ a. (a.left ≤ a.store.room)
-        × (vec_len a.replies + a.left ≡ vec_capacity a.replies) };
+        × (vec_len a.replies + a.left ≤ vec_capacity a.replies) };
 }
 
 impl Answers {
@@ -61,6 +61,35 @@ impl Answers {
             replies: Vec::with_capacity(alloc, commands)?,
             left: commands,
         })
+    }
+
+    /// Makes room for the replies to this many commands in all. Takes memory.
+    pub fn make_room(&mut self, commands: usize) -> Result<(), NoMemory>
+        ensures table { self.new.table ≡ self.old.table }
+        ensures replies { self.new.replies ≡ self.old.replies }
+        ensures keeps { self.old.left ≤ self.new.left }
+        ensures room { IfOk result
+            (λ done. commands ≤ self.new.left + length self.new.replies) }
+    {
+        let left = commands.saturating_sub(self.replies.len());
+        self.replies.reserve(left)?;
+        self.store.make_room(left)?;
+        self.left = self.left.max(left);
+        Ok(())
+    }
+
+    /// The replies so far.
+    pub fn replies(&self) -> &[Reply]
+        ensures { result.now ≡ self.now.replies }
+    {
+        self.replies.as_slice()
+    }
+
+    /// The reply at a place, counted from 0, if there are as many.
+    pub fn reply(&self, at: usize) -> Option<Reply>
+        ensures { result ≡ slice_get self.now.replies at }
+    {
+        self.replies.as_slice().get(at).copied()
     }
 
     /// Applies a command, if there is room, and keeps its reply. Takes no memory.

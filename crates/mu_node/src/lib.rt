@@ -4,12 +4,15 @@
 //! which the replica may make by its own events; if none is due, it beats.
 #![tactic(auto)]
 
+mod adding;
 mod again;
 mod answers;
 mod cycle;
 mod ending;
+mod leaving;
 mod node;
 mod planning;
+mod replying;
 mod result;
 mod taking;
 mod turn;

@@ -17,8 +17,8 @@ ghost use Rattle.mu_pace.specs.Blocking.{AdvancesInTime};
 ghost use Rattle.mu_pace.specs.Counters.{AtEachStep};
 ghost use Rattle.mu_pace.specs.Cycles.{KeepsBeside};
 
-use crate::answers::{Answers, apply_ready};
-use crate::ending::{end_of_going, end_of_outrun, is_stop};
+use crate::answers::Answers;
+use crate::ending::{end_of_outrun, is_stop};
 use crate::result::NodeResult;
 use crate::turn::Turn;
 use crate::watch::Watch;
@@ -26,9 +26,9 @@ use crate::zeal::Zeal;
 use mu_follow::Follow;
 use mu_grant::Grants;
 use mu_input::Job;
-use mu_knowledge::{Commit, first_values};
+use mu_knowledge::Commit;
 use mu_lead::{Lead, Note};
-use mu_model::{End, NoMemory, Sequence, Stop, Verb, positions_in};
+use mu_model::{End, NoMemory, Stop, Verb, positions_in};
 use mu_port::Port;
 use std::alloc::Global;
 
@@ -117,14 +117,7 @@ impl Node {
             → script.stops ≡ self.now.stops.items → IsConfig c → IsPossible c r mine
             → StandsForNode c r mine self.now → TellsEnd c script r mine result }
     {
-        let steps = self.follow.steps();
-        if is_stop(self.stops.as_slice(), self.id, steps) {
-            Some(End::Stopped)
-        } else if steps == self.budget {
-            Some(End::Budget)
-        } else {
-            end_of_going(&self.follow, &self.watch, self.id, self.replicas)
-        }
+        self.live_end()
     }
 
     /// What halts it, if anything does: the script, the budget, or that it was outrun. It goes on
@@ -258,31 +251,6 @@ impl Node {
             → script.stops ≡ self.stops.items → IsConfig c → IsPossible c r mine
             → StandsForNode c r mine self → TellsEnd c script r mine result.end }
     {
-        let end = self.end();
-        let Node {
-            id: _,
-            replicas: _,
-            zeal: _,
-            budget: _,
-            stops: _,
-            grants: _,
-            watch: _,
-            lead: _,
-            mut follow,
-            mut log,
-            mut commits,
-            mut answers,
-        } = self;
-        apply_ready(&mut follow, &mut answers);
-        // `Node::new` took room for all, so no memory is wanted.
-        log.extend_from_slice(first_values(follow.known(), follow.applied_count()))
-            .unwrap();
-        commits.extend_from_slice(follow.commits()).unwrap();
-        NodeResult {
-            log: Sequence::from_vec(log),
-            commits: Sequence::from_vec(commits),
-            replies: answers.into_replies(),
-            end,
-        }
+        self.into_live_result()
     }
 }

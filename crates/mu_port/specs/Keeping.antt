@@ -4,16 +4,18 @@ use Rattle.mu_model.specs.declared.config.Config.{Config}
 use Rattle.mu_model.specs.declared.event.Event.{Event}
 use Rattle.mu_model.specs.Legal.{IsLegal}
 
--- the configuration, and the events of all replicas in true order
+-- the configuration, the events of all replicas in true order, and for how many rows there is room
 pub record Kept : Type 0 where
   pub config : Config
   pub events : List Event
+  pub row_limit : ℕ
 
 -- the replica that steps through a port, and what the memory that it holds keeps
 pub record Held : Type 0 where
   pub replica : ℕ
   pub config : Config
   pub events : List Event
+  pub row_limit : ℕ
 
 -- there is such a replica, and the list is legal
 pub record IsHeld (replica : ℕ) (config : Config) (events : List Event) : Type 0 where

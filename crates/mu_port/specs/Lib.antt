@@ -1,3 +1,4 @@
 pub mod Causes
+pub mod Growing
 pub mod Keeping
 pub mod Telling

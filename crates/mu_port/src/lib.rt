@@ -6,9 +6,11 @@
 
 ghost use Rattle.mu_port.specs.Causes.{CausesOfAnswers};
 
+mod adding;
 mod memory;
 mod port;
 
+pub use adding::GrowingMemory;
 pub use memory::{Memory, MemoryPort};
 pub use port::Port;
 

@@ -10,7 +10,7 @@ use std::marker::Model;
 /// It means what it keeps: the configuration, and the list in true order. The list is legal. Making
 /// a memory takes room for the budgets of all replicas, so that no call here takes any.
 pub trait Memory: Drop + Sized {
-    ghost use Rattle.std.specs.Prelude.{List, [], ◌++◌, ◌<◌, ◌∷◌};
+    ghost use Rattle.std.specs.Prelude.{List, [], ℕ, ◌++◌, ◌<◌, ◌∷◌};
     ghost use Rattle.mu_model.specs.Allowed.{Allowed};
     ghost use Rattle.mu_model.specs.Answers.{answer_of};
     ghost use Rattle.mu_model.specs.Histories.{history, part};
@@ -22,6 +22,9 @@ pub trait Memory: Drop + Sized {
 
     // the events of all replicas in true order
     ghost events: { Self → List Event };
+
+    // for how many rows there is room, those of the configuration among them
+    ghost row_limit: { Self → ℕ };
 
     /// The configuration.
     fn config(&self) -> &Config
@@ -36,6 +39,7 @@ pub trait Memory: Drop + Sized {
         ensures events { events self.new
             ≡ events self.old ++ (record { by = by; verb = verb; answer = result }) ∷ [] }
         ensures config { config self.new ≡ config self.old }
+        ensures limit { row_limit self.new ≡ row_limit self.old }
         ensures legal { IsLegal (config self.new) (events self.new) };
 
     /// The kept list, in true order.
@@ -54,6 +58,7 @@ pub trait Memory: Drop + Sized {
         ensures replica { result.replica ≡ by }
         ensures config { result.config ≡ config self }
         ensures events { result.events ≡ events self }
+        ensures limit { result.row_limit ≡ row_limit self }
     {
         let _legal = self.events();
         MemoryPort { memory: self, by }
@@ -61,11 +66,11 @@ pub trait Memory: Drop + Sized {
 }
 
 /// The access of one replica to a memory, which it holds until it gives it back. It tells the list
-/// of the events of all replicas. Contracts see the replica, the configuration and
-/// the list.
+/// of the events of all replicas. Contracts see the replica, the configuration, the list, and for
+/// how many rows the memory has room.
 #[derive(Drop)]
 pub struct MemoryPort<M: Memory> {
-    memory: M,
+    pub(crate) memory: M,
     by: u8,
 }
 
@@ -78,26 +83,39 @@ impl<M: Memory> Model for MemoryPort<M> {
       replica = p.by;
       config = M.config p.memory;
       events = M.events p.memory;
+      row_limit = M.row_limit p.memory;
     } };
 
     ghost invariant = { λ p. IsHeld p.by (M.config p.memory) (M.events p.memory) };
 }
 
 impl<M: Memory> MemoryPort<M> {
+    ghost use Rattle.mu_model.specs.Legal.{IsLegal};
+
     /// Passes the memory to the replica `by`, whose port this is from now on. Takes no memory.
     pub fn pass_to(&mut self, by: u8)
         requires { by < self.old.config.replicas }
         ensures replica { self.new.replica ≡ by }
         ensures config { self.new.config ≡ self.old.config }
         ensures events { self.new.events ≡ self.old.events }
+        ensures limit { self.new.row_limit ≡ self.old.row_limit }
     {
         self.by = by;
+    }
+
+    /// The kept list, in true order.
+    pub fn events(&self) -> &[Event]
+        ensures events { result.now ≡ self.now.events }
+        ensures legal { IsLegal self.now.config self.now.events }
+    {
+        self.memory.events()
     }
 
     /// The memory. Takes no memory.
     pub fn back(self) -> M
         ensures config { M.config result ≡ self.config }
         ensures events { M.events result ≡ self.events }
+        ensures limit { M.row_limit result ≡ self.row_limit }
     {
         let MemoryPort { memory, by: _ } = self;
         memory
@@ -117,7 +135,8 @@ impl<M: Memory> Port for MemoryPort<M> {
 
     ghost whole = { λ p. Some p.events };
 
-    ghost same = { λ p q. (q.config ≡ p.config) × (q.replica ≡ p.replica) };
+    ghost same = { λ p q. (q.config ≡ p.config) × (q.replica ≡ p.replica)
+        × (q.row_limit ≡ p.row_limit) };
 
     fn id(&self) -> u8 {
         self.by
@@ -128,9 +147,9 @@ impl<M: Memory> Port for MemoryPort<M> {
         self.memory.step(self.by, verb)
     }
 
-    ghost same_refl = { λ x. (refl, refl) };
+    ghost same_refl = { λ x. (refl, refl, refl) };
 
-    ghost same_trans = { λ x y z p q. (q.0 ∙ p.0, q.1 ∙ p.1) };
+    ghost same_trans = { λ x y z p q. (q.0 ∙ p.0, q.1 ∙ p.1, q.2 ∙ p.2) };
 
     ghost same_number = { λ x y p. p.1 };
 

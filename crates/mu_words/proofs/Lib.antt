@@ -27,4 +27,4 @@ pub mod Forms
 mod Examples
 mod Founds
 pub mod Prepared
-mod Growing
+pub mod Growing

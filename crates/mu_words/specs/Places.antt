@@ -2,7 +2,7 @@
 --
 -- First come the regions in order, then the rows. The words of a region are its fence, minimum,
 -- FUO, head, beat, an ask for each replica, and the slots of the ring.
-use Rattle.std.specs.Prelude.{ℕ, ◌*◌, ◌+◌, ◌<◌, ◌≡◌}
+use Rattle.std.specs.Prelude.{ℕ, ◌*◌, ◌+◌, ◌<◌, ◌≡◌, ◌≤◌}
 use Rattle.mu_model.specs.declared.config.Config.{Config}
 use Rattle.mu_model.specs.Contents.{row_count}
 use Rattle.mu_words.specs.declared.layout.Layout.{Layout}
@@ -55,8 +55,8 @@ PlacesDiffer =
 abbrev pub PlacesAreInside : Type 0
 PlacesAreInside = (l : Layout) (n : Name) → IsName l n → place_of l n < word_count l
 
--- the layout is that of the configuration
+-- the layout has the regions of the configuration, and room for its rows
 pub record IsLayoutOf (c : Config) (l : Layout) : Type 0 where
   pub replicas : l.replicas ≡ c.replicas
   pub ring : l.ring ≡ c.ring
-  pub rows : l.rows ≡ row_count c
+  pub rows : row_count c ≤ l.rows

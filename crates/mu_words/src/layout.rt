@@ -29,26 +29,37 @@ pub enum Name {
 }
 
 /// The places of the words of a configuration in one list: the regions in order, then the rows.
+/// There may be room for rows that the configuration doesn't have yet.
 #[derive(Clone, Copy)]
 pub struct Layout {
     /// How many replicas there are.
     pub(crate) replicas: u8,
     /// How many slots the log of a region has.
     pub(crate) ring: u16,
-    /// How many rows a replica has.
+    /// For how many rows a replica has room.
     pub(crate) rows: u16,
 }
 
 impl Layout {
-    /// The layout of a configuration.
+    /// The layout of a configuration, with room for just its rows.
     pub fn new(config: &Config) -> Layout
         requires { row_count config.now ≤ 4096 }
-        ensures { IsLayoutOf config.now result }
+        ensures laid_out { IsLayoutOf config.now result }
+        ensures rows { result.rows ≡ row_count config.now }
+    {
+        Layout::with_rows(config, config.rows.len() as u16)
+    }
+
+    /// The layout of a configuration, with room for `rows` rows of each replica.
+    pub fn with_rows(config: &Config, rows: u16) -> Layout
+        requires { row_count config.now ≤ rows }
+        ensures laid_out { IsLayoutOf config.now result }
+        ensures rows { result.rows ≡ rows }
     {
         Layout {
             replicas: config.replicas,
             ring: config.ring,
-            rows: config.rows.len() as u16,
+            rows,
         }
     }
 

@@ -28,7 +28,7 @@ use Rattle.shared_steps.specs.Rule.{Fits, FitsEntry, Grew, HasNone, Holds, Shows
 use Rattle.shared_steps.proofs.Entries.{entry_here, only, part_other, part_same, set_there, sights_other, sights_same}
 
 pub layout_is : (c : Config) → IsLayoutOf c (layout_of c)
-layout_is c = record { replicas = refl; ring = refl; rows = refl }
+layout_is c = record { replicas = refl; ring = refl; rows = omega arith }
 
 -- what f makes of the word of the verb is what the law makes of it
 abbrev pub Does : Config → ℕ → List Event → List (Event × ℕ) → Verb → (ℕ → ℕ) → Type 0

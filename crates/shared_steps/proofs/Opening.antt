@@ -8,7 +8,7 @@ use mathlib.Core.Option.{some-injective, some-ne-none}
 use lib.ListN.{get_elem?}
 use Rattle.atomic_table.specs.Table.{opening}
 use Rattle.mu_model.specs.declared.config.Config.{Config}
-use Rattle.mu_model.specs.Contents.{IsConfig}
+use Rattle.mu_model.specs.Contents.{IsConfig, row_count}
 use Rattle.mu_model.proofs.Basics.{same_some}
 use Rattle.mu_words.specs.declared.layout.Layout.{Layout}
 use Rattle.mu_words.specs.declared.layout.Name.{Name}
@@ -88,8 +88,8 @@ all_below l (Name.Ask p w) h = refl
 all_below l (Name.Slot p s) h = refl
 all_below l (Name.Row r j k) h = refl
 
-pub layout_same : (c : Config) (l : Layout) → IsLayoutOf c l → l ≡ layout_of c
-layout_same c l f = λ i. record { replicas = f.replicas i; ring = f.ring i; rows = f.rows i }
+pub layout_same : (c : Config) (l : Layout) → IsLayoutOf c l → l.rows ≡ row_count c → l ≡ layout_of c
+layout_same c l f rows = λ i. record { replicas = f.replicas i; ring = f.ring i; rows = rows i }
 
 first_word_law : (c : Config) (n : Name) → standing_word c [] n ≡ first_word n
 first_word_law c (Name.Fence p) = refl

@@ -1,2 +1,3 @@
 mod FirstWords
 mod Going
+mod Growing

@@ -1,7 +1,7 @@
 //! The fabric of whole runs: it answers from packed words.
 ghost use Rattle.std.specs.Prelude.{◌≡◌, [], IfOk};
 
-use crate::making::{first_founds, first_words, make_step};
+use crate::making::make_step;
 use mu_model::{Answer, Config, Event, Journal, NoMemory, Verb};
 use mu_port::{Memory, MemoryPort};
 use mu_words::{Found, Layout};
@@ -9,14 +9,15 @@ use std::alloc::Global;
 use std::marker::Model;
 
 /// The words of all regions and rows, with the kept list of events of all replicas and what each
-/// replica keeps of the words that it found. Contracts see the configuration and the list.
+/// replica keeps of the words that it found. Contracts see the configuration, the list, and for
+/// how many rows there are words.
 #[derive(Drop)]
 pub struct WordFabric {
-    config: Config,
-    kept: Journal,
-    layout: Layout,
-    words: Vec<u64>,
-    founds: Vec<Found>,
+    pub(crate) config: Config,
+    pub(crate) kept: Journal,
+    pub(crate) layout: Layout,
+    pub(crate) words: Vec<u64>,
+    pub(crate) founds: Vec<Found>,
 }
 
 impl Model for WordFabric {
@@ -25,7 +26,11 @@ impl Model for WordFabric {
 
     ghost Value = { Kept };
 
-    ghost view = { λ f. record { config = f.config; events = f.kept.events } };
+    ghost view = { λ f. record {
+      config = f.config;
+      events = f.kept.events;
+      row_limit = f.layout.rows;
+    } };
 
     ghost invariant = { λ f. IsWordsKept f.config f.kept.events f.kept.room f.layout f.words.items
         f.founds.items };
@@ -35,26 +40,19 @@ impl WordFabric {
     ghost use Rattle.std.specs.Prelude.{◌++◌, ◌∷◌};
     ghost use Rattle.mu_model.specs.Allowed.{Allowed};
     ghost use Rattle.mu_model.specs.Answers.{answer_of};
-    ghost use Rattle.mu_model.specs.Contents.{IsConfig};
+    ghost use Rattle.mu_model.specs.Contents.{IsConfig, row_count};
     ghost use Rattle.mu_model.specs.Histories.{history, part};
     ghost use Rattle.mu_model.specs.Legal.{IsLegal};
 
-    /// A fabric with no event yet. Takes memory for the budgets of all replicas, for the words and
-    /// for what is kept of them.
+    /// A fabric with no event yet, and with room for just the rows of the configuration. Takes
+    /// memory for the budgets of all replicas, for the words and for what is kept of them.
     pub fn start(alloc: Global, config: &Config) -> Result<WordFabric, NoMemory>
         requires { IsConfig config.now }
         ensures config { IfOk result (λ f. f.config ≡ config.now) }
         ensures empty { IfOk result (λ f. f.events ≡ []) }
+        ensures limit { IfOk result (λ f. f.row_limit ≡ row_count config.now) }
     {
-        let room = usize::from(config.replicas) * config.budget as usize;
-        let layout = Layout::new(config);
-        Ok(WordFabric {
-            config: config.copied(alloc)?,
-            kept: Journal::with_room(alloc, room)?,
-            layout,
-            words: first_words(alloc, config, &layout)?,
-            founds: first_founds(alloc, config)?,
-        })
+        WordFabric::start_with_room(alloc, config, config.rows.len() as u16)
     }
 
     /// Makes a step that is allowed, inlined where the verb is named: so the compiler settles its
@@ -67,6 +65,7 @@ impl WordFabric {
         ensures events { self.new.events
             ≡ self.old.events ++ (record { by = by; verb = verb; answer = result }) ∷ [] }
         ensures config { self.new.config ≡ self.old.config }
+        ensures limit { self.new.row_limit ≡ self.old.row_limit }
         ensures legal { IsLegal self.new.config self.new.events }
     {
         let found = &mut self.founds[usize::from(by)];
@@ -80,6 +79,8 @@ impl Memory for WordFabric {
     ghost config = { λ f. f.config };
 
     ghost events = { λ f. f.events };
+
+    ghost row_limit = { λ f. f.row_limit };
 
     fn config(&self) -> &Config {
         &self.config

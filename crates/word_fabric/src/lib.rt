@@ -4,6 +4,7 @@
 //! answers come only from the words, by the law of word steps of `mu_words`.
 #![tactic(auto)]
 
+mod adding;
 mod fabric;
 mod making;
 

@@ -20,7 +20,7 @@ returns-in-Some-clause-entry c k r mine held =
     let found = c.in-Some.ensures.lookup in
     let there : slice_get c.known.result.now at ≡ Some c.in-Some.value.now = slice_get-get_or c.known.result.now at c.in-Some.value.now found.3.0 ∙ ap Some (sym found.1) in (
       applied_at k r at mine (omega (arith, count, c.if-reached-self.false)) ∙ (ap (λ l. slice_get l at) (sym values) ∙ there),
-      c.size_of.ensures ∙ ap (λ x. group_size x c.in-Some.value.now) held.config,
+      c.group_size.ensures ∙ ap (λ x. group_size x c.in-Some.value.now) held.config,
     )
 
 pub returns-in-None-clause-entry : goal.returns-in-None-clause-entry

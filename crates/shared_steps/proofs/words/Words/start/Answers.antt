@@ -10,4 +10,4 @@ of_words-requires c =
     let config = c.args.config.now in
     begins config c.as_slice.result.now c.requires
     (subst (λ (ws : List ℕ). Shows config [] ws) (sym c.as_slice.ensures.value)
-    (opened config c.in_ok-first.first.items (subst (λ (l : Layout). AreWrittenBelow l config.replicas c.in_ok-first.first.items) (layout_same config c.new-layout.result c.new-layout.ensures) c.in_ok-first.ensures)))
+    (opened config c.in_ok-first.first.items (subst (λ (l : Layout). AreWrittenBelow l config.replicas c.in_ok-first.first.items) (layout_same config c.new-layout.result c.new-layout.ensures.laid_out c.new-layout.ensures.rows) c.in_ok-first.ensures)))

@@ -1,0 +1,29 @@
+use Rattle.std.proofs.Common.{◌∙◌, ◌<◌, ap, arith, length, subst, sym, take, None, Some}
+use Rattle.std.specs.List.{slice_get}
+use Rattle.kv_store.specs.Beside.{beside}
+use Rattle.kv_store.specs.Tables.{replies}
+use Rattle.mu_model.specs.Contents.{rows_in}
+use Rattle.mu_model.specs.Knowledge.{applied}
+use Rattle.mu_follow.specs.Groups.{groups_of}
+use Rattle.mu_node.specs.Cycle.{handed_before}
+use Rattle.mu_node.specs.Telling.{TellsPlace}
+use Rattle.mu_node.proofs.FewRows.{few_rows_first}
+use Rattle.mu_node.proofs.Telling.{beside_none, beside_place, told_of}
+use Rattle.mu_node.proofs.node.Node.reply_to.Goals as goal
+
+pub returns-in-Some : goal.returns-in-Some
+returns-in-Some c k r mine commands good possible are held =
+    let entries = take (handed_before k r mine) (applied k r mine) in
+    let told = replies (groups_of k commands entries) in
+    let few = few_rows_first k r (handed_before k r mine) mine good possible in
+    let place = told_of k c.config.result.now c.args.row entries c.handed_on.result.now c.place_in.result (c.config.ensures ∙ held.beside.follow.config) (c.handed_on.ensures k r mine held) (omega (arith, few, good.few)) c.place_in.ensures in
+    let first = subst (λ o. TellsPlace c.args.row (rows_in k entries) o) c.in-Some.is place in
+    c.reply.ensures ∙ (ap (λ l. slice_get l c.in-Some.at) (held.answers commands are).replies ∙ sym (beside_place c.args.row (rows_in k entries) told c.in-Some.at first))
+
+pub returns-in-None : goal.returns-in-None
+returns-in-None c k r mine commands good possible are held =
+    let entries = take (handed_before k r mine) (applied k r mine) in
+    let told = replies (groups_of k commands entries) in
+    let few = few_rows_first k r (handed_before k r mine) mine good possible in
+    let place = told_of k c.config.result.now c.args.row entries c.handed_on.result.now c.place_in.result (c.config.ensures ∙ held.beside.follow.config) (c.handed_on.ensures k r mine held) (omega (arith, few, good.few)) c.place_in.ensures in
+    sym (beside_none c.args.row (rows_in k entries) told (subst (λ o. TellsPlace c.args.row (rows_in k entries) o) c.in-None.is place))

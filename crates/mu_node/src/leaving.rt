@@ -1,0 +1,75 @@
+//! What a replica leaves at its end.
+ghost use Rattle.std.specs.Prelude.{List, ℕ, ◌≡◌};
+ghost use Rattle.mu_model.specs.declared.config.Config.{Config};
+ghost use Rattle.mu_model.specs.declared.event.Event.{Event as SomeEvent};
+ghost use Rattle.mu_model.specs.declared.script.Script.{Script};
+ghost use Rattle.mu_model.specs.Contents.{IsConfig};
+ghost use Rattle.mu_model.specs.Parts.{IsPossible};
+ghost use Rattle.mu_node.specs.Node.{LivesForNode};
+ghost use Rattle.mu_node.specs.Turns.{IsLeft, TellsEnd};
+
+use crate::answers::apply_ready;
+use crate::ending::{end_of_going, is_stop};
+use crate::node::Node;
+use crate::result::NodeResult;
+use mu_knowledge::first_values;
+use mu_model::{End, Sequence};
+
+impl Node {
+    /// The end of its events, if they have one, also if its configuration has grown.
+    #[inline(always)]
+    pub fn live_end(&self) -> Option<End>
+        ensures { (c : Config) → (script : Script) → (r : ℕ) → (mine : List SomeEvent)
+            → script.stops ≡ self.now.stops.items → IsConfig c → IsPossible c r mine
+            → LivesForNode c r mine self.now → TellsEnd c script r mine result }
+    {
+        let steps = self.follow.steps();
+        if is_stop(self.stops.as_slice(), self.id, steps) {
+            Some(End::Stopped)
+        } else if steps == self.budget {
+            Some(End::Budget)
+        } else {
+            end_of_going(&self.follow, &self.watch, self.id, self.replicas)
+        }
+    }
+
+    /// What a replica leaves whose configuration may have grown. Takes no memory.
+    pub fn into_live_result(self) -> NodeResult
+        requires lives { (c : Config) × (r : ℕ) × (mine : List SomeEvent) × IsConfig c
+            × IsPossible c r mine × LivesForNode c r mine self }
+        ensures left { (c : Config) → (r : ℕ) → (mine : List SomeEvent) → IsConfig c
+            → IsPossible c r mine
+            → LivesForNode c r mine self
+            → IsLeft c r mine result }
+        ensures end { (c : Config) → (script : Script) → (r : ℕ) → (mine : List SomeEvent)
+            → script.stops ≡ self.stops.items → IsConfig c → IsPossible c r mine
+            → LivesForNode c r mine self → TellsEnd c script r mine result.end }
+    {
+        let end = self.live_end();
+        let Node {
+            id: _,
+            replicas: _,
+            zeal: _,
+            budget: _,
+            stops: _,
+            grants: _,
+            watch: _,
+            lead: _,
+            mut follow,
+            mut log,
+            mut commits,
+            mut answers,
+        } = self;
+        apply_ready(&mut follow, &mut answers);
+        // Room for all was taken before, so no memory is wanted.
+        log.extend_from_slice(first_values(follow.known(), follow.applied_count()))
+            .unwrap();
+        commits.extend_from_slice(follow.commits()).unwrap();
+        NodeResult {
+            log: Sequence::from_vec(log),
+            commits: Sequence::from_vec(commits),
+            replies: answers.into_replies(),
+            end,
+        }
+    }
+}
