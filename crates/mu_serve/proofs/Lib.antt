@@ -2,3 +2,4 @@ mod FirstWords
 mod Going
 mod LinesSoFar
 mod Served
+mod Talking

@@ -1,8 +1,7 @@
 -- talk, answers: where a session is, and what is answered to each of its lines.
-use Rattle.std.specs.Prelude.{Bool, List, None, Some, [], false, map, suc, true, zero, ℕ, ◌++◌, ◌+◌, ◌==◌, ◌∷◌, ◌≡◌, ⊤}
+use Rattle.std.specs.Prelude.{Bool, List, None, Some, [], false, map, suc, true, zero, ℕ, ◌++◌, ◌+◌, ◌==◌, ◌∷◌, ◌≡◌, ◌≤◌, ⊤}
 use Rattle.std.specs.declared.option.Option.{Option}
 use Rattle.std.specs.List.{slice_get}
-use Rattle.kv_store.specs.Commands.{Request}
 use Rattle.kv_store.specs.declared.command.Op.{Op}
 use Rattle.kv_store.specs.declared.store.Reply.{Reply}
 use Rattle.mu_engine.specs.Live.{Live, after_round, changed_at, first_live, next_command, paused, stopped, submitted}
@@ -100,6 +99,18 @@ WaitsFor row (suc n) before after =
     (between : Live) × WaitsFor row n before between
     × TellsNow between.job between.events row None × IsNext between after
 
+-- the rounds were as many as a command waits for, if there is no reply, and no more in any case
+abbrev pub AreEnough : Option Reply → ℕ → Type 0
+AreEnough None rounds = rounds ≡ WAIT_ROUNDS
+AreEnough (Some reply) rounds = rounds ≤ WAIT_ROUNDS
+
+-- rounds went on until there was a reply to the command of the row, WAIT_ROUNDS at most
+pub record HasWaited (row : ℕ) (before after : Live) (reply : Option Reply) : Type 0 where
+  pub rounds : ℕ
+  pub waits : WaitsFor row rounds before after
+  pub told : TellsNow after.job after.events row reply
+  pub enough : AreEnough reply rounds
+
 -- these are the replies to those that wait, as far as there are any
 abbrev pub AreKnown : Job → List Event → List Waiting → List (Option Reply) → Type 0
 AreKnown job events [] [] = ⊤
@@ -121,6 +132,14 @@ still_of (w ∷ ws) [] = []
 still_of (w ∷ ws) (None ∷ known) = w ∷ still_of ws known
 still_of (w ∷ ws) (Some reply ∷ known) = still_of ws known
 
+-- the commands that wait, sorted by these replies
+pub record AreSorted (job : Job) (events : List Event) (waiting : List Waiting)
+    (told : List Response) (still : List Waiting) : Type 0 where
+  pub known : List (Option Reply)
+  pub are : AreKnown job events waiting known
+  pub told_is : told ≡ told_of waiting known
+  pub still_is : still ≡ still_of waiting known
+
 -- what is told of the command of the line itself
 abbrev pub own_response : Waiting → Option Reply → Response
 own_response own None = response.NoReply own.command
@@ -136,23 +155,14 @@ own_waiting own (Some reply) = []
 -- there is none yet
 pub record Serves (before : Talk) (own : Waiting) (responses : List Response)
     (after : Talk) : Type 0 where
-  pub rounds : ℕ
   pub reply : Option Reply
   pub known : List (Option Reply)
-  pub waits : WaitsFor own.row rounds before.live after.live
-  pub told : TellsNow after.live.job after.live.events own.row reply
-  pub in_vain : reply ≡ None → rounds ≡ WAIT_ROUNDS
+  pub waited : HasWaited own.row before.live after.live reply
   pub are : AreKnown after.live.job after.live.events before.waiting known
   pub responses : responses ≡ told_of before.waiting known ++ own_response own reply ∷ []
   pub waiting : after.waiting ≡ still_of before.waiting known ++ own_waiting own reply
   pub client : after.client ≡ before.client
   pub count : after.count ≡ before.count + 1
-
--- the last command that was submitted, those before it, and its row
-pub record Last : Type 0 where
-  pub earlier : List Request
-  pub command : Request
-  pub row : ℕ
 
 -- the next command of the client as one that waits
 abbrev pub next_waiting : Talk → Op → Waiting

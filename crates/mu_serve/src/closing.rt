@@ -35,8 +35,10 @@ pub fn account_at_end(alloc: Global, engine: Engine) -> Result<Account, NoMemory
 fn play_out(engine: &mut Engine)
     ensures { IsAfter LAST_ROUNDS engine.old engine.new }
 {
-    for _round in 0..CLOSING_ROUNDS {
+    let mut rounds = 0;
+    'rounds: while rounds < CLOSING_ROUNDS {
         engine.round();
+        rounds += 1;
     }
 }
 
@@ -85,11 +87,11 @@ fn step_count(events: &[Event], replica: u8) -> u32
     requires { length (part replica (history events.now)) < 2 ^ 32 }
     ensures { result ≡ length (part replica (history events.now)) }
 {
-    let mut count = 0;
+    let mut count: usize = 0;
     for event in events {
         if event.by == replica {
             count += 1;
         }
     }
-    count
+    count as u32
 }

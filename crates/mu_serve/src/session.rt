@@ -1,13 +1,11 @@
 //! A session: an engine, and the line by line talk with whoever gives the lines.
-ghost use Rattle.std.specs.Prelude.{IfOk, List, None, [], take, ℕ, ◌++◌, ◌+◌, ◌<◌, ◌^◌, ◌∷◌, ◌≡◌, ◌≤◌};
-ghost use Rattle.kv_store.specs.Commands.{HasShortTexts};
-ghost use Rattle.mu_engine.specs.Telling.{TellsNow};
+ghost use Rattle.std.specs.Prelude.{IfOk, List, [], length, take, ℕ, ◌++◌, ◌+◌, ◌<◌, ◌^◌, ◌∷◌, ◌≡◌, ◌≤◌};
+ghost use Rattle.kv_store.specs.Commands.{HasShortTexts, Request};
 ghost use Rattle.mu_input.specs.Readings.{Says as SaysLine};
 ghost use Rattle.mu_report.specs.Said.{IsShort};
 ghost use Rattle.mu_serve.specs.Closing.{Reports};
-ghost use Rattle.mu_serve.specs.Sessions.{Answers, AnswersSaid, Last, Refuses, Serves, WaitsFor, first_talk, own_response, own_waiting};
+ghost use Rattle.mu_serve.specs.Sessions.{Answers, AnswersSaid, HasWaited, Refuses, Serves, first_talk, own_response, own_waiting};
 ghost use Rattle.mu_serve.specs.declared.session_lines.SessionLine.TheVariants as saying;
-ghost use Rattle.mu_serve.specs.declared.session.TheConstants.{WAIT_ROUNDS as MOST_WAIT};
 ghost use Rattle.mu_text.specs.declared.line_text.TheConstants.{LINE_BYTES as MOST_KEPT};
 
 use crate::closing::account_at_end;
@@ -56,26 +54,6 @@ impl Model for Session {
 }
 
 impl Session {
-    /// What is answered to a line of which this is the front. A command is submitted, and rounds go
-    /// on until there is a reply to it, but at most [`WAIT_ROUNDS`].
-    ///
-    /// # Errors
-    ///
-    /// Only for want of memory.
-    pub fn responses(&mut self, front: &Line) -> Result<Vec<Response>, NoMemory>
-        requires { self.old.count + 1 < 2 ^ 32 }
-        ensures { IfOk result (λ responses. (line : List ℕ) → front.now ≡ take MOST_KEPT line
-            → Answers self.old line responses.items self.new) }
-    {
-        match said_of_line(self.engine.config().replicas, front) {
-            Ok(SessionLine::Client(client)) => self.turn_to(client),
-            Ok(SessionLine::Operation(op)) => self.ask(op),
-            Ok(SessionLine::Stop(replica)) => self.stop(replica),
-            Ok(SessionLine::Pause(replica, rounds)) => self.pause(replica, rounds),
-            Err(cause) => self.refuse(cause),
-        }
-    }
-
     /// A session of this many replicas before any line. Takes the memory of the engine.
     ///
     /// # Errors
@@ -100,6 +78,26 @@ impl Session {
             count: 0,
             waiting: Vec::new(alloc),
         })
+    }
+
+    /// What is answered to a line of which this is the front. A command is submitted, and rounds go
+    /// on until there is a reply to it, but at most [`WAIT_ROUNDS`].
+    ///
+    /// # Errors
+    ///
+    /// Only for want of memory.
+    pub fn responses(&mut self, front: &Line) -> Result<Vec<Response>, NoMemory>
+        requires { self.old.count + 1 < 2 ^ 32 }
+        ensures { IfOk result (λ responses. (line : List ℕ) → front.now ≡ take MOST_KEPT line
+            → Answers self.old line responses.items self.new) }
+    {
+        match said_of_line(self.engine.config().replicas, front) {
+            Ok(SessionLine::Client(client)) => self.turn_to(client),
+            Ok(SessionLine::Operation(op)) => self.ask(op),
+            Ok(SessionLine::Stop(replica)) => self.stop(replica),
+            Ok(SessionLine::Pause(replica, rounds)) => self.pause(replica, rounds),
+            Err(cause) => self.refuse(cause),
+        }
     }
 
     /// What is said at the end of the input: the report, or that there is no memory for it.
@@ -147,6 +145,7 @@ impl Session {
         ensures { IfOk result (λ responses.
             AnswersSaid (SaysLine (saying.Stop replica)) self.old responses.items self.new) }
     {
+        let _config = self.engine.config();
         if self.engine.hold_of(replica).stopped {
             return self.refuse(SCRIPT);
         }
@@ -162,6 +161,7 @@ impl Session {
         ensures { IfOk result (λ responses.
             AnswersSaid (SaysLine (saying.Pause replica rounds)) self.old responses.items self.new) }
     {
+        let _config = self.engine.config();
         if self.engine.hold_of(replica).stopped {
             return self.refuse(SCRIPT);
         }
@@ -178,25 +178,21 @@ impl Session {
             AnswersSaid (SaysLine (saying.Operation op)) self.old responses.items self.new) }
     {
         match self.engine.submit(self.client, op) {
-            Ok(row) => self.serve(row),
+            Ok(row) => {
+                let command = last_of(self.engine.commands());
+                self.serve(Waiting { row, command })
+            }
             Err(Refusal::Full) => self.refuse(TOO_MANY),
             Err(Refusal::NoMemory) => Err(NoMemory),
         }
     }
 
-    /// Serves the last command that was submitted, that of this row.
-    fn serve(&mut self, row: u16) -> Result<Vec<Response>, NoMemory>
-        ghost last: { Last }
-        requires count { self.old.count + 1 < 2 ^ 32 }
-        requires row { row ≡ last.row }
-        requires there { self.old.live.job.commands ≡ last.earlier ++ last.command ∷ [] }
-        ensures { IfOk result (λ responses.
-            Serves self.old (record { row = last.row; command = last.command }) responses.items
-            self.new) }
+    /// Serves a command that was just submitted.
+    fn serve(&mut self, own: Waiting) -> Result<Vec<Response>, NoMemory>
+        requires { self.old.count + 1 < 2 ^ 32 }
+        ensures { IfOk result (λ responses. Serves self.old own responses.items self.new) }
     {
-        let command = last_of(self.engine.commands());
-        let own = Waiting { row, command };
-        let reply = reply_in_time(&mut self.engine, row);
+        let reply = reply_in_time(&mut self.engine, own.row);
         let Sorted { told, still } = sorted(self.alloc, &self.engine, self.waiting.as_slice())?;
         self.count += 1;
         self.waiting = still;
@@ -229,29 +225,26 @@ impl Session {
 /// The reply to the command of a row, once it is there; rounds go on until then, [`WAIT_ROUNDS`] at
 /// most.
 fn reply_in_time(engine: &mut Engine, row: u16) -> Option<Reply>
-    ensures { (rounds : ℕ) × WaitsFor row rounds engine.old engine.new
-        × TellsNow engine.new.job engine.new.events row result
-        × (result ≡ None → rounds ≡ MOST_WAIT) }
+    ensures { HasWaited row engine.old engine.new result }
 {
-    for _round in 0..WAIT_ROUNDS {
-        if let Some(reply) = engine.reply_to(row) {
-            return Some(reply);
+    let mut rounds = 0;
+    'rounds: while rounds < WAIT_ROUNDS {
+        match engine.reply_to(row) {
+            Some(reply) => return Some(reply),
+            None => engine.round(),
         }
-        engine.round();
+        rounds += 1;
     }
     engine.reply_to(row)
 }
 
 /// The last of some commands.
 fn last_of(commands: &[Command]) -> Command
-    ghost last: { Last }
-    requires { commands.now ≡ last.earlier ++ last.command ∷ [] }
-    ensures { result ≡ last.command }
+    requires { 0 < length commands.now }
+    ensures { (earlier : List Request) → (command : Request)
+        → commands.now ≡ earlier ++ command ∷ [] → result ≡ command }
 {
-    match commands.last() {
-        Some(last) => *last,
-        None => unreachable!(),
-    }
+    commands[commands.len() - 1]
 }
 
 /// One response alone.
