@@ -10,7 +10,7 @@ ghost use Rattle.mu_text.specs.declared.line_text.TheConstants.{LINE_BYTES as MO
 
 use crate::closing::account_at_end;
 use crate::session_lines::{SessionLine, said_of_line};
-use crate::waiting::{Sorted, Waiting, sorted};
+use crate::waiting::{Sorted, Waiting, sorted_by_reply};
 use kv_store::{Command, Op, Reply};
 use mu_engine::{Engine, Refusal, Shape};
 use mu_input::cause::{SCRIPT, TOO_MANY};
@@ -193,7 +193,8 @@ impl Session {
         ensures { IfOk result (λ responses. Serves self.old own responses.items self.new) }
     {
         let reply = reply_in_time(&mut self.engine, own.row);
-        let Sorted { told, still } = sorted(self.alloc, &self.engine, self.waiting.as_slice())?;
+        let Sorted { told, still } =
+            sorted_by_reply(self.alloc, &self.engine, self.waiting.as_slice())?;
         self.count += 1;
         self.waiting = still;
         self.tell_own(told, own, reply)
