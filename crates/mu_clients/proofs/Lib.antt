@@ -1,4 +1,4 @@
-mod Agreeing
+pub mod Agreeing
 mod LongLines
 mod Putting
 pub mod Telling

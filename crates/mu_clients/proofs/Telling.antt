@@ -47,7 +47,7 @@ attested_agree job items held i j r s row first second one two =
     ]
 
 -- a place in a list and what comes behind
-split_at : (xs ys : List ℕ) (k x : ℕ) → slice_get (xs ++ ys) k ≡ Some x → (slice_get xs k ≡ Some x) ⊎ (length xs ≤ k)
+pub split_at : (xs ys : List ℕ) (k x : ℕ) → slice_get (xs ++ ys) k ≡ Some x → (slice_get xs k ≡ Some x) ⊎ (length xs ≤ k)
 split_at [] ys k x at = inr (omega arith)
 split_at (z ∷ xs) ys zero x at = inl at
 split_at (z ∷ xs) ys (suc k) x at = elim (split_at xs ys k x at) [ inl there ↦ inl there | inr long ↦ inr (omega (arith, long)) ]

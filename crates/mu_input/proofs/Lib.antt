@@ -10,7 +10,7 @@ pub mod JobConfigs
 mod KeyOrder
 mod Keys
 mod LegalEvents
-mod ManyWords
+pub mod ManyWords
 mod OperationsBack
 mod ScriptBack
 mod SettingsBack

@@ -38,3 +38,12 @@ body_line-take clients commands (a ∷ b ∷ c ∷ d ∷ []) = refl
 body_line-take clients commands (a ∷ b ∷ c ∷ d ∷ e ∷ words) =
     ap (λ said. cond (bytes_eq a (codes "client")) (Wrong CLIENT) (cond (names_operation (a ∷ [])) (cond (clients == 0) (Wrong CLIENT) (operation_line commands said)) (Wrong OPERATION)))
     (operation-many (kind_of_name a) b c d e (take 9 words) words)
+
+-- a line asks for what its first words ask for
+pub operation-take : (words : List (List ℕ)) → operation_of (take MANY_WORDS words) ≡ operation_of words
+operation-take [] = refl
+operation-take (a ∷ []) = refl
+operation-take (a ∷ b ∷ []) = refl
+operation-take (a ∷ b ∷ c ∷ []) = refl
+operation-take (a ∷ b ∷ c ∷ d ∷ []) = refl
+operation-take (a ∷ b ∷ c ∷ d ∷ e ∷ words) = operation-many (kind_of_name a) b c d e (take 9 words) words

@@ -46,10 +46,14 @@ pub const BATCH: u8 = 15;
 /// Only a desk tells it: a job of version 2, or more clients than a desk serves.
 pub const SENDERS: u8 = 16;
 
+/// Only a session tells it: a line that is longer than any line may be.
+pub const LINE_LENGTH: u8 = 17;
+
 /// Each cause is the number that is stated here.
 pub fn causes_are_stated()
     ensures settings { (HEAD ≡ 1) × (REPLICAS ≡ 2) × (RING ≡ 3) × (BUDGET ≡ 4) × (BATCH ≡ 15) }
     ensures body { (CLIENT ≡ 5) × (OPERATION ≡ 6) × (KEY ≡ 7) × (VALUE ≡ 8) × (TOO_MANY ≡ 9) }
     ensures ends { (SCRIPT ≡ 10) × (NO_END ≡ 11) × (AFTER_END ≡ 12) × (EVENT ≡ 13) }
     ensures desk { SENDERS ≡ 16 }
+    ensures session { LINE_LENGTH ≡ 17 }
 {}

@@ -20,7 +20,9 @@ pub use batches::with_commands;
 pub use bulk_jobs::bulk;
 pub use job::{Commands, InputEnd, Job};
 pub use op_lines::{op_line, push_op};
+pub use operations::operation;
 pub use reading::read;
+pub use scripts::replica_of;
 pub use senders::desk_line;
 pub use traces::{EventLines, read_trace, traces_are_read_back};
 

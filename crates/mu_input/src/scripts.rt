@@ -214,7 +214,7 @@ fn pauses_before(replica: u8, steps: u32, pauses: &[Pause]) -> bool
 }
 
 /// The replica that a word names, if it is one of `replicas`.
-fn replica_of(word: &[u8], replicas: u8) -> Option<u8>
+pub fn replica_of(word: &[u8], replicas: u8) -> Option<u8>
     ensures { result ≡ below replicas (number_of word.now) }
 {
     let replica = number(word)?;

@@ -48,11 +48,11 @@ front_whole test (x ∷ xs) = go (test x) (front_whole test xs)
     go false ih = refl
 
 -- what is applied, and the rest, is what is known
-all_known : (c : Config) (r : ℕ) (mine : List Event) → applied c r mine ++ drop (length (applied c r mine)) (known c r mine) ≡ known c r mine
+pub all_known : (c : Config) (r : ℕ) (mine : List Event) → applied c r mine ++ drop (length (applied c r mine)) (known c r mine) ≡ known c r mine
 all_known c r mine = front_whole (λ v. has_entry c r v mine) (known c r mine)
 
 -- what is applied is known
-applied_known : (c : Config) (r i v : ℕ) (mine : List Event) → slice_get (applied c r mine) i ≡ Some v → slice_get (known c r mine) i ≡ Some v
+pub applied_known : (c : Config) (r i v : ℕ) (mine : List Event) → slice_get (applied c r mine) i ≡ Some v → slice_get (known c r mine) i ≡ Some v
 applied_known c r i v mine at =
     subst (λ l. slice_get l i ≡ Some v) (all_known c r mine) (get_front (applied c r mine) (drop (length (applied c r mine)) (known c r mine)) i v at)
 
@@ -88,7 +88,7 @@ commit_by c r k i v by (Verb.PutSlot q j b w) Answer.Done mine before at = go (b
 commit_by c r k i v by (Verb.Look q j) (Answer.Entry b w) mine before at = known_after c r i v by (Verb.Look q j) (Answer.Entry b w) mine (before at)
 commit_by c r k i v by verb answer mine before at = known_after c r i v by verb answer mine (before at)
 
-commit_known : (c : Config) (r k i v : ℕ) (mine : List Event) → slice_get (commits c r mine) k ≡ Some (i, v) → slice_get (known c r mine) i ≡ Some v
+pub commit_known : (c : Config) (r k i v : ℕ) (mine : List Event) → slice_get (commits c r mine) k ≡ Some (i, v) → slice_get (known c r mine) i ≡ Some v
 commit_known c r k i v [] at = cc
 commit_known c r k i v (e ∷ mine) at = commit_by c r k i v e.by e.verb e.answer mine (commit_known c r k i v mine) at
 
@@ -100,7 +100,7 @@ abbrev tail_of : List ℕ → List ℕ
 tail_of [] = []
 tail_of (x ∷ xs) = xs
 
-has_value : (xs : List ℕ) (i : ℕ) → i < length xs → (x : ℕ) × (slice_get xs i ≡ Some x)
+pub has_value : (xs : List ℕ) (i : ℕ) → i < length xs → (x : ℕ) × (slice_get xs i ≡ Some x)
 has_value [] i low = absurd (omega (arith, low))
 has_value (x ∷ xs) zero low = (x, refl)
 has_value (x ∷ xs) (suc i) low = has_value xs i (omega (arith, low))
@@ -142,7 +142,7 @@ session_same job client (v ∷ vs) good have =
     ∙ (ap (λ l. l ++ numbers_of client (commands_in job vs)) (numbers_of_entry job client v good have) ∙ ap (λ l. numbers_in job.config client (rows_of job.config v) ++ l) (session_same job client vs good have))
 
 -- a list that begins one in session has its commands in session
-in_session : (job : Job) (values rest all : List ℕ) → IsConfig job.config → HaveHeads job.config.width job.commands job.config.rows → values ++ rest ≡ all → IsListInSession job.config all → IsInSession (commands_in job values)
+pub in_session : (job : Job) (values rest all : List ℕ) → IsConfig job.config → HaveHeads job.config.width job.commands job.config.rows → values ++ rest ≡ all → IsListInSession job.config all → IsInSession (commands_in job values)
 in_session job values rest all good have begins whole client =
     let c = job.config in
     let both = ap (session c client) begins in
@@ -150,19 +150,19 @@ in_session job values rest all good have begins whole client =
     subst (λ l. CountsFrom 1 l) (sym (session_same job client values good have)) (counts_front (session c client values) (session c client rest) (length (session c client all)) 1 front)
 
 -- a list that begins one no longer is that one
-same_begun : (xs ys : List ℕ) → IsPrefixOf xs ys → length ys ≤ length xs → ys ≡ xs
+pub same_begun : (xs ys : List ℕ) → IsPrefixOf xs ys → length ys ≤ length xs → ys ≡ xs
 same_begun xs ys begins few = go begins.0 begins.1
   where
     go : (rest : List ℕ) → ys ≡ xs ++ rest → ys ≡ xs
     go [] is = is ∙ append-nil xs
     go (z ∷ rest) is = let long = ap length is in let both = length-append xs (z ∷ rest) in absurd (omega (arith, long, both, few))
 
-empty_one : (xs : List ℕ) → length xs ≡ 0 → xs ≡ []
+pub empty_one : (xs : List ℕ) → length xs ≡ 0 → xs ≡ []
 empty_one [] none = refl
 empty_one (x ∷ xs) none = absurd (omega (arith, none))
 
 -- the replies over a log begin those over a longer one
-replies_begin : (job : Job) (xs ys : List ℕ) → IsPrefixOf xs ys → IsPrefixOf (replies (commands_in job xs)) (replies (commands_in job ys))
+pub replies_begin : (job : Job) (xs ys : List ℕ) → IsPrefixOf xs ys → IsPrefixOf (replies (commands_in job xs)) (replies (commands_in job ys))
 replies_begin job xs ys begins = (
   replies_from (store (commands_in job xs)) (commands_in job begins.0),
   ap (λ l. replies (commands_in job l)) begins.1 ∙ ap replies (commands_in-append job xs begins.0) ∙ replies_from-append empty_table (commands_in job xs) (commands_in job begins.0),

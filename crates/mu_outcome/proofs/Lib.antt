@@ -4,6 +4,7 @@ mod Deciding
 pub mod Faults
 pub mod Journals
 pub mod LogCommands
+pub mod LogsAgreeing
 pub mod LongestLogs
 pub mod Places
-mod Spelled
+pub mod Spelled

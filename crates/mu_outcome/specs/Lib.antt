@@ -2,6 +2,7 @@ pub mod AllEvents
 pub mod Breaks
 pub mod Completion
 pub mod Entries
+pub mod LogsAfter
 pub mod Outcomes
 pub mod Reached
 pub mod Runs

@@ -14,7 +14,7 @@ mod verdict;
 pub use account::{Account, EndSoFar};
 pub use entries::commands_of;
 pub use fault::{Broken, Fault};
-pub use logs::longest;
+pub use logs::{logs_agree, longest};
 pub use moment::{Fact, Leads, Moment};
 pub use mu_knowledge::{Commit, Commits, Log};
 pub use outcome::{AllCommits, AllEvents, AllReplies, Ends, Logs, Outcome, Replies};

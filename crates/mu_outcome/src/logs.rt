@@ -1,6 +1,7 @@
-//! Which of the logs is told of.
+//! Which of the logs is told of, and that logs agree.
 ghost use Rattle.std.specs.Prelude.{◌≡◌};
 ghost use Rattle.mu_outcome.specs.Entries.{longest as longest_of};
+ghost use Rattle.mu_outcome.specs.LogsAfter.{LogsAgree};
 
 use mu_knowledge::Log;
 
@@ -16,3 +17,9 @@ pub fn longest(logs: &[Log]) -> &[u16]
     }
     best
 }
+
+/// At each moment of a legal list of events the replicas agree on what they have applied, and the
+/// replies over it begin those over the longest log.
+pub fn logs_agree()
+    ensures { LogsAgree }
+{}

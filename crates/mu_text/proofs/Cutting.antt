@@ -24,7 +24,7 @@ pub lines-at : (line rest : List ℕ) → All (λ byte. ends byte ≡ false) lin
 lines-at [] rest none = refl
 lines-at (byte ∷ line) rest none = lines-cons byte (line ++ LINE_FEED ∷ rest) (All-head (λ b. ends b ≡ false) byte line none) ∙ ap (onto_first byte) (lines-at line rest (All-tail (λ b. ends b ≡ false) byte line none))
 
-lines-none : (byte : ℕ) (line : List ℕ) → All (λ b. ends b ≡ false) (byte ∷ line) → lines (byte ∷ line) ≡ (byte ∷ line) ∷ []
+pub lines-none : (byte : ℕ) (line : List ℕ) → All (λ b. ends b ≡ false) (byte ∷ line) → lines (byte ∷ line) ≡ (byte ∷ line) ∷ []
 lines-none byte [] none = lines-cons byte [] (All-head (λ b. ends b ≡ false) byte [] none)
 lines-none byte (next ∷ line) none = lines-cons byte (next ∷ line) (All-head (λ b. ends b ≡ false) byte (next ∷ line) none) ∙ ap (onto_first byte) (lines-none next line (All-tail (λ b. ends b ≡ false) byte (next ∷ line) none))
 

@@ -1,0 +1,10 @@
+pub mod Adding
+pub mod Asking
+pub mod First
+pub mod Going
+pub mod Holds
+pub mod Linear
+pub mod Seating
+pub mod Stepping
+pub mod Taking
+pub mod Turning

@@ -1,0 +1,41 @@
+-- The turn of a replica.
+use Rattle.std.proofs.Common.{◌≡◌, ◌∙◌, ℕ, true, List, [], ◌∷◌, ◌++◌, Some, inl, inr, refl, subst, sym}
+use Rattle.mu_model.specs.declared.config.Config.{Config}
+use Rattle.mu_model.specs.declared.event.Event.{Event}
+use Rattle.mu_model.specs.Histories.{history, part}
+use Rattle.mu_model.proofs.Basics.{event_by, same_some}
+use Rattle.mu_port.specs.Keeping.{Held}
+use Rattle.mu_node.specs.declared.node.Node.{Node}
+use Rattle.mu_node.specs.declared.turn.Turn.{Turn}
+use Rattle.mu_node.specs.Node.{LivesForNode}
+use Rattle.mu_node.specs.Turns.{IsTurnOn}
+use Rattle.mu_engine.specs.declared.hold.Hold.{Hold}
+use Rattle.mu_engine.specs.Live.{is_free}
+use Rattle.mu_engine.specs.Seats.{Plays}
+use Rattle.mu_engine.specs.Shapes.{no_script}
+
+-- a turn of r from one list of events to another
+pub record Turned (k0 k1 : Config) (r0 r1 : ℕ) (e0 e1 : List Event) (turn : Turn) (node : Node) : Type 0 where
+  pub lives : LivesForNode k1 r1 (part r1 (history e1)) node
+  pub did : IsTurnOn k0 no_script r0 (part r0 (history e0)) (part r1 (history e1)) (Some e0) (Some e1) turn
+
+-- the same of the memory that the port holds
+pub turned : (c : Config) (old new : List Event) (p q : Held) (r id : ℕ) (turn : Turn) (node : Node)
+    → p.replica ≡ id → id ≡ r → p.config ≡ c → p.events ≡ old → q.replica ≡ p.replica → q.config ≡ p.config → new ≡ q.events
+    → Turned p.config q.config p.replica q.replica p.events q.events turn node
+    → Turned c c r r old new turn node
+turned c old new p q r id turn node at_id is_id config events at_same same_config after told =
+    let here = at_id ∙ is_id in
+    let a = subst (λ k. Turned k q.config p.replica q.replica p.events q.events turn node) config told in
+    let b = subst (λ k. Turned c k p.replica q.replica p.events q.events turn node) (same_config ∙ config) a in
+    let d = subst (λ n. Turned c c n q.replica p.events q.events turn node) here b in
+    let e = subst (λ n. Turned c c r n p.events q.events turn node) (at_same ∙ here) d in
+    let h = subst (λ x. Turned c c r r x q.events turn node) events e in
+    subst (λ x. Turned c c r r old x turn node) (sym after) h
+
+-- what it adds to the events of a replica that nothing holds
+pub plays_on : (c : Config) (r : ℕ) (hold : Hold) (old new : List Event) (turn : Turn) (node : Node) → is_free hold ≡ true → Turned c c r r old new turn node → Plays c r hold old new
+plays_on c r hold old new (Turn.Took note) node free t =
+    let e = event_by r t.did.1.verb t.did.1.answer in
+    inr (e, refl, free, same_some new (old ++ e ∷ []) t.did.1.told.list)
+plays_on c r hold old new (Turn.Ended end) node free t = inl (same_some new old t.did.2, λ _. record { end = end; ends = t.did.0.0; halt = t.did.0.1 })

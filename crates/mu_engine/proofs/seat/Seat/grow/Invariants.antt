@@ -1,0 +1,4 @@
+use Rattle.mu_engine.proofs.seat.Seat.grow.Given as goal
+
+abbrev pub ghost-add_last : goal.ghost-add_last
+ghost-add_last g a = g.growth
