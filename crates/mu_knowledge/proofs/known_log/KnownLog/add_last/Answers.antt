@@ -13,6 +13,6 @@ returns c k0 row r mine g h same possible room held =
     let positions = held.positions in
     let space = room.seen in
     let seen = c.push_within.ensures.items (omega (arith, positions, space)) in
-    let new : KnownLog = record { values = self.values; marks = self.marks; counts = self.counts; rows = self.rows; by_client = c.add_last.new.self; fuos = self.fuos; seen = c.push_within.new.seen } in
+    let new : KnownLog = record { values = self.values; marks = self.marks; counts = self.counts; rows = self.rows; by_client = c.add_last.new.self; fuos = self.fuos; seen = c.push_within.new.items } in
     subst (λ z. StandsForKnownLog z r mine new) (sym same)
     (known_more k0 row r mine self new g (subst (λ z. IsConfig z) same h) possible held refl room.values refl refl refl rows refl seen)
