@@ -113,8 +113,8 @@ both_low n (x ∷ xs) ys first second (suc k) i at = both_low n xs ys (λ l j th
 
 pub rows_low : (c : Config) (values : List ℕ) → IsConfig c → (k i : ℕ) → slice_get (rows_in c values) k ≡ Some i → i < row_count c
 rows_low c [] good k i at = cc
-rows_low c (v ∷ values) good = both_low (row_count c) (rows_of c v) (rows_in c values) (own (is_batch c v) refl) (rows_low c values good)
+rows_low c (v ∷ values) good k i at = both_low (row_count c) (rows_of c v) (rows_in c values) (own (is_batch c v) refl) (rows_low c values good) k i at
   where
-    own : (t : Bool) → is_batch c v ≡ t → (k i : ℕ) → slice_get (cond t (rows_from (rest_of c (v % 4096) + 1) (v % 4096)) []) k ≡ Some i → i < row_count c
-    own true batch k i at = let low = from_low (rest_of c (v % 4096) + 1) (v % 4096) k i at in let fits = (batch_there c v good batch).1 in omega (arith, low, fits)
-    own false batch k i at = cc
+    own : (t : Bool) → is_batch c v ≡ t → (l j : ℕ) → slice_get (cond t (rows_from (rest_of c (v % 4096) + 1) (v % 4096)) []) l ≡ Some j → j < row_count c
+    own true batch l j there = let low = from_low (rest_of c (v % 4096) + 1) (v % 4096) l j there in let fits = (batch_there c v good batch).1 in omega (arith, low, fits)
+    own false batch l j there = cc
