@@ -1,22 +1,16 @@
 use Rattle.std.proofs.Common.{◌≡◌, ◌∙◌, ◌+◌, ◌-◌, ◌<◌, ◌≤◌, ◌++◌, ◌∷◌, [], List, ap, arith, drop, length, map, refl, subst, sym, ℕ}
 use Rattle.std.proofs.lemmas.List.{take_at}
 use Rattle.kv_store.specs.Commands.{Request}
-use Rattle.mu_model.specs.declared.config.Config.{Config}
 use Rattle.mu_model.specs.declared.config.Row.{Row}
 use Rattle.mu_model.specs.Contents.{IsConfig, row_count, rows_before}
 use Rattle.mu_model.specs.Growing.{with_more}
-use Rattle.mu_model.specs.Legal.{IsLegal}
 use Rattle.mu_engine.specs.Growing.{HaveRoom}
 use Rattle.mu_engine.specs.Inside.{live_of}
-use Rattle.mu_engine.specs.Live.{Live, next_command, row_of, submitted, with_command}
-use Rattle.mu_engine.specs.Moments.{IsMoment}
+use Rattle.mu_engine.specs.Live.{Live, row_of, submitted}
 use Rattle.mu_engine.specs.Seats.{AreSeated, hold_of}
 use Rattle.mu_engine.proofs.Adding.{live_by, live_same, moment_grown}
 use Rattle.mu_engine.proofs.Taking.{as_many_rows, taken}
 use Rattle.mu_engine.proofs.engine.Engine.submit.Goals as goal
-
-pub grow-requires-clause-legal : goal.grow-requires-clause-legal
-grow-requires-clause-legal c = subst (λ k. IsLegal k c.self.inside.port.events) (sym c.self.invariant.same) c.self.invariant.moment.legal
 
 pub grow-requires-clause-grown : goal.grow-requires-clause-grown
 grow-requires-clause-grown c =
@@ -50,7 +44,17 @@ grow-requires-clause-room c =
 pub add_last-requires-clause-good : goal.add_last-requires-clause-good
 add_last-requires-clause-good c =
     let e = c.self.inside in
-    subst IsConfig (ap (λ k. with_more k (c.encode-row.result ∷ [])) c.self.invariant.same ∙ sym c.in_ok-copies.ensures.memory) (grow-requires-clause-grown c)
+    let command = c.next_command-command.result in
+    let row = c.encode-row.result in
+    let told = c.next_command-command.ensures in
+    let client = ap (λ (x : Request). x.client) told in
+    let number = ap (λ (x : Request). x.number) told ∙ ap (λ i. rows_before e.config i (row_count e.config) + 1) (sym client) in
+    let many = as_many_rows (live_of e).job e.port.events c.self.invariant.moment in
+    let few : row_count e.config < 1500 = omega (arith, many, c.self.invariant.few, c.if-self-eq0.false) in
+    let moment = moment_grown (live_of e).job e.port.events command row.words c.self.invariant.moment c.self.invariant.width few c.is_command.ensures number c.encode-row.ensures.words c.encode-row.ensures.client c.encode-row.ensures.number c.encode-row.ensures.rest in
+    let of : List ℕ → Row = λ ws. record { words = ws } in
+    let spelled : row ≡ row_of command = ap of c.encode-row.ensures.words in
+    subst IsConfig (sym c.in_ok-copies.ensures.memory) (subst (λ r. IsConfig (with_more e.config (r ∷ []))) (sym spelled) moment.config)
 
 pub invariant_of-self-2 : goal.invariant_of-self-2
 invariant_of-self-2 c =
