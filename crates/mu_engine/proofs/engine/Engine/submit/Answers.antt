@@ -6,9 +6,11 @@ use Rattle.mu_model.specs.Contents.{IsConfig, row_count, rows_before}
 use Rattle.mu_model.specs.Growing.{with_more}
 use Rattle.mu_engine.specs.Growing.{HaveRoom}
 use Rattle.mu_engine.specs.Inside.{live_of}
-use Rattle.mu_engine.specs.Live.{Live, row_of, submitted}
+use Rattle.mu_engine.specs.Live.{Live, next_command, row_of, submitted}
 use Rattle.mu_engine.specs.Seats.{AreSeated, hold_of}
 use Rattle.mu_engine.proofs.Adding.{live_by, live_same, moment_grown}
+use Rattle.mu_engine.specs.Moments.{GoesOn}
+use Rattle.mu_engine.proofs.Going.{goes_command, goes_still}
 use Rattle.mu_engine.proofs.Taking.{as_many_rows, taken}
 use Rattle.mu_engine.proofs.engine.Engine.submit.Goals as goal
 
@@ -92,3 +94,9 @@ returns-clause-taken c =
     live_same _ (with_more e.config (row_of command ∷ [])) _ (e.commands.items ++ command ∷ []) _ (e.room - 1) _ e.port.events _ (map hold_of e.seats.items) config c.push_reserved.ensures.items refl c.add_last.ensures.events holds
     ∙ ap (λ k. live_by (with_more e.config (row_of k ∷ [])) (e.commands.items ++ k ∷ []) (e.room - 1) e.port.events (map hold_of e.seats.items)) c.next_command-command.ensures
     ∙ ap (λ (v : Live). submitted v c.args.client c.args.op) c.self.view_is
+
+pub returns-clause-goes : goal.returns-clause-goes
+returns-clause-goes c =
+    let now = c.args.self.now in
+    let command = next_command now.job c.args.client c.args.op in
+    subst (λ (v : Live). GoesOn now.job now.events v.job v.events) (sym (returns-clause-taken c)) (goes_command now.job now.events command)
