@@ -1,5 +1,5 @@
 //! The configuration with one row more, and room for it in all replicas.
-ghost use Rattle.std.specs.Prelude.{IfOk, List, [], length, map, ◌∷◌, ◌≡◌, ◌≤◌};
+ghost use Rattle.std.specs.Prelude.{IfOk, [], length, map, ◌∷◌, ◌≡◌, ◌≤◌};
 ghost use Rattle.mu_model.specs.Contents.{IsConfig, row_count};
 ghost use Rattle.mu_model.specs.Growing.{with_more};
 ghost use Rattle.mu_model.specs.Legal.{IsLegal};
