@@ -1,10 +1,10 @@
-pub mod Adding
-pub mod Asking
-pub mod First
+mod Adding
+mod Asking
+mod First
 pub mod Going
-pub mod Holds
-pub mod Linear
-pub mod Seating
-pub mod Stepping
-pub mod Taking
-pub mod Turning
+mod Holds
+mod Linear
+mod Seating
+mod Stepping
+mod Taking
+mod Turning

@@ -1,5 +1,5 @@
 //! Telling replies.
-ghost use Rattle.std.specs.Prelude.{List, ℕ};
+ghost use Rattle.std.specs.Prelude.{List};
 ghost use Rattle.mu_input.specs.declared.job.Job.{Job};
 ghost use Rattle.mu_model.specs.declared.event.Event.{Event};
 ghost use Rattle.mu_engine.specs.Moments.{IsMoment};
