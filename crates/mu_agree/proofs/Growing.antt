@@ -119,10 +119,10 @@ grown_is_config_law c row g few rest number = record {
   ];
   batches = λ j k l more. elim (there_or_last c row j l) [
     | inl low ↦ (let b = g.batches j k low (sym (rest_kept c (row ∷ []) j low) ∙ more) in (
-        (let all = more_rows c (row ∷ []) in let next = b.0 in omega (arith, all, next)),
-        client_kept c (row ∷ []) (j + 1) b.0 ∙ b.1 ∙ sym (client_kept c (row ∷ []) j low),
-        rest_kept c (row ∷ []) (j + 1) b.0 ∙ b.2,
-      ))
+      (let all = more_rows c (row ∷ []) in let next = b.0 in omega (arith, all, next)),
+      client_kept c (row ∷ []) (j + 1) b.0 ∙ b.1 ∙ sym (client_kept c (row ∷ []) j low),
+      rest_kept c (row ∷ []) (j + 1) b.0 ∙ b.2,
+    ))
     | inr last ↦ (let none : 0 ≡ suc k = sym (no_rest j last) ∙ more in absurd (omega (arith, none)))
   ];
 }

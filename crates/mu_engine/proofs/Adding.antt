@@ -7,16 +7,16 @@ use Rattle.std.proofs.lemmas.Bool.{cases_eq, eq-eqb}
 use Rattle.std.proofs.lemmas.Option.{slice_get_within}
 use Rattle.kv_store.specs.Commands.{Request}
 use Rattle.mu_follow.specs.Groups.{AreSpelled, IsSpelled, Spells}
-use Rattle.mu_follow.proofs.Spelled.{words_kept}
 use Rattle.mu_input.specs.Batches.{followers}
 use Rattle.mu_input.specs.Heads.{HasHead, HaveHeads}
 use Rattle.mu_model.specs.declared.config.Config.{Config}
 use Rattle.mu_model.specs.declared.config.Row.{Row}
 use Rattle.mu_model.specs.declared.event.Event.{Event}
-use Rattle.mu_model.specs.Contents.{IsConfig, row_count, rows_before, word_of}
+use Rattle.mu_knowledge.specs.RowWords.{config_words}
+use Rattle.mu_model.specs.Contents.{IsConfig, client_of, row_count, rows_before, word_of}
 use Rattle.mu_model.specs.Growing.{with_more}
 use Rattle.mu_model.proofs.Basics.{same_some}
-use Rattle.mu_model.proofs.Lists.{get_push_here, get_push_other}
+use Rattle.mu_model.proofs.Lists.{get_front, get_push_here, get_push_other, item_below}
 use Rattle.mu_rows.specs.Rows.{IsCommand, spelled}
 use Rattle.mu_agree.proofs.Growing.{grown_is_config_law, legal_stays_law}
 use Rattle.mu_input.specs.declared.job.Job.{Job}
@@ -37,6 +37,21 @@ heads_push [] (first ∷ rows) command row have head = absurd have
 heads_push (first ∷ commands) [] command row have head = absurd have
 heads_push (first ∷ commands) (own ∷ rows) command row have head =
     (subst (HasHead own first) (alone first commands ∙ sym (alone first (commands ++ command ∷ []))) have.0, heads_push commands rows command row have.1 head)
+
+-- the words of a row that was there
+words_kept : (c : Config) (more : List Row) (j : ℕ) → j < row_count c → config_words (with_more c more) j ≡ config_words c j
+words_kept c more j low =
+    let x = item_below c.rows j low in
+    ap (λ o. word_of o 0 ∷ word_of o 1 ∷ word_of o 2 ∷ word_of o 3 ∷ word_of o 4 ∷ word_of o 5 ∷ word_of o 6 ∷ word_of o 7 ∷ word_of o 8 ∷ word_of o 9 ∷ word_of o 10 ∷ word_of o 11 ∷ []) (get_front c.rows more j x.0 x.1 ∙ sym x.1)
+
+-- no client has more rows before a row than there are
+pub few_before : (c : Config) (client j : ℕ) → rows_before c client j ≤ j
+few_before c client zero = omega arith
+few_before c client (suc j) = go (client_of c j == client) (few_before c client j)
+  where
+    go : (t : Bool) → rows_before c client j ≤ j → (if t then rows_before c client j + 1 else rows_before c client j) ≤ suc j
+    go true few = omega (arith, few)
+    go false few = omega (arith, few)
 
 -- the rows with one more spell the commands with one more
 pub spelled_push : (c : Config) (commands : List Request) (command : Request) → AreSpelled c commands → IsCommand command → AreSpelled (with_more c (row_of command ∷ [])) (commands ++ command ∷ [])

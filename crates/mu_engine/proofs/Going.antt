@@ -1,8 +1,9 @@
 -- What was applied, and the replies over it, stay when a session goes on.
-use Rattle.std.proofs.Common.{◌≡◌, ◌∙◌, ℕ, suc, zero, ◌+◌, ◌%◌, ◌<◌, ◌≤◌, ◌==◌, Bool, true, false, cond, List, [], ◌∷◌, ◌++◌, Some, ap, append-nil, arith, inl, inr, length, refl, subst, sym, take, ◌⊎◌}
+use Rattle.std.proofs.Common.{◌≡◌, ◌∙◌, ℕ, suc, zero, ◌+◌, ◌%◌, ◌<◌, ◌≤◌, ◌==◌, Bool, true, false, cond, List, [], ◌∷◌, ◌++◌, Some, ap, append-nil, append_assoc, arith, inl, inr, length, refl, subst, sym, take, ◌⊎◌}
 use Rattle.std.specs.List.{slice_get}
 use Rattle.std.proofs.lemmas.List.{reverse-append}
 use Rattle.kv_store.specs.Beside.{beside}
+use Rattle.kv_store.specs.Commands.{Request}
 use Rattle.kv_store.specs.Tables.{replies}
 use Rattle.mu_input.specs.declared.job.Job.{Job}
 use Rattle.mu_input.proofs.JobConfigs.{as_many}
@@ -28,6 +29,8 @@ use Rattle.mu_clients.specs.Attested.{reply_over}
 use Rattle.mu_outcome.specs.Entries.{commands_in, commands_of}
 use Rattle.mu_outcome.specs.LogsAfter.{log_after}
 use Rattle.mu_outcome.proofs.Agreeing.{applied_known, same_begun}
+use Rattle.mu_engine.specs.Laws.{GoesFurther}
+use Rattle.mu_engine.specs.Live.{row_of, with_command}
 use Rattle.mu_engine.specs.Moments.{GoesOn, IsMoment}
 
 -- an item of a front of a list is one of the list
@@ -113,8 +116,49 @@ both_low n (x ∷ xs) ys first second (suc k) i at = both_low n xs ys (λ l j th
 
 pub rows_low : (c : Config) (values : List ℕ) → IsConfig c → (k i : ℕ) → slice_get (rows_in c values) k ≡ Some i → i < row_count c
 rows_low c [] good k i at = cc
-rows_low c (v ∷ values) good = both_low (row_count c) (rows_of c v) (rows_in c values) (own (is_batch c v) refl) (rows_low c values good)
+rows_low c (v ∷ values) good k i at = both_low (row_count c) (rows_of c v) (rows_in c values) (own (is_batch c v) refl) (rows_low c values good) k i at
   where
-    own : (t : Bool) → is_batch c v ≡ t → (k i : ℕ) → slice_get (cond t (rows_from (rest_of c (v % 4096) + 1) (v % 4096)) []) k ≡ Some i → i < row_count c
-    own true batch k i at = let low = from_low (rest_of c (v % 4096) + 1) (v % 4096) k i at in let fits = (batch_there c v good batch).1 in omega (arith, low, fits)
-    own false batch k i at = cc
+    own : (t : Bool) → is_batch c v ≡ t → (l j : ℕ) → slice_get (cond t (rows_from (rest_of c (v % 4096) + 1) (v % 4096)) []) l ≡ Some j → j < row_count c
+    own true batch l j there = let low = from_low (rest_of c (v % 4096) + 1) (v % 4096) l j there in let fits = (batch_there c v good batch).1 in omega (arith, low, fits)
+    own false batch l j there = cc
+
+-- the configuration with these rows in place of its own
+abbrev with_rows : Config → List Row → Config
+with_rows c rows = record { version = c.version; width = c.width; replicas = c.replicas; ring = c.ring; budget = c.budget; rows = rows }
+
+-- a moment goes on by events
+pub goes_steps : (job : Job) (events steps : List Event) → GoesOn job events job (events ++ steps)
+goes_steps job events steps = record {
+  rows = [];
+  commands = [];
+  steps = steps;
+  config_is = ap (with_rows job.config) (sym (append-nil job.config.rows));
+  commands_are = sym (append-nil job.commands);
+  events_are = refl;
+}
+
+-- by nothing
+pub goes_still : (job : Job) (events : List Event) → GoesOn job events job events
+goes_still job events = subst (λ l. GoesOn job events job l) (append-nil events) (goes_steps job events [])
+
+-- by a command
+pub goes_command : (job : Job) (events : List Event) (command : Request) → GoesOn job events (with_command job command) events
+goes_command job events command = record {
+  rows = row_of command ∷ [];
+  commands = command ∷ [];
+  steps = [];
+  config_is = refl;
+  commands_are = refl;
+  events_are = sym (append-nil events);
+}
+
+-- and on from a later moment
+pub goes_further_law : GoesFurther
+goes_further_law job events later after last end first second = record {
+  rows = first.rows ++ second.rows;
+  commands = first.commands ++ second.commands;
+  steps = first.steps ++ second.steps;
+  config_is = second.config_is ∙ ap (λ c. with_more c second.rows) first.config_is ∙ ap (with_rows job.config) (append_assoc job.config.rows first.rows second.rows);
+  commands_are = second.commands_are ∙ ap (λ l. l ++ second.commands) first.commands_are ∙ append_assoc job.commands first.commands second.commands;
+  events_are = second.events_are ∙ ap (λ l. l ++ second.steps) first.events_are ∙ append_assoc events first.steps second.steps;
+}

@@ -49,6 +49,13 @@ pub record IsLinear (job : Job) (events : List Event) (later : Job)
       → reply_told job events r sooner ≡ Some reply → row_count job.config ≤ newer
       → StandsAfter sooner newer (rows_in later.config (log_after later.config after s))
 
+-- of three moments of a session the last goes on from the first
+abbrev pub GoesFurther : Type 0
+GoesFurther =
+    (job : Job) (events : List Event) (later : Job) (after : List Event) (last : Job)
+    (end : List Event) → GoesOn job events later after → GoesOn later after last end
+    → GoesOn job events last end
+
 -- every session is linear
 abbrev pub SessionsAreLinear : Type 0
 SessionsAreLinear =

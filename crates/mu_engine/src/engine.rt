@@ -5,7 +5,7 @@ ghost use Rattle.mu_model.specs.declared.event.Event.{Event as SomeEvent};
 ghost use Rattle.mu_model.specs.Contents.{IsConfig};
 ghost use Rattle.mu_outcome.specs.LogsAfter.{AgreesNow};
 ghost use Rattle.mu_engine.specs.Live.{after_round, changed_at, first_live, paused, stopped};
-ghost use Rattle.mu_engine.specs.Moments.{IsMoment};
+ghost use Rattle.mu_engine.specs.Moments.{GoesOn, IsMoment};
 ghost use Rattle.mu_engine.specs.Rounds.{IsRound};
 ghost use Rattle.mu_engine.specs.Shapes.{HasLimits, first_job as job_at_first};
 
@@ -112,6 +112,7 @@ impl Engine {
         ensures holds { self.new.holds ≡ map after_round self.old.holds }
         ensures steps { (steps : List SomeEvent) × (self.new.events ≡ self.old.events ++ steps)
             × IsRound self.old.job.config self.old.holds self.old.events steps }
+        ensures goes { GoesOn self.old.job self.old.events self.new.job self.new.events }
     {
         play_round(&mut self.port, self.seats.as_mut_slice());
     }

@@ -2,6 +2,7 @@
 ghost use Rattle.std.specs.Prelude.{IfOk, List, [], length, map, ◌∷◌, ◌≡◌, ◌≤◌};
 ghost use Rattle.mu_model.specs.Contents.{IsConfig, row_count};
 ghost use Rattle.mu_model.specs.Growing.{with_more};
+ghost use Rattle.mu_model.specs.Legal.{IsLegal};
 ghost use Rattle.mu_engine.specs.Growing.{AreCopies, ArePairs, HaveRoom};
 ghost use Rattle.mu_engine.specs.Seats.{AreSeated, hold_of};
 
@@ -100,6 +101,7 @@ pub(crate) fn grow(
     mut copies: Vec<(Config, Config)>,
 )
     requires config { IsConfig port.now.config }
+    requires legal { IsLegal port.now.config port.now.events }
     requires grown { IsConfig (with_more port.now.config (row.now ∷ [])) }
     requires seated { AreSeated port.now.config port.now.events seats.old }
     requires room { HaveRoom port.now.config seats.old }

@@ -5,7 +5,7 @@
 //! a legal list of that job at every moment. So each law of a legal list holds at every moment.
 #![tactic(auto)]
 
-ghost use Rattle.mu_engine.specs.Laws.{RepliesStay, SessionsAreLinear};
+ghost use Rattle.mu_engine.specs.Laws.{GoesFurther, RepliesStay, SessionsAreLinear};
 
 mod engine;
 mod growing;
@@ -34,4 +34,9 @@ pub fn sessions_are_linear()
 /// A reply that was told of a row is the one that is told of it later, by whichever replica.
 pub fn replies_stay()
     ensures { RepliesStay }
+{}
+
+/// Of three moments of a session the last goes on from the first.
+pub fn sessions_go_on()
+    ensures { GoesFurther }
 {}

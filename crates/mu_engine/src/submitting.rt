@@ -4,6 +4,7 @@ ghost use Rattle.kv_store.specs.Commands.{HasShortTexts};
 ghost use Rattle.mu_model.specs.Contents.{row_count, rows_before};
 ghost use Rattle.mu_engine.specs.declared.refusal.Refusal.{Refusal as SomeRefusal};
 ghost use Rattle.mu_engine.specs.Live.{submitted};
+ghost use Rattle.mu_engine.specs.Moments.{GoesOn};
 
 use crate::engine::Engine;
 use crate::growing::{Copies, grow, make_room};
@@ -57,6 +58,7 @@ impl Engine {
         ensures taken { IfOk result (λ row. self.new ≡ submitted self.old client op) }
         ensures refused { IfErr result (λ refusal. self.new ≡ self.old) }
         ensures full { (result ≡ Err SomeRefusal.Full) ↔ (self.old.room ≡ 0) }
+        ensures goes { GoesOn self.old.job self.old.events self.new.job self.new.events }
     {
         if self.room == 0 {
             return Err(Refusal::Full);

@@ -1,5 +1,5 @@
 -- What a node stands for, with one row more.
-use Rattle.std.proofs.Common.{◌≡◌, ◌∙◌, ◌%◌, ◌+◌, ◌<◌, ◌≤◌, ◌∷◌, List, [], Some, ap, arith, false, length, refl, subst, sym, take, true≢false, ℕ, inl}
+use Rattle.std.proofs.Common.{◌≡◌, ◌∙◌, ◌%◌, ◌+◌, ◌<◌, ◌≤◌, ◌∷◌, List, [], ap, arith, length, refl, subst, sym, take, true≢false, ℕ, inl}
 use Rattle.std.specs.Prelude.{if◌then◌else◌, vec_capacity}
 use Rattle.std.specs.List.{slice_get}
 use Rattle.kv_store.specs.Commands.{Request}
@@ -9,11 +9,10 @@ use Rattle.mu_model.specs.declared.config.Config.{Config}
 use Rattle.mu_model.specs.declared.config.Row.{Row}
 use Rattle.mu_model.specs.declared.event.Event.{Event}
 use Rattle.mu_model.specs.declared.event.Verb.{Verb}
-use Rattle.mu_model.specs.Contents.{IsConfig, rest_of, row_count}
+use Rattle.mu_model.specs.Contents.{IsConfig, row_count}
 use Rattle.mu_model.specs.Growing.{with_more}
 use Rattle.mu_model.specs.Knowledge.{applied, known}
 use Rattle.mu_model.specs.Parts.{IsPossible}
-use Rattle.mu_model.specs.Room.{reserve}
 use Rattle.mu_agree.proofs.Growing.{applied_stays_law, entry_kept, known_kept, rest_kept}
 use Rattle.mu_agree.proofs.Possible.{parts_shorten_law}
 use Rattle.mu_agree.proofs.Sessions.{row_within}
@@ -172,7 +171,6 @@ node_same c r mine old new held follow handed lead id replicas budget grants wat
       paces = λ on. absurd (true≢false (sym on));
       led = λ on. absurd (true≢false (sym on));
     }
-
 
 -- what makes room in its replayer and its leader, whatever its configuration is called
 pub follow_roomy : (c : Config) (r : ℕ) (mine : List Event) (old new : Follow) → StandsForFollow c r mine old → (StandsForFollow old.config r mine old → StandsForFollow old.config r mine new) → StandsForFollow c r mine new

@@ -13,7 +13,7 @@ use Rattle.mu_model.specs.Contents.{includes, is_batch, rest_of, rows_from, rows
 use Rattle.mu_model.proofs.Basics.{same_number}
 use Rattle.mu_model.proofs.Scans.{rows_in-append}
 use Rattle.mu_follow.specs.Groups.{group_size}
-use Rattle.mu_follow.proofs.Full.{includes_both, includes_next}
+use Rattle.mu_follow.proofs.Full.{includes_both}
 use Rattle.mu_follow.proofs.Growing.{from_below}
 use Rattle.mu_node.specs.Telling.{IsFirstAt, TellsPlace}
 use Rattle.mu_node.proofs.Answering.{take_more, take_whole}

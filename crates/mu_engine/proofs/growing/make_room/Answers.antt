@@ -18,7 +18,7 @@ make_room-requires c =
     let seats = c.loop-k.seats in
     let low : k < length seats = omega (arith, c.loop-k-test.true, c.loop-k.invariant.count) in
     let sits = c.loop-k.invariant.seated.each k _ (slice_get-get_or seats k c.index-seats-k.result low) in
-    subst IsConfig (sym sits.lives.beside.follow.config) c.requires.config
+    record { config = subst IsConfig (sym sits.lives.beside.follow.config) c.requires.config }
 
 pub loop-k-preserved : goal.loop-k-preserved
 loop-k-preserved c =
@@ -41,3 +41,30 @@ loop-k-preserved c =
       ];
       holds = held_map seats k old new at refl ∙ c.loop-k.invariant.holds;
     }
+
+pub returns-in_err-make_room-clause-seated : goal.returns-in_err-make_room-clause-seated
+returns-in_err-make_room-clause-seated c =
+    let k = c.loop-k.k in
+    let seats = c.loop-k.seats in
+    let f = c.args._port.now.config in
+    let events = c.args._port.now.events in
+    let old = slice_index_or seats k c.index-seats-k.result in
+    let new : Seat = record { node = c.make_room.new.self; hold = old.hold } in
+    let low : k < length seats = omega (arith, c.loop-k-test.true, c.loop-k.invariant.count) in
+    let at : slice_get seats k ≡ Some old = slice_get-get_or seats k c.index-seats-k.result low in
+    let sits = c.loop-k.invariant.seated.each k old at in
+    let kept : Sits f k events new = record { lives = c.make_room.ensures.keeps f k (part_of k events) sits.lives; stops = ap (λ v. v.items) c.make_room.ensures.stops ∙ sits.stops } in
+    seated_set f events seats k new kept c.loop-k.invariant.seated
+
+pub returns-in_err-make_room-clause-holds : goal.returns-in_err-make_room-clause-holds
+returns-in_err-make_room-clause-holds c =
+    let k = c.loop-k.k in
+    let seats = c.loop-k.seats in
+    let old = slice_index_or seats k c.index-seats-k.result in
+    let new : Seat = record { node = c.make_room.new.self; hold = old.hold } in
+    let low : k < length seats = omega (arith, c.loop-k-test.true, c.loop-k.invariant.count) in
+    let at : slice_get seats k ≡ Some old = slice_get-get_or seats k c.index-seats-k.result low in
+    held_map seats k old new at refl ∙ c.loop-k.invariant.holds
+
+pub returns-clause-room : goal.returns-clause-room
+returns-clause-room c = λ r seat there. (let low = slice_get_within c.loop-k.seats r seat there in c.loop-k.invariant.room r seat (omega (arith, low, c.loop-k-test.false, c.loop-k.invariant.count)) there)

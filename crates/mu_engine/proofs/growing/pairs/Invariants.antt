@@ -7,6 +7,6 @@ use Rattle.mu_engine.proofs.growing.pairs.Given as goal
 abbrev pub invariant-loop : goal.invariant-loop
 invariant-loop l = record {
   room : vec_capacity l.pairs ≡ l.nodes;
-  count : length l.pairs.items ≡ l.index;
+  count : length l.pairs.items ≡ l.counter;
   pairs : ArePairs (with_more l.config (l.row ∷ [])) l.pairs.items;
 }

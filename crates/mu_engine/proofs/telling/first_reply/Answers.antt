@@ -30,7 +30,7 @@ loop-seat-preserved c job events at seated s low = elim (cases_lt s c.loop-seat.
       let found = slice_get-get_or seats r seat c.loop-seat-test.true ∙ ap (λ x. Some x) (sym c.seat-item.is) in
       let sits = seated.each r seat found in
       let told = c.reply_to.ensures job.config r (part r (history events)) job.commands at.config (part_is_possible job.config r (history events) at.legal) at.spelled sits.lives in
-      subst (λ i. reply_told job events i c.args.row ≡ None) here (sym (told_by_node job events r c.args.row c.reply_to.result told) ∙ c.in-None.is)
+      subst (λ i. reply_told job events i c.args.row ≡ None) here (sym (told_by_node job events r c.args.row c.reply_to.result told) ∙ c.in_default.is)
 ]
 
 pub returns : goal.returns

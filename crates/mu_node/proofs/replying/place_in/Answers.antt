@@ -1,5 +1,4 @@
-use Rattle.std.proofs.Common.{◌∙◌, ◌+◌, ◌≡◌, Some, arith, get_or, length, subst, sym}
-use Rattle.std.specs.List.{slice_get}
+use Rattle.std.proofs.Common.{◌+◌, ◌≡◌, arith, get_or, subst, sym}
 use Rattle.std.proofs.lemmas.Option.{slice_get-get_or}
 use Rattle.mu_model.specs.Contents.{rows_in, rows_of}
 use Rattle.mu_node.specs.Telling.{IsFirstAt, TellsPlace}

@@ -1,6 +1,4 @@
-use Rattle.std.proofs.Common.{◌∙◌, ◌%◌, ◌+◌, ◌≡◌, arith, subst, sym}
-use Rattle.mu_model.specs.Contents.{rows_of}
-use Rattle.mu_node.specs.Telling.{IsFirstAt}
+use Rattle.std.proofs.Common.{arith}
 use Rattle.mu_node.proofs.Telling.{row_above, row_below, row_place}
 use Rattle.mu_node.proofs.replying.place_in_entry.Goals as goal
 

@@ -2,9 +2,12 @@ use Rattle.std.proofs.Common.{◌≡◌, ◌∙◌, ◌++◌, List, ap, drop, le
 use Rattle.std.proofs.lemmas.List.{take_at}
 use Rattle.mu_model.specs.declared.event.Event.{Event}
 use Rattle.mu_model.specs.Contents.{IsConfig}
+use Rattle.mu_engine.specs.Inside.{live_of}
 use Rattle.mu_engine.specs.Live.{Live, after_round}
+use Rattle.mu_engine.specs.Moments.{GoesOn}
 use Rattle.mu_engine.specs.Rounds.{IsRound}
 use Rattle.mu_engine.specs.Seats.{AreSeated, hold_of}
+use Rattle.mu_engine.proofs.Going.{goes_steps}
 use Rattle.mu_engine.proofs.Taking.{kept}
 use Rattle.mu_engine.proofs.engine.Engine.round.Goals as goal
 
@@ -39,3 +42,11 @@ returns-clause-steps c =
     let round = subst (λ l. IsRound e.port.config (map hold_of l) e.port.events steps.0) c.as_mut_slice.ensures.value steps.2 in
     let own = subst (λ k. IsRound k (map hold_of e.seats.items) e.port.events steps.0) c.self.invariant.same round in
     subst (λ (v : Live). (steps : List Event) × (new ≡ v.events ++ steps) × IsRound v.job.config v.holds v.events steps) c.self.view_is (steps.0, steps.1, own)
+
+pub returns-clause-goes : goal.returns-clause-goes
+returns-clause-goes c =
+    let e = c.self.inside in
+    let steps = c.play_round.ensures.steps in
+    let new = c.play_round.new.port.events in
+    subst (λ (v : Live). GoesOn v.job v.events (live_of e).job new) c.self.view_is
+    (subst (λ l. GoesOn (live_of e).job e.port.events (live_of e).job l) (sym steps.1) (goes_steps (live_of e).job e.port.events steps.0))

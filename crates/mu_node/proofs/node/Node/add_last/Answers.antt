@@ -1,4 +1,4 @@
-use Rattle.std.proofs.Common.{[], ◌∷◌, ◌∙◌, ap, arith, length, refl, subst, sym}
+use Rattle.std.proofs.Common.{[], ◌∷◌, ap, arith, length, refl, subst, sym}
 use Rattle.mu_model.specs.Contents.{IsConfig, row_count}
 use Rattle.mu_model.specs.Growing.{with_more}
 use Rattle.mu_model.specs.Parts.{IsPossible}

@@ -3,7 +3,6 @@ use Rattle.mu_model.specs.Contents.{row_count}
 use Rattle.mu_model.specs.Room.{reserve}
 use Rattle.mu_follow.specs.Follow.{StandsForFollow}
 use Rattle.mu_follow.specs.Growing.{HasRoomToFollow}
-use Rattle.mu_node.specs.Node.{StandsForLead}
 use Rattle.mu_node.proofs.Growing.{follow_roomy, lead_roomy, node_same}
 use Rattle.mu_node.proofs.node.Node.make_room.Goals as goal
 

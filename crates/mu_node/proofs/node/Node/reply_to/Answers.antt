@@ -1,6 +1,5 @@
-use Rattle.std.proofs.Common.{◌∙◌, ◌<◌, ap, arith, length, subst, sym, take, None, Some}
+use Rattle.std.proofs.Common.{◌∙◌, ap, arith, subst, sym, take}
 use Rattle.std.specs.List.{slice_get}
-use Rattle.kv_store.specs.Beside.{beside}
 use Rattle.kv_store.specs.Tables.{replies}
 use Rattle.mu_model.specs.Contents.{rows_in}
 use Rattle.mu_model.specs.Knowledge.{applied}
