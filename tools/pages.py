@@ -36,16 +36,17 @@ OTHER_END = "; or, if it has none, in place of the last words: "
 
 # The most words of a page, all of them; of these pages without examples, tables and pictures.
 MOST_WORDS = {
-    "README.md": 1_100,
+    "README.md": 1_150,
     "docs/AGREEMENT.md": 1_300,
     "docs/ALIVE.md": 2_900,
-    "docs/DECISIONS.md": 2_060,
-    "docs/FORMATS.md": 3_460,
+    "docs/DECISIONS.md": 2_180,
+    "docs/ENGINE.md": 900,
+    "docs/FORMATS.md": 3_860,
     "docs/MEASURED.md": 1_800,
     "docs/PACE.md": 1_750,
     "docs/PAPER.md": 950,
     "docs/PROTOCOL.md": 3_000,
-    "docs/PROVED.md": 4_450,
+    "docs/PROVED.md": 4_760,
     "docs/READING.md": 850,
     "docs/SCENES.md": 1_820,
     "docs/THREADS.md": 1_800,
@@ -54,7 +55,7 @@ MOST_WORDS = {
 }
 COUNTED_BARE = {"README.md"}
 # The most words of all pages together, as `wc -w README.md docs/*.md` counts them.
-MOST_IN_SUM = 40_000
+MOST_IN_SUM = 41_800
 
 
 def files():
