@@ -39,7 +39,7 @@ MOST_WORDS = {
     "README.md": 1_150,
     "docs/AGREEMENT.md": 1_300,
     "docs/ALIVE.md": 2_900,
-    "docs/DECISIONS.md": 2_180,
+    "docs/DECISIONS.md": 2_240,
     "docs/ENGINE.md": 900,
     "docs/FORMATS.md": 3_860,
     "docs/MEASURED.md": 1_800,
@@ -55,7 +55,7 @@ MOST_WORDS = {
 }
 COUNTED_BARE = {"README.md"}
 # The most words of all pages together, as `wc -w README.md docs/*.md` counts them.
-MOST_IN_SUM = 41_800
+MOST_IN_SUM = 42_000
 
 
 def files():
