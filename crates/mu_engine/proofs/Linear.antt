@@ -121,11 +121,10 @@ order_goes : (job : Job) (events : List Event) (later : Job) (after : List Event
     → IsPrefixOf (order_after job events) (order_after later after)
 order_goes job events later after was is goes =
     let old = longest_after job.config events in
-    let begins = longest_goes job events later after was is goes in
-    (
+    let begins = longest_goes job events later after was is goes in (
       commands_in later begins.0,
       ap (commands_in later) begins.1 ∙ commands_in-append later old begins.0
-      ∙ ap (λ l. l ++ commands_in later begins.0) (commands_stay job events later after old was is goes (longest_entries job events was)),
+          ∙ ap (λ l. l ++ commands_in later begins.0) (commands_stay job events later after old was is goes (longest_entries job events was)),
     )
 
 -- a command that came after a reply was told stands behind that reply's
@@ -134,11 +133,11 @@ pub in_time : (job : Job) (events : List Event) (later : Job) (after : List Even
     → StandsAfter sooner newer (rows_in later.config (log_after later.config after s))
 in_time job events later after r s sooner newer reply was is goes told high k at = elim (lists_agree old now agree) [
   | inl begins ↦ (elim (split_at (rows_in c old) (rows_in c begins.0) k newer (subst (λ l. slice_get l k ≡ Some newer) (rows_on old now begins) at)) [
-      | inl there ↦ absurd (never k there)
-      | inr long ↦ (
-          let within = slice_get_within (rows_in c old) seen.0 sooner seen.1 in
-          (seen.0, omega (arith, within, long), subst (λ l. slice_get l seen.0 ≡ Some sooner) (sym (rows_on old now begins)) (get_front (rows_in c old) (rows_in c begins.0) seen.0 sooner seen.1)))
-    ])
+    | inl there ↦ absurd (never k there)
+    | inr long ↦ (
+        let within = slice_get_within (rows_in c old) seen.0 sooner seen.1 in
+        (seen.0, omega (arith, within, long), subst (λ l. slice_get l seen.0 ≡ Some sooner) (sym (rows_on old now begins)) (get_front (rows_in c old) (rows_in c begins.0) seen.0 sooner seen.1)))
+  ])
   | inr begins ↦ absurd (never k (subst (λ l. slice_get l k ≡ Some newer) (sym (rows_on now old begins)) (get_front (rows_in c now) (rows_in c begins.0) k newer at)))
 ]
   where

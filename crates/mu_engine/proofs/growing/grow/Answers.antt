@@ -27,8 +27,7 @@ grow-requires c =
     let at : slice_get seats k ≡ Some old = slice_get-get_or seats k c.index-seats-k.result low in
     let was : slice_get c.args.seats.now k ≡ Some old = sym (c.loop-k.invariant.ahead k (omega arith)) ∙ at in
     let sits = c.requires.seated.each k old was in
-    let pair = popped g c.loop-k.copies.items c.pop.new.self.items c.pop.result c.in-Some.pair c.pop.ensures.items c.in-Some.is c.loop-k.invariant.pairs in
-    (
+    let pair = popped g c.loop-k.copies.items c.pop.new.self.items c.pop.result c.in-Some.pair c.pop.ensures.items c.in-Some.is c.loop-k.invariant.pairs in (
       refl,
       (
         c.requires.config,
