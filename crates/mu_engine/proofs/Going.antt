@@ -1,5 +1,5 @@
 -- What was applied, and the replies over it, stay when a session goes on.
-use Rattle.std.proofs.Common.{◌≡◌, ◌∙◌, ℕ, suc, zero, ◌+◌, ◌%◌, ◌<◌, ◌≤◌, ◌==◌, Bool, true, false, cond, List, [], ◌∷◌, ◌++◌, Some, ap, append-nil, append_assoc, arith, inl, inr, length, refl, subst, sym, take, ◌⊎◌}
+use Rattle.std.proofs.Common.{◌≡◌, ◌∙◌, ℕ, suc, zero, ◌+◌, ◌%◌, ◌<◌, ◌≤◌, ◌==◌, Bool, true, false, cond, List, [], ◌∷◌, ◌++◌, Some, ap, append-nil, append_assoc, arith, inl, inr, length, refl, subst, sym, take}
 use Rattle.std.specs.List.{slice_get}
 use Rattle.std.proofs.lemmas.List.{reverse-append}
 use Rattle.kv_store.specs.Beside.{beside}
@@ -46,9 +46,9 @@ applied_along c r (e ∷ newer) mine = let rest = applied_along c r newer mine i
 pub applied_begins : (c : Config) (r : ℕ) (newer mine : List Event) → IsPrefixOf (applied c r mine) (applied c r (newer ++ mine))
 applied_begins c r newer mine = elim (lists_agree (applied c r mine) (applied c r (newer ++ mine)) (λ i v w a b.
     same_some v w (sym (get_begun (known c r mine) (known c r (newer ++ mine)) i v (known_stays c r newer mine) (applied_known c r i v mine a)) ∙ applied_known c r i w (newer ++ mine) b))) [
-  | inl begins ↦ begins
-  | inr begins ↦ ([], sym (append-nil (applied c r mine) ∙ same_begun (applied c r (newer ++ mine)) (applied c r mine) begins (applied_along c r newer mine)))
-]
+      | inl begins ↦ begins
+      | inr begins ↦ ([], sym (append-nil (applied c r mine) ∙ same_begun (applied c r (newer ++ mine)) (applied c r mine) begins (applied_along c r newer mine)))
+    ]
 
 -- a log begins the one at a later moment, also if rows were added
 pub log_stays : (c : Config) (more : List Row) (older newer : List Event) (r : ℕ) → IsConfig c → IsConfig (with_more c more) → IsLegal c older

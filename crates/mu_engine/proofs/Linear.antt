@@ -1,19 +1,18 @@
 -- Every session is linear.
-use Rattle.std.proofs.Common.{◌≡◌, ◌∙◌, ℕ, suc, zero, ◌<◌, ◌≤◌, List, [], ◌∷◌, ◌++◌, None, Some, ap, append_assoc, arith, drop, inl, inr, length, refl, subst, sym, take, true, false, Bool, ◌⊎◌}
+use Rattle.std.proofs.Common.{◌≡◌, ◌∙◌, ℕ, suc, ◌<◌, ◌≤◌, List, [], ◌∷◌, ◌++◌, Some, ap, append_assoc, arith, drop, inl, inr, refl, subst, sym, true, false, Bool}
 use Rattle.std.specs.Prelude.{if◌then◌else◌, ◌==◌}
 use Rattle.std.specs.List.{slice_get}
 use Rattle.std.proofs.lemmas.Bool.{eqb-true}
 use Rattle.std.proofs.lemmas.List.{take-append-drop}
 use Rattle.std.proofs.lemmas.Option.{slice_get_within}
 use Rattle.kv_store.specs.Beside.{beside}
-use Rattle.kv_store.specs.Commands.{Request}
 use Rattle.kv_store.specs.Sessions.{IsInSession}
 use Rattle.kv_store.specs.Tables.{replies}
 use Rattle.kv_store.specs.declared.store.Reply.{Reply}
 use Rattle.mu_input.specs.declared.job.Job.{Job}
 use Rattle.mu_model.specs.declared.config.Config.{Config}
 use Rattle.mu_model.specs.declared.event.Event.{Event}
-use Rattle.mu_model.specs.Contents.{IsConfig, row_count, rows_in}
+use Rattle.mu_model.specs.Contents.{row_count, rows_in}
 use Rattle.mu_model.specs.Histories.{IsPrefixOf, history, part}
 use Rattle.mu_model.proofs.Basics.{same_some}
 use Rattle.mu_model.proofs.Lists.{get_front}
@@ -31,7 +30,7 @@ use Rattle.mu_outcome.proofs.Agreeing.{applied_known}
 use Rattle.mu_outcome.proofs.LogCommands.{commands_in-append}
 use Rattle.mu_outcome.proofs.LogsAgreeing.{begins_longest, logs_agree_law, longest_among}
 use Rattle.mu_outcome.proofs.Spelled.{spell_at, spell_in}
-use Rattle.mu_engine.specs.Laws.{IsLinear, IsReplyOf, IsSequential, RepliesStay, SessionsAreLinear, order_after}
+use Rattle.mu_engine.specs.Laws.{IsReplyOf, IsSequential, RepliesStay, SessionsAreLinear, order_after}
 use Rattle.mu_engine.specs.Moments.{GoesOn, IsMoment}
 use Rattle.mu_engine.specs.Telling.{handed_log, reply_told}
 use Rattle.mu_engine.proofs.Going.{commands_stay, get_begun, log_goes, over_stays, rows_low, rows_stay}
@@ -121,11 +120,10 @@ order_goes : (job : Job) (events : List Event) (later : Job) (after : List Event
     → IsPrefixOf (order_after job events) (order_after later after)
 order_goes job events later after was is goes =
     let old = longest_after job.config events in
-    let begins = longest_goes job events later after was is goes in
-    (
+    let begins = longest_goes job events later after was is goes in (
       commands_in later begins.0,
       ap (commands_in later) begins.1 ∙ commands_in-append later old begins.0
-      ∙ ap (λ l. l ++ commands_in later begins.0) (commands_stay job events later after old was is goes (longest_entries job events was)),
+          ∙ ap (λ l. l ++ commands_in later begins.0) (commands_stay job events later after old was is goes (longest_entries job events was)),
     )
 
 -- a command that came after a reply was told stands behind that reply's
@@ -134,11 +132,11 @@ pub in_time : (job : Job) (events : List Event) (later : Job) (after : List Even
     → StandsAfter sooner newer (rows_in later.config (log_after later.config after s))
 in_time job events later after r s sooner newer reply was is goes told high k at = elim (lists_agree old now agree) [
   | inl begins ↦ (elim (split_at (rows_in c old) (rows_in c begins.0) k newer (subst (λ l. slice_get l k ≡ Some newer) (rows_on old now begins) at)) [
-      | inl there ↦ absurd (never k there)
-      | inr long ↦ (
-          let within = slice_get_within (rows_in c old) seen.0 sooner seen.1 in
-          (seen.0, omega (arith, within, long), subst (λ l. slice_get l seen.0 ≡ Some sooner) (sym (rows_on old now begins)) (get_front (rows_in c old) (rows_in c begins.0) seen.0 sooner seen.1)))
-    ])
+    | inl there ↦ absurd (never k there)
+    | inr long ↦ (
+        let within = slice_get_within (rows_in c old) seen.0 sooner seen.1 in
+        (seen.0, omega (arith, within, long), subst (λ l. slice_get l seen.0 ≡ Some sooner) (sym (rows_on old now begins)) (get_front (rows_in c old) (rows_in c begins.0) seen.0 sooner seen.1)))
+  ])
   | inr begins ↦ absurd (never k (subst (λ l. slice_get l k ≡ Some newer) (sym (rows_on now old begins)) (get_front (rows_in c now) (rows_in c begins.0) k newer at)))
 ]
   where

@@ -1,4 +1,4 @@
-use Rattle.std.proofs.Common.{◌≡◌, ◌∙◌, ◌+◌, ◌-◌, ◌<◌, ◌≤◌, ◌++◌, ◌∷◌, [], List, ap, arith, drop, length, map, refl, subst, sym, ℕ}
+use Rattle.std.proofs.Common.{◌≡◌, ◌∙◌, ◌+◌, ◌-◌, ◌<◌, ◌++◌, ◌∷◌, [], List, ap, arith, drop, length, map, refl, subst, sym, ℕ}
 use Rattle.std.proofs.lemmas.List.{take_at}
 use Rattle.kv_store.specs.Commands.{Request}
 use Rattle.mu_model.specs.declared.config.Row.{Row}
