@@ -1,5 +1,5 @@
 -- An engine before any command and any event.
-use Rattle.std.proofs.Common.{◌≡◌, ℕ, suc, zero, ◌<◌, true, List, [], ◌∷◌, ◌++◌, ap, arith, inr, refl, replicate}
+use Rattle.std.proofs.Common.{◌≡◌, ℕ, suc, zero, ◌<◌, true, [], ◌∷◌, ◌++◌, ap, arith, inr, refl, replicate}
 use Rattle.mu_follow.specs.Groups.{AreSpelled}
 use Rattle.mu_model.specs.declared.config.Config.{Config}
 use Rattle.mu_model.specs.Contents.{IsConfig}

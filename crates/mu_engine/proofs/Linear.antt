@@ -1,19 +1,18 @@
 -- Every session is linear.
-use Rattle.std.proofs.Common.{◌≡◌, ◌∙◌, ℕ, suc, zero, ◌<◌, ◌≤◌, List, [], ◌∷◌, ◌++◌, None, Some, ap, append_assoc, arith, drop, inl, inr, length, refl, subst, sym, take, true, false, Bool, ◌⊎◌}
+use Rattle.std.proofs.Common.{◌≡◌, ◌∙◌, ℕ, suc, ◌<◌, ◌≤◌, List, [], ◌∷◌, ◌++◌, Some, ap, append_assoc, arith, drop, inl, inr, refl, subst, sym, true, false, Bool}
 use Rattle.std.specs.Prelude.{if◌then◌else◌, ◌==◌}
 use Rattle.std.specs.List.{slice_get}
 use Rattle.std.proofs.lemmas.Bool.{eqb-true}
 use Rattle.std.proofs.lemmas.List.{take-append-drop}
 use Rattle.std.proofs.lemmas.Option.{slice_get_within}
 use Rattle.kv_store.specs.Beside.{beside}
-use Rattle.kv_store.specs.Commands.{Request}
 use Rattle.kv_store.specs.Sessions.{IsInSession}
 use Rattle.kv_store.specs.Tables.{replies}
 use Rattle.kv_store.specs.declared.store.Reply.{Reply}
 use Rattle.mu_input.specs.declared.job.Job.{Job}
 use Rattle.mu_model.specs.declared.config.Config.{Config}
 use Rattle.mu_model.specs.declared.event.Event.{Event}
-use Rattle.mu_model.specs.Contents.{IsConfig, row_count, rows_in}
+use Rattle.mu_model.specs.Contents.{row_count, rows_in}
 use Rattle.mu_model.specs.Histories.{IsPrefixOf, history, part}
 use Rattle.mu_model.proofs.Basics.{same_some}
 use Rattle.mu_model.proofs.Lists.{get_front}
@@ -31,7 +30,7 @@ use Rattle.mu_outcome.proofs.Agreeing.{applied_known}
 use Rattle.mu_outcome.proofs.LogCommands.{commands_in-append}
 use Rattle.mu_outcome.proofs.LogsAgreeing.{begins_longest, logs_agree_law, longest_among}
 use Rattle.mu_outcome.proofs.Spelled.{spell_at, spell_in}
-use Rattle.mu_engine.specs.Laws.{IsLinear, IsReplyOf, IsSequential, RepliesStay, SessionsAreLinear, order_after}
+use Rattle.mu_engine.specs.Laws.{IsReplyOf, IsSequential, RepliesStay, SessionsAreLinear, order_after}
 use Rattle.mu_engine.specs.Moments.{GoesOn, IsMoment}
 use Rattle.mu_engine.specs.Telling.{handed_log, reply_told}
 use Rattle.mu_engine.proofs.Going.{commands_stay, get_begun, log_goes, over_stays, rows_low, rows_stay}

@@ -1,5 +1,5 @@
 -- The steps of a round, one replica after the other.
-use Rattle.std.proofs.Common.{◌≡◌, ◌∙◌, ℕ, suc, zero, ◌+◌, ◌<◌, ◌==◌, true, List, [], ◌∷◌, ◌++◌, Some, ap, append_assoc, arith, inl, inr, length, refl, reverse, subst, sym, ◌⊎◌}
+use Rattle.std.proofs.Common.{◌≡◌, ◌∙◌, ℕ, suc, ◌+◌, ◌<◌, ◌==◌, true, List, [], ◌∷◌, ◌++◌, Some, ap, append_assoc, arith, inl, inr, length, refl, reverse, subst, sym, ◌⊎◌}
 use Rattle.std.specs.List.{slice_get}
 use Rattle.std.proofs.lemmas.Bool.{cases_eq, cases_lt, ne_eqb}
 use Rattle.std.proofs.lemmas.List.{reverse-append}

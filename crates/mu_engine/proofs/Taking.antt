@@ -1,5 +1,5 @@
 -- An engine that took one command more, or that played a round.
-use Rattle.std.proofs.Common.{◌≡◌, ◌∙◌, ℕ, ◌+◌, ◌≤◌, List, [], ◌∷◌, ◌++◌, None, Some, ap, arith, length, refl, subst, sym}
+use Rattle.std.proofs.Common.{◌≡◌, ◌∙◌, ◌+◌, List, [], ◌∷◌, ◌++◌, Some, ap, arith, length, refl, subst, sym}
 use Rattle.std.specs.Prelude.{option_to_list, vec_capacity}
 use Rattle.std.specs.declared.option.Option.{Option}
 use Rattle.std.specs.List.{slice_get}
@@ -12,7 +12,6 @@ use Rattle.mu_model.specs.declared.event.Event.{Event}
 use Rattle.mu_model.specs.Contents.{row_count}
 use Rattle.mu_model.specs.Growing.{with_more}
 use Rattle.mu_model.specs.Legal.{IsLegal}
-use Rattle.mu_model.proofs.Basics.{same_some}
 use Rattle.mu_model.proofs.Lists.{get_front, get_push_here}
 use Rattle.mu_input.proofs.JobConfigs.{as_many}
 use Rattle.mu_engine.specs.declared.engine.Engine.TheInside as engine

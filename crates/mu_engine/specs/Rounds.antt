@@ -1,5 +1,5 @@
 -- round: what the replicas do in one round: in order of id each that nothing holds takes one turn.
-use Rattle.std.specs.Prelude.{List, Some, [], length, true, ℕ, ◌<◌, ◌≡◌, ◌⊎◌}
+use Rattle.std.specs.Prelude.{List, Some, true, ℕ, ◌<◌, ◌≡◌, ◌⊎◌}
 use Rattle.std.specs.List.{slice_get}
 use Rattle.mu_model.specs.declared.config.Config.{Config}
 use Rattle.mu_model.specs.declared.event.Event.{Event}

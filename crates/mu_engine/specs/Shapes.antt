@@ -1,5 +1,5 @@
 -- within limits, first job: what an engine may be started with, and its job before any command.
-use Rattle.std.specs.Prelude.{[], ℕ, ◌≤◌}
+use Rattle.std.specs.Prelude.{[], ◌≤◌}
 use Rattle.mu_input.specs.declared.job.Job.{Job}
 use Rattle.mu_model.specs.declared.config.Config.{Config}
 use Rattle.mu_model.specs.declared.script.Script.{Script}

@@ -1,4 +1,4 @@
-use Rattle.std.proofs.Common.{◌≡◌, ◌∙◌, ◌<◌, ◌+◌, ◌++◌, suc, List, Some, [], ap, append-nil, arith, length, length-set, map, set, subst, sym}
+use Rattle.std.proofs.Common.{◌≡◌, ◌∙◌, ◌<◌, ◌+◌, ◌++◌, suc, List, Some, ap, arith, length, length-set, map, subst, sym}
 use Rattle.std.specs.Prelude.{slice_index_or}
 use Rattle.std.specs.List.{slice_get}
 use Rattle.std.proofs.lemmas.List.{length-map}
@@ -10,7 +10,7 @@ use Rattle.mu_engine.specs.Rounds.{AreSteps}
 use Rattle.mu_engine.specs.Seats.{hold_of}
 use Rattle.mu_engine.proofs.Holds.{aged, aged_all, aged_next, changed_map, hold_there}
 use Rattle.mu_engine.proofs.Seating.{plays_there, seated_on, sits_own, sits_there}
-use Rattle.mu_engine.proofs.Stepping.{none_yet, steps_on}
+use Rattle.mu_engine.proofs.Stepping.{steps_on}
 use Rattle.mu_engine.proofs.rounds.play_round.Goals as goal
 
 pub play-requires-clause-inside : goal.play-requires-clause-inside

@@ -1,9 +1,10 @@
-use Rattle.std.proofs.Common.{◌≡◌, ◌∙◌, ◌+◌, ◌-◌, ◌<◌, ◌≤◌, ◌++◌, ◌∷◌, [], List, ap, arith, drop, length, map, refl, subst, sym, ℕ}
+use Rattle.std.proofs.Common.{◌≡◌, ◌∙◌, ◌+◌, ◌-◌, ◌<◌, ◌++◌, ◌∷◌, [], List, ap, arith, drop, length, map, refl, subst, sym, ℕ}
 use Rattle.std.proofs.lemmas.List.{take_at}
 use Rattle.kv_store.specs.Commands.{Request}
 use Rattle.mu_model.specs.declared.config.Row.{Row}
 use Rattle.mu_model.specs.Contents.{IsConfig, row_count, rows_before}
 use Rattle.mu_model.specs.Growing.{with_more}
+use Rattle.mu_model.specs.Legal.{IsLegal}
 use Rattle.mu_engine.specs.Growing.{HaveRoom}
 use Rattle.mu_engine.specs.Inside.{live_of}
 use Rattle.mu_engine.specs.Live.{Live, next_command, row_of, submitted}
@@ -11,7 +12,7 @@ use Rattle.mu_engine.specs.Seats.{AreSeated, hold_of}
 use Rattle.mu_engine.proofs.Adding.{live_by, live_same, moment_grown}
 use Rattle.mu_engine.specs.Moments.{GoesOn}
 use Rattle.mu_engine.proofs.Going.{goes_command, goes_still}
-use Rattle.mu_engine.proofs.Taking.{as_many_rows, taken}
+use Rattle.mu_engine.proofs.Taking.{as_many_rows, kept, taken}
 use Rattle.mu_engine.proofs.engine.Engine.submit.Goals as goal
 
 pub grow-requires-clause-grown : goal.grow-requires-clause-grown
@@ -100,3 +101,22 @@ returns-clause-goes c =
     let now = c.args.self.now in
     let command = next_command now.job c.args.client c.args.op in
     subst (λ (v : Live). GoesOn now.job now.events v.job v.events) (sym (returns-clause-taken c)) (goes_command now.job now.events command)
+
+pub returns-then-self-eq0-clause-goes : goal.returns-then-self-eq0-clause-goes
+returns-then-self-eq0-clause-goes c = goes_still c.args.self.now.job c.args.self.now.events
+
+pub returns-in_err-copies-clause-goes : goal.returns-in_err-copies-clause-goes
+returns-in_err-copies-clause-goes c = goes_still c.args.self.now.job c.args.self.now.events
+
+pub invariant_of-self : goal.invariant_of-self
+invariant_of-self c =
+    let e = c.self.inside in
+    let one = c.make_room.new.seats in
+    let back = take_at one (drop (length one) e.seats.items) e.seats.len (c.make_room.auto.seats ∙ c.as_mut_slice.ensures.len) in
+    kept e _ c.self.invariant refl refl refl refl refl (subst (λ k. IsLegal k e.port.events) (sym c.self.invariant.same) c.self.invariant.moment.legal)
+    (subst (λ l. AreSeated e.port.config e.port.events l) (sym back) c.make_room.ensures.seated)
+
+pub returns-in_err-make_room-clause-goes : goal.returns-in_err-make_room-clause-goes
+returns-in_err-make_room-clause-goes c =
+    let now = c.args.self.now in
+    subst (λ (v : Live). GoesOn now.job now.events v.job v.events) (sym c.self.view_is) (goes_still now.job now.events)

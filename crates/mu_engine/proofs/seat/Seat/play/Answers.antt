@@ -1,6 +1,5 @@
-use Rattle.std.proofs.Common.{◌≡◌, ◌∙◌, ap, inl, refl, sym}
+use Rattle.std.proofs.Common.{◌∙◌, ap, inl, refl, sym}
 use Rattle.std.proofs.lemmas.Bool.{true≢false}
-use Rattle.mu_engine.specs.Seats.{part_of}
 use Rattle.mu_engine.specs.Shapes.{no_script}
 use Rattle.mu_engine.proofs.Turning.{plays_on, turned}
 use Rattle.mu_engine.proofs.seat.Seat.play.Goals as goal
