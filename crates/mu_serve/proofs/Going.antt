@@ -1,5 +1,5 @@
 -- A session goes on, line by line.
-use Rattle.std.proofs.Common.{◌≡◌, ℕ, zero, suc, ◌+◌, ◌<◌, ◌≤◌, ◌==◌, Bool, true, false, List, [], ◌∷◌, ◌++◌, length, refl, sym, ap, subst, ◌∙◌, append_assoc, append-nil, arith, length-append}
+use Rattle.std.proofs.Common.{◌≡◌, ◌⊎◌, ℕ, zero, suc, ◌+◌, ◌<◌, ◌≤◌, ◌==◌, Bool, true, false, List, [], ◌∷◌, ◌++◌, length, inl, inr, refl, sym, ap, subst, ◌∙◌, append_assoc, append-nil, arith, length-append}
 use Rattle.std.proofs.lemmas.Bool.{true≢false}
 use Rattle.std.proofs.lemmas.List.{flat_map_more}
 use Rattle.std.proofs.KnownBytes.{Appends-nil, Appends-trans, Consumes-nil, Consumes-trans}
@@ -11,7 +11,8 @@ use Rattle.mu_input.specs.Readings.{Line, Says, Wrong}
 use Rattle.mu_report.specs.Responses.{responses_text}
 use Rattle.mu_report.specs.declared.responses.Response.{Response}
 use Rattle.mu_text.specs.Lines.{lines}
-use Rattle.mu_serve.specs.Incoming.{MayFollow}
+use Rattle.mu_serve.proofs.LinesSoFar.{gave_after}
+use Rattle.mu_serve.specs.Incoming.{FindsNone, MayFollow}
 use Rattle.mu_serve.specs.NextLines.{AnswersNext, Moment}
 use Rattle.mu_serve.specs.UnderWay.{UnderWay}
 use Rattle.mu_serve.specs.SessionLines.{said_of}
@@ -116,7 +117,10 @@ goes_on replicas first between now so step =
           takes.line so.answered
           (so.cut (takes.taken ++ more) (follows between.incoming.is_over _ takes.going))
           (takes.cut more may);
-      last = takes.last;
+      last = λ over. (
+        (takes.last over).0,
+        gave_after first.left between.left so.taken takes.taken so.consumed (takes.last over).1,
+      );
       same_read = next.same_read ∙ so.same_read;
       written = subst (Appends first.written now.written)
           (flat_map_more responses_text [] so.answers step.responses)
@@ -124,3 +128,12 @@ goes_on replicas first between now so step =
       same_wrote = step.same_wrote ∙ so.same_wrote;
       count = omega (arith, so.count, counts, takes.fewer);
     }
+
+-- no line is left: because the last was taken, or nothing came
+pub end_found : (before after : Moment) (over : Bool) → before.incoming.is_over ≡ over
+    → (before.incoming.is_over ≡ true → after.left ≡ before.left)
+    → (before.incoming.is_over ≡ false → FindsNone before.left after.left before.incoming)
+    → ((before.incoming.is_over ≡ true) × (after.left ≡ before.left))
+    ⊎ FindsNone before.left after.left before.incoming
+end_found before after true is same none = inl (is, same is)
+end_found before after false is same none = inr (none is)

@@ -5,7 +5,7 @@ use Rattle.std.proofs.Math.Seq.{take-append-add}
 use Rattle.std.proofs.lemmas.List.{flat_map_more}
 use Rattle.std.specs.Prelude.{MatchBool}
 use Rattle.std.specs.declared.option.Option.{Option}
-use Rattle.std.specs.Io.KnownBytes.{Appends, Consumes, IsAtEnd}
+use Rattle.std.specs.Io.KnownBytes.{Appends, Consumes}
 use Rattle.std.specs.List.{flat_map}
 use Rattle.mu_io.specs.Faults.{Rose}
 use Rattle.mu_io.specs.declared.whole.ReadEnd.{ReadEnd}
@@ -20,8 +20,9 @@ use Rattle.mu_report.specs.declared.said.Said.{Said}
 use Rattle.mu_shell.specs.Written.{IsCut, IsWhole, Wrote}
 use Rattle.mu_text.specs.Lines.{lines}
 use Rattle.mu_serve.proofs.Going.{answers_more, cut_more, follows}
+use Rattle.mu_serve.proofs.LinesSoFar.{gave_after, gave_none}
 use Rattle.mu_serve.specs.Closing.{Closes, Reports}
-use Rattle.mu_serve.specs.Incoming.{IsStop, MayFollow, StopsReading}
+use Rattle.mu_serve.specs.Incoming.{GaveAll, IsStop, MayFollow, StopsReading}
 use Rattle.mu_serve.specs.NextLines.{FailsToWrite, FindsEnd, Halts, LeavesNext, Moment, WritesNothing}
 use Rattle.mu_serve.specs.Serving.{Ends, IsServed, ReadsAll, ReadsSome}
 use Rattle.mu_serve.specs.Sessions.{first_talk}
@@ -139,21 +140,18 @@ left_ends replicas first between now so leaves = (
       leaves.takes.reads.consumed (omega (arith, leaves.takes.reads.room)),
 )
 
--- the source gave all that it had
-all_within : (n : ℕ) (left now : Option (List ℕ)) (bytes : List ℕ) → Consumes left now bytes
-    → IsAtEnd now → length bytes ≤ n → IfSome left (λ all. length all ≤ n)
-all_within n None now bytes consumed end few = tt
-all_within n (Some all) None bytes consumed end few = absurd consumed
-all_within n (Some all) (Some rest) bytes consumed end few =
-    let size = ap length consumed in let none = ap length end in
-    omega (arith, size, none, few, length-append bytes rest)
+-- what a source gave that gave all has as many bytes as it had
+all_within : (n : ℕ) (left : Option (List ℕ)) (bytes : List ℕ) → GaveAll left bytes
+    → length bytes ≤ n → IfSome left (λ all. length all ≤ n)
+all_within n None bytes gave few = tt
+all_within n (Some all) bytes gave few = let size = ap length gave in omega (arith, size, few)
 
--- no byte is held, and nothing more comes: all lines were answered
+-- no byte is held, and the source gave all: all lines were answered
 all_lines : (replicas : ℕ) (first between : Moment) (now : Option (List ℕ))
     → (so : UnderWay replicas first between) → between.incoming.held ≡ []
-    → MayFollow between.incoming.is_over [] → Consumes between.left now [] → IsAtEnd now
-    → ReadsAll first.left now so.answered
-all_lines replicas first between now so none may same end =
+    → MayFollow between.incoming.is_over [] → Consumes between.left now []
+    → GaveAll first.left so.taken → ReadsAll first.left now so.answered
+all_lines replicas first between now so none may same gave =
     let consumed =
     subst (Consumes first.left now) (append-nil so.taken)
     (Consumes-trans first.left between.left now so.taken [] so.consumed same) in
@@ -165,9 +163,9 @@ all_lines replicas first between now so none may same end =
         cut = ap lines (sym (append-nil so.taken)) ∙ so.cut [] may
             ∙ ap (λ h. so.answered ++ lines (h ++ [])) none;
       };
-      within = all_within SESSION_LIMIT first.left now so.taken consumed end
+      within = all_within SESSION_LIMIT first.left so.taken gave
           (omega (arith, so.counted, so.some));
-      at_end = end;
+      whole = gave;
     }
 
 nothing_follows : (over : Bool) → MayFollow over []
@@ -183,10 +181,13 @@ end_reads replicas first between now so found = elim found.none [
       all_lines replicas first between now.left so (so.last over.0).0
       (nothing_follows between.incoming.is_over)
       (subst (λ l. Consumes between.left l []) (sym over.1) (Consumes-nil between.left))
-      (subst IsAtEnd (sym over.1) (so.last over.0).1)
+      (so.last over.0).1
   | inr none ↦
       all_lines replicas first between now.left so none.none
-      (nothing_follows between.incoming.is_over) none.same none.at_end
+      (nothing_follows between.incoming.is_over) none.same
+      (subst (GaveAll first.left) (append-nil so.taken)
+      (gave_after first.left between.left so.taken [] so.consumed
+      (gave_none between.left none.at_end)))
 ]
 
 -- the end of the input, and the report

@@ -41,7 +41,7 @@ pub record WritesNothing (before after : Moment) : Type 0 where
 -- no line is left, and nothing is done
 pub record FindsEnd (before after : Moment) : Type 0 where
   pub none :
-      (before.incoming.is_over ≡ true) × (after.left ≡ before.left)
+      ((before.incoming.is_over ≡ true) × (after.left ≡ before.left))
       ⊎ FindsNone before.left after.left before.incoming
   pub same_read : after.read ≡ before.read
   pub same_talk : after.talk ≡ before.talk

@@ -1,7 +1,7 @@
 -- served: how a session goes from its first line to its last one, and what is read and written.
 use Rattle.std.specs.Prelude.{List, None, Some, [], length, ℕ, ◌++◌, ◌+◌, ◌<◌, ◌≡◌, ◌≤◌, IfSome}
 use Rattle.std.specs.declared.option.Option.{Option}
-use Rattle.std.specs.Io.KnownBytes.{Consumes, IsAtEnd}
+use Rattle.std.specs.Io.KnownBytes.{Consumes}
 use Rattle.std.specs.List.{flat_map}
 use Rattle.mu_io.specs.Faults.{Rose}
 use Rattle.mu_outcome.specs.declared.status.Status.{Status}
@@ -13,6 +13,7 @@ use Rattle.mu_report.specs.declared.said.Said.{Said}
 use Rattle.mu_shell.specs.Written.{Wrote}
 use Rattle.mu_text.specs.Lines.{lines}
 use Rattle.mu_serve.specs.Closing.{Closes}
+use Rattle.mu_serve.specs.Incoming.{GaveAll}
 use Rattle.mu_serve.specs.Sessions.{AnswersAll, Talk, first_talk}
 use Rattle.mu_serve.specs.declared.TheConstants.{SESSION_LIMIT}
 
@@ -29,7 +30,7 @@ pub record ReadsLines (left now : Option (List ℕ)) (answered : List (List ℕ)
 pub record ReadsAll (left now : Option (List ℕ)) (answered : List (List ℕ)) : Type 0 where
   pub reads : ReadsLines left now answered []
   pub within : IfSome left (λ bytes. length bytes ≤ SESSION_LIMIT)
-  pub at_end : IsAtEnd now
+  pub whole : GaveAll left reads.taken
 
 -- some lines of the source were answered
 abbrev pub ReadsSome : Option (List ℕ) → Option (List ℕ) → List (List ℕ) → Type 0

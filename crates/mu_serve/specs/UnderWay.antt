@@ -2,7 +2,7 @@
 -- end.
 use Rattle.std.specs.Prelude.{List, Some, [], length, true, ℕ, ◌++◌, ◌+◌, ◌<◌, ◌≡◌, ◌≤◌}
 use Rattle.std.specs.declared.option.Option.{Option}
-use Rattle.std.specs.Io.KnownBytes.{Appends, Consumes, IsAtEnd}
+use Rattle.std.specs.Io.KnownBytes.{Appends, Consumes}
 use Rattle.std.specs.List.{flat_map}
 use Rattle.mu_outcome.specs.Statuses.{code_of}
 use Rattle.mu_outcome.specs.declared.status.Status.{Status}
@@ -14,7 +14,7 @@ use Rattle.mu_report.specs.declared.said.Said.{Said}
 use Rattle.mu_shell.specs.Written.{Wrote}
 use Rattle.mu_text.specs.Lines.{lines}
 use Rattle.mu_serve.specs.Closing.{Reports}
-use Rattle.mu_serve.specs.Incoming.{MayFollow}
+use Rattle.mu_serve.specs.Incoming.{GaveAll, MayFollow}
 use Rattle.mu_serve.specs.NextLines.{Moment}
 use Rattle.mu_serve.specs.Sessions.{AnswersAll, Talk, first_talk}
 use Rattle.mu_serve.specs.declared.TheConstants.{SESSION_LIMIT}
@@ -32,7 +32,8 @@ pub record UnderWay (replicas : ℕ) (first now : Moment) : Type 0 where
   pub cut :
       (more : List ℕ) → MayFollow now.incoming.is_over more
       → lines (taken ++ more) ≡ answered ++ lines (now.incoming.held ++ more)
-  pub last : now.incoming.is_over ≡ true → (now.incoming.held ≡ []) × IsAtEnd now.left
+  pub last :
+      now.incoming.is_over ≡ true → (now.incoming.held ≡ []) × GaveAll first.left taken
   pub same_read : now.read ≡ first.read
   pub written : Appends first.written now.written (flat_map responses_text answers)
   pub same_wrote : now.wrote ≡ first.wrote
