@@ -1,5 +1,5 @@
--- sequential, linear: the replies of a session are those of one store that takes its commands one by
--- one; and the order of its commands respects real time.
+-- sequential, linear: the replies of a session are those of one store that takes its commands one
+-- by one; and the order of its commands respects real time.
 use Rattle.std.specs.Prelude.{List, Some, ℕ, ◌<◌, ◌≡◌, ◌≤◌}
 use Rattle.std.specs.List.{slice_get}
 use Rattle.kv_store.specs.Commands.{Request}

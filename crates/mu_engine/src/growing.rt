@@ -107,7 +107,8 @@ pub(crate) fn grow(
     requires room { HaveRoom port.now.config seats.old }
     requires count { length copies.items ≡ length seats.old }
     requires copies { ArePairs (with_more port.now.config (row.now ∷ [])) copies.items }
-    ensures seated { AreSeated (with_more port.now.config (row.now ∷ [])) port.now.events seats.new }
+    ensures seated { AreSeated (with_more port.now.config (row.now ∷ [])) port.now.events
+        seats.new }
     ensures holds { map hold_of seats.new ≡ map hold_of seats.old }
 {
     for k in 0..seats.len() {

@@ -1,8 +1,8 @@
 //! A live engine in one process: replicas over one memory take their turns in rounds, and commands
 //! come while they run.
 //!
-//! Contracts see the commands that were submitted so far, as a job, and the events so far, which are
-//! a legal list of that job at every moment. So each law of a legal list holds at every moment.
+//! Contracts see the commands that were submitted so far, as a job, and the events so far, which
+//! are a legal list of that job at every moment. So each law of a legal list holds at every moment.
 #![tactic(auto)]
 
 ghost use Rattle.mu_engine.specs.Laws.{GoesFurther, RepliesStay, SessionsAreLinear};
