@@ -1,19 +1,25 @@
 -- The logs of a legal list agree at each moment, and so do the replies over them.
-use Rattle.std.proofs.Common.{◌≡◌, ◌∙◌, ℕ, suc, zero, ◌<◌, ◌≤◌, List, [], ◌∷◌, ◌++◌, Some, ap, append-nil, arith, drop, inl, inr, length, refl, subst, sym, ◌⊎◌}
+use Rattle.std.proofs.Common.{◌≡◌, ◌∙◌, ℕ, suc, zero, ◌+◌, ◌<◌, ◌≤◌, List, [], ◌∷◌, ◌++◌, Some, ap, append-nil, arith, drop, inl, inr, length, refl, subst, sym, ◌⊎◌}
 use Rattle.std.specs.List.{slice_get}
 use Rattle.std.proofs.lemmas.Bool.{cases_lt}
 use Rattle.std.proofs.lemmas.List.{length_push}
 use Rattle.std.proofs.lemmas.Option.{slice_get_within}
+use Rattle.kv_store.specs.Sessions.{IsInSession}
+use Rattle.kv_store.specs.Tables.{replies}
+use Rattle.mu_input.specs.Heads.{HaveHeads}
+use Rattle.mu_input.specs.declared.job.Job.{Job}
 use Rattle.mu_model.specs.declared.config.Config.{Config}
 use Rattle.mu_model.specs.declared.event.Event.{Event}
+use Rattle.mu_model.specs.Contents.{IsConfig}
 use Rattle.mu_model.specs.Histories.{IsPrefixOf, history, part}
-use Rattle.mu_model.specs.Knowledge.{applied, known}
+use Rattle.mu_model.specs.Knowledge.{applied, commits, known}
 use Rattle.mu_model.specs.Legal.{IsLegal}
 use Rattle.mu_model.proofs.Basics.{same_some}
 use Rattle.mu_model.proofs.Lists.{get_front, get_push_here}
 use Rattle.mu_agree.proofs.Prefixes.{known_agree, lists_agree}
 use Rattle.mu_agree.proofs.Sessions.{known_in_session_law, known_stands_law}
-use Rattle.mu_outcome.specs.LogsAfter.{LogsAgree, log_after, logs_after, longest_after}
+use Rattle.mu_outcome.specs.Entries.{commands_in, longest}
+use Rattle.mu_outcome.specs.LogsAfter.{AgreesNow, LogsAgree, log_after, logs_after, longest_after}
 use Rattle.mu_outcome.proofs.Agreeing.{all_known, applied_known, commit_known, empty_one, has_value, in_session, replies_begin, same_begun}
 use Rattle.mu_outcome.proofs.LongestLogs.{longest_is, longest_most}
 
