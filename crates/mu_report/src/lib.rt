@@ -15,7 +15,6 @@ mod printer;
 mod promises;
 mod reasons;
 mod report;
-mod responses;
 mod said;
 mod sentence;
 mod statuses;
@@ -25,6 +24,5 @@ mod words;
 
 pub use reasons::fault_line;
 pub use report::status;
-pub use responses::{Response, print_responses};
 pub use said::{Said, print, print_counted};
 pub use statuses::status_for;

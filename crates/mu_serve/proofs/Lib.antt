@@ -1,5 +1,0 @@
-mod FirstWords
-mod Going
-mod LinesSoFar
-mod Served
-mod Talking

@@ -1,7 +1,0 @@
-pub mod Closing
-pub mod Incoming
-pub mod NextLines
-pub mod Serving
-pub mod SessionLines
-pub mod Sessions
-pub mod UnderWay
