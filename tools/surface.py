@@ -41,6 +41,18 @@ NAMES = re.compile(r"\b(\w+)::(\{[^}]*\}|\w+)")
 # Functions that say want of memory for another reason: no memory has as many bytes as were asked for; the
 # system says that the words of the command line can't be had, but not as an allocator does.
 MADE_UP = {("mu_io", "read_all"), ("mu_drawing", "unread"), ("mu_top", "end_without_words")}
+# What is left as it is until its crate is proved anew for another reason, or until the draft of sessions uses it
+# (drafts/sessions.md).
+LEFT = {
+    "crates/mu_engine/proofs/Going.antt",
+    "crates/mu_engine/proofs/Stepping.antt: none_yet is cited nowhere",
+    "crates/mu_input/proofs/ManyWords.antt",
+    "crates/mu_input/proofs/ManyWords.antt: operation-take is cited nowhere",
+    "crates/mu_agree/proofs/Growing.antt: before_added is cited nowhere",
+    "crates/mu_knowledge/src/client_rows.rt: ◌++◌ is imported for nothing",
+    "crates/mu_node/src/replying.rt: false is imported for nothing",
+    "crates/mu_node/src/replying.rt: includes is imported for nothing",
+}
 # What is no code: comments, texts, ghost items, and imports; and where a clause begins.
 NO_CODE = re.compile(r'//[^\n]*|b?"(?:[^"\\]|\\.)*"|\bghost use [^;]*;|\b(?:pub )?use [^;]*;')
 CLAUSE = re.compile(r"\b(?:(?:requires|ensures)\*?(?: \w+)? \{|ghost [\w ]+(?: =|:) \{)")
@@ -209,7 +221,9 @@ def judged():
     all_shown = [(crate, name, where) for crate in crates for name, where in shown(crate)]
     unused = [where for crate, name, where in all_shown if not others(crate, name)]
     missing = [where for crate in crates for name, where in hidden(crate) if others(crate, name)]
-    return len(all_shown), (unused, missing, list(uncited(crates)), list(idle_imports(crates)), list(made_up(crates)))
+    found = unused, missing, list(uncited(crates)), list(idle_imports(crates)), list(made_up(crates))
+    stale = [f"{where}: nothing is left there" for where in sorted(LEFT - set(sum(found, [])))]
+    return len(all_shown), tuple([it for it in kind if it not in LEFT] for kind in found[:-1]) + (found[-1] + stale,)
 
 
 def main():
