@@ -19,7 +19,8 @@ made only by a function that is given such an error (`fn from(_failed: AllocErro
 on want of memory (`Err(NoMemory) => Said::NoMemory`), or in the functions of MADE_UP. What is made elsewhere
 is made up. Tests say what they expect, so the crates `worked_` aren't looked at.
 
-The status is 1 if something is unused, hidden, uncited, idle or made up.
+The status is 1 if something is unused, hidden, uncited, idle or made up, but for what LEFT names; it is 1 too if LEFT
+names what isn't there any more.
 """
 import os
 import re
