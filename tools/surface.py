@@ -45,8 +45,6 @@ MADE_UP = {("mu_io", "read_all"), ("mu_drawing", "unread"), ("mu_top", "end_with
 # What is left as it is until its crate is proved anew for another reason, or until the draft of sessions uses it
 # (drafts/sessions.md).
 LEFT = {
-    "crates/mu_engine/proofs/Going.antt",
-    "crates/mu_engine/proofs/Stepping.antt: none_yet is cited nowhere",
     "crates/mu_input/proofs/ManyWords.antt",
     "crates/mu_input/proofs/ManyWords.antt: operation-take is cited nowhere",
     "crates/mu_agree/proofs/Growing.antt: before_added is cited nowhere",

@@ -1,7 +1,7 @@
 mod Adding
 mod Asking
 mod First
-pub mod Going
+mod Going
 mod Holds
 mod Linear
 mod Seating

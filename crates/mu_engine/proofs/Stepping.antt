@@ -15,14 +15,6 @@ use Rattle.mu_engine.specs.Live.{is_free_at, takes_turn}
 use Rattle.mu_engine.specs.Rounds.{AreSteps, HasStep, IsHalted}
 use Rattle.mu_engine.specs.Seats.{Plays, part_of}
 
--- before the first turn there is no step
-pub none_yet : (c : Config) (holds : List Hold) (events : List Event) → AreSteps c holds events 0 []
-none_yet c holds events = record {
-  free = λ k e at. cc;
-  ascending = λ j k d e one two low. cc;
-  all = λ r low. absurd (omega (arith, low));
-}
-
 -- steps of others
 none_own : (k : ℕ) (steps : List Event) → ((i : ℕ) (e : Event) → slice_get steps i ≡ Some e → e.by < k) → part k steps ≡ []
 none_own k [] below = refl

@@ -2,6 +2,8 @@
 ghost use Rattle.std.specs.Prelude.{IsTrue, ◌↔◌};
 ghost use Rattle.mu_engine.specs.Shapes.{HasLimits};
 
+use mu_input::{LEAST_RING, MOST_COMMANDS, MOST_REPLICAS, MOST_RING, MOST_STEPS};
+
 /// What an engine is started with. It runs version 2 of the protocol, with batches of one command.
 #[derive(Clone, Copy, Debug, PartialEq, Eq)]
 pub struct Shape {
@@ -20,9 +22,9 @@ impl Shape {
     pub fn is_allowed(&self) -> bool
         ensures { IsTrue result ↔ HasLimits self.now }
     {
-        let replicas = 1 <= self.replicas && self.replicas <= 7;
-        let ring = 8 <= self.ring && self.ring <= 1024;
-        let budget = 1 <= self.budget && self.budget <= 131_071;
-        replicas && ring && budget && self.room <= 1500
+        let replicas = 1 <= self.replicas && self.replicas <= MOST_REPLICAS;
+        let ring = LEAST_RING <= self.ring && self.ring <= MOST_RING;
+        let budget = 1 <= self.budget && self.budget <= MOST_STEPS;
+        replicas && ring && budget && usize::from(self.room) <= MOST_COMMANDS
     }
 }
