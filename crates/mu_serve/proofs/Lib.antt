@@ -1,0 +1,5 @@
+mod FirstWords
+mod Going
+mod LinesSoFar
+mod Served
+mod Talking
