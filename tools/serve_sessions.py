@@ -24,6 +24,8 @@ from programs import tell
 SESSIONS, SEED = 100, 20
 MOST_LINES, MOST_PAUSE = 40, 300
 KEYS, TEXTS, CLIENTS = ["a", "b", "k1"], ["1", "2", "x"], 3
+# The statuses of a report.
+DONE, UNFINISHED = 0, 3
 # Of so many sessions one is held line by line.
 ONE_BY_LINE = 4
 BAD_LINES = ["", "put a", "gets a", "stop 7", "pause 0 0", "client 16", "stop", "put a " + "x" * 65, "pause 0 1 2"]
@@ -73,6 +75,8 @@ class Session:
         self.client, self.counts, self.stopped = 0, {}, set()
         # The commands by name, those that wait, what was told, and how many commands there were when it was.
         self.commands, self.waiting, self.told, self.before = {}, [], {}, {}
+        # Whether the report has every command.
+        self.is_done = False
 
     def name_of_next(self):
         return f"{self.client}.{self.counts.get(self.client, 0) + 1}"
@@ -113,8 +117,9 @@ class Session:
 
     def check_report(self, lines):
         """The report at the end, in which every replica has its log."""
-        logs, replies = read_report(lines)
+        logs, stopped, replies = read_report(lines)
         ensure(len(logs) == self.replicas, "a log is missing")
+        ensure(stopped == self.stopped, f"{stopped} are told as stopped")
         longest = max(logs, key=len)
         for log in logs:
             ensure(longest[:len(log)] == log, "no prefix")
@@ -130,8 +135,9 @@ class Session:
         found = dict(line.split(" ", 1) for line in replies)
         ensure(all(found.get(name) == reply for name, reply in self.told.items()), "another reply than was told")
         self.check_order(names)
+        self.is_done = len(names) == len(self.commands)
         if 2 * len(self.stopped) < self.replicas:
-            ensure(len(names) == len(self.commands), "not every command got done")
+            ensure(self.is_done, "not every command got done")
 
     def check_order(self, names):
         """A command that came after a reply was told stands after that reply's command."""
@@ -143,17 +149,21 @@ class Session:
 
 
 def read_report(lines):
-    """The entries of each log, and the replies."""
+    """The entries of each log, the replicas that are told as stopped, and the replies."""
     ensure(lines and lines[0] == "report 2", f"{lines[:1]} in place of a report")
-    logs, replies = [], []
+    logs, ends, replies, entries = [], [], [], None
     for line in lines[1:-1]:
-        if line.startswith("log "):
-            logs.append([])
-        elif line.startswith("replies "):
-            logs.append(replies)
-        else:
-            logs[-1].append(line.split(" ", 1)[1] if logs[-1] is not replies else line)
-    return logs[:-1], replies
+        words = line.split(" ")
+        if words[0] in ("log", "replies"):
+            entries = replies if words[0] == "replies" else []
+        if words[0] == "log":
+            ensure(words[1] == str(len(logs)), f"{line!r} after {len(logs)} logs")
+            logs.append((int(words[3]), entries))
+            ends.append(words[6])
+        elif words[0] != "replies":
+            entries.append(line if entries is replies else line.split(" ", 1)[1])
+    ensure(all(count == len(them) for count, them in logs), "another number of entries")
+    return [them for _, them in logs], {replica for replica, end in enumerate(ends) if end == "stopped"}, replies
 
 
 def answers_at_once(path, replicas, lines):
@@ -165,21 +175,25 @@ def answers_at_once(path, replicas, lines):
 
 def answers_by_line(path, replicas, lines):
     """Each line is written once the one before has its answer."""
-    run = subprocess.Popen([path, "serve", str(replicas)], stdin=subprocess.PIPE, stdout=subprocess.PIPE,
-                           stderr=subprocess.DEVNULL)
     session, answers = Session(replicas), []
-    for number, line in enumerate(lines, 1):
-        run.stdin.write(line.encode() + b"\n")
-        run.stdin.flush()
-        is_own = False
-        while not is_own:
-            answers.append(run.stdout.readline().decode().rstrip("\n"))
-            is_own = session.takes_own(line, number, answers[-1])
-    rest = run.communicate(timeout=trying.MOST_SECONDS)[0].decode().splitlines()
+    with subprocess.Popen([path, "serve", str(replicas)], stdin=subprocess.PIPE, stdout=subprocess.PIPE,
+                          stderr=subprocess.DEVNULL) as run:
+        try:
+            for number, line in enumerate(lines, 1):
+                run.stdin.write(line.encode() + b"\n")
+                run.stdin.flush()
+                is_own = False
+                while not is_own:
+                    answers.append(run.stdout.readline().decode().rstrip("\n"))
+                    is_own = session.takes_own(line, number, answers[-1])
+            rest = run.communicate(timeout=trying.MOST_SECONDS)[0].decode().splitlines()
+        finally:
+            run.kill()
     return answers + rest, run.returncode
 
 
 def check(replicas, lines, answers, status):
+    """Raises `Wrong`, or what a malformed report leads to, if the answers aren't right."""
     session, at = Session(replicas), 0
     for number, line in enumerate(lines, 1):
         is_own = False
@@ -189,10 +203,11 @@ def check(replicas, lines, answers, status):
             at += 1
     session.check_report(answers[at:])
     ensure(answers[-1] == f"status {status}", f"status {status} after {answers[-1]!r}")
+    ensure(status == (DONE if session.is_done else UNFINISHED), f"status {status}")
 
 
 def tried(path, count, seed):
-    """How many sessions were held, and what was wrong with them."""
+    """What is wrong with so many random sessions, a line for each that isn't right."""
     wrong = []
     for index in range(count):
         chance = random.Random(f"{seed} {index}")
@@ -201,7 +216,7 @@ def tried(path, count, seed):
         hold = answers_by_line if index % ONE_BY_LINE == 0 else answers_at_once
         try:
             check(replicas, lines, *hold(path, replicas, lines))
-        except Wrong as what:
+        except (Wrong, KeyError, ValueError, IndexError) as what:
             wrong.append(f"session {index} of seed {seed}, {replicas} replicas: {what}")
     return wrong
 

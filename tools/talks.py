@@ -63,12 +63,16 @@ def trouble_of(program, case):
     return f"{case.name}: {trouble}" if trouble else None
 
 
+def tried(program, table=TABLE):
+    """How many talks were held over the cases of a table, and what is wrong with them."""
+    cases = table_cases(table)
+    return len(cases), [trouble for trouble in (trouble_of(program, case) for case in cases) if trouble]
+
+
 def main():
     given = sys.argv[1:]
-    program = given[0] if given else trying.program_of("mu")
-    cases = table_cases(given[1] if len(given) > 1 else TABLE)
-    wrong = [trouble for trouble in (trouble_of(program, case) for case in cases) if trouble]
-    return tell(wrong, f"{len(cases) - len(wrong)} passed, {len(wrong)} failed")
+    count, wrong = tried(given[0] if given else trying.program_of("mu"), *given[1:2])
+    return tell(wrong, f"{count - len(wrong)} passed, {len(wrong)} failed")
 
 
 if __name__ == "__main__":

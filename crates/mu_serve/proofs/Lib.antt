@@ -2,4 +2,5 @@ mod FirstWords
 mod Going
 mod LinesSoFar
 mod Served
+mod Stops
 mod Talking

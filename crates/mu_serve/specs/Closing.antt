@@ -1,42 +1,37 @@
 -- closes, reports: what a session comes to at its end, and what is said then.
-use Rattle.std.specs.Prelude.{Bool, List, None, Some, [], false, length, suc, true, zero, ℕ, ◌++◌, ◌≡◌, ◌∷◌, ⊤}
+use Rattle.std.specs.Prelude.{Bool, List, None, Some, [], false, length, true, ℕ, ◌≡◌, ⊤}
 use Rattle.std.specs.declared.option.Option.{Option}
 use Rattle.std.specs.List.{slice_get}
 use Rattle.mu_engine.specs.Live.{Live}
-use Rattle.mu_engine.specs.declared.hold.Hold.{Hold}
 use Rattle.mu_input.specs.declared.job.Job.{Job}
 use Rattle.mu_model.specs.Histories.{history, part}
 use Rattle.mu_model.specs.declared.event.Event.{Event}
-use Rattle.mu_model.specs.declared.script.Script.{Script}
 use Rattle.mu_model.specs.declared.script.Stop.{Stop}
 use Rattle.mu_outcome.specs.Outcomes.{Agrees}
 use Rattle.mu_outcome.specs.declared.account.Account.{Account}
 use Rattle.mu_report.specs.declared.said.Said.{Said}
 use Rattle.mu_telling.specs.Accounts.{IsAccount}
+use Rattle.mu_telling.specs.Shown.{given_below}
 use Rattle.mu_serve.specs.Sessions.{IsAfter, Talk, is_stopped}
 use Rattle.mu_serve.specs.declared.closing.TheConstants.{CLOSING_ROUNDS}
 
--- the stop of a replica that is stopped: after the steps that it made
-abbrev pub stop_if : Bool → ℕ → List Event → List Stop
-stop_if false r events = []
-stop_if true r events =
-    record { replica = r; steps = length (part r (history events)) } ∷ []
+-- the stop of a replica, if it is stopped: after the steps that it made
+abbrev pub stop_if : Bool → ℕ → List Event → Option Stop
+stop_if false r events = None
+stop_if true r events = Some (record { replica = r; steps = length (part r (history events)) })
 
--- the stops of the first replicas, in order of id
-abbrev pub stops_below : ℕ → List Hold → List Event → List Stop
-stops_below zero holds events = []
-stops_below (suc r) holds events =
-    stops_below r holds events ++ stop_if (is_stopped (slice_get holds r)) r events
+-- the stops so far, in order of id
+abbrev pub stops_so_far : Live → List Stop
+stops_so_far live =
+    given_below live.job.config.replicas
+    (λ r. stop_if (is_stopped (slice_get live.holds r)) r live.events)
 
 -- the commands so far as a job whose script has the stops so far
 abbrev pub job_so_far : Live → Job
 job_so_far live = record {
   config = live.job.config;
   commands = live.job.commands;
-  script = record {
-    stops = stops_below live.job.config.replicas live.holds live.events;
-    pauses = [];
-  };
+  script = record { stops = stops_so_far live; pauses = [] };
 }
 
 -- this is what the events so far come to: logs, commits and replies, and how each replica has ended

@@ -88,7 +88,7 @@ pub record IsNext (before after : Live) : Type 0 where
   pub round : IsRound before.job.config before.holds before.events steps
 
 -- this many rounds
-abbrev pub IsAfter : ℕ → Live → Live → Type 0
+unfoldable pub IsAfter : ℕ → Live → Live → Type 0
 IsAfter zero before after = after ≡ before
 IsAfter (suc n) before after = (between : Live) × IsAfter n before between × IsNext between after
 

@@ -1,16 +1,15 @@
 //! The report at the end of a session.
-ghost use Rattle.std.specs.Prelude.{IfOk, length, ◌<◌, ◌^◌, ◌≡◌};
-ghost use Rattle.mu_model.specs.Histories.{history, part};
+ghost use Rattle.std.specs.Prelude.{IfOk, ◌≡◌};
 ghost use Rattle.mu_outcome.specs.Outcomes.{IsWithinJob};
-ghost use Rattle.mu_serve.specs.Closing.{ClosesLive, ComesTo, stops_below};
+ghost use Rattle.mu_serve.specs.Closing.{ClosesLive, ComesTo, stops_so_far as stops_of_live};
 ghost use Rattle.mu_serve.specs.Sessions.{IsAfter};
 ghost use Rattle.mu_serve.specs.declared.closing.TheConstants.{CLOSING_ROUNDS as LAST_ROUNDS};
 
 use mu_engine::{Engine, Session};
 use mu_input::Job;
-use mu_model::{Event, NoMemory, Script, Sequence, Stop};
+use mu_model::{NoMemory, Script, Sequence, Stop};
 use mu_outcome::Account;
-use mu_telling::account_of;
+use mu_telling::{account_of, steps_of};
 use std::alloc::Global;
 
 /// For how many rounds the replicas go on after the last line: so that they learn what the others
@@ -35,10 +34,8 @@ pub fn account_at_end(alloc: Global, engine: Engine) -> Result<Account, NoMemory
 fn play_out(engine: &mut Engine)
     ensures { IsAfter LAST_ROUNDS engine.old engine.new }
 {
-    let mut rounds = 0;
-    'rounds: while rounds < CLOSING_ROUNDS {
+    for _ in 0..CLOSING_ROUNDS {
         engine.round();
-        rounds += 1;
     }
 }
 
@@ -67,31 +64,16 @@ fn account_of_engine(alloc: Global, engine: Engine) -> Result<Account, NoMemory>
 
 /// The stops so far, in order of id.
 fn stops_so_far(alloc: Global, engine: &Engine) -> Result<Vec<Stop>, NoMemory>
-    ensures { IfOk result (λ stops. stops.items
-        ≡ stops_below engine.now.job.config.replicas engine.now.holds engine.now.events) }
+    ensures { IfOk result (λ stops. stops.items ≡ stops_of_live engine.now) }
 {
     let mut stops = Vec::new(alloc);
     for replica in 0..engine.config().replicas {
         if engine.hold_of(replica).stopped {
             stops.push(Stop {
                 replica,
-                steps: step_count(engine.events(), replica),
+                steps: steps_of(replica, engine.events()) as u32,
             })?;
         }
     }
     Ok(stops)
-}
-
-/// How many steps a replica made.
-fn step_count(events: &[Event], replica: u8) -> u32
-    requires { length (part replica (history events.now)) < 2 ^ 32 }
-    ensures { result ≡ length (part replica (history events.now)) }
-{
-    let mut count: usize = 0;
-    for event in events {
-        if event.by == replica {
-            count += 1;
-        }
-    }
-    count as u32
 }

@@ -108,7 +108,7 @@ impl Session {
     {
         match account_at_end(self.alloc, self.engine) {
             Ok(account) => Said::Told(account),
-            Err(_) => Said::NoMemory,
+            Err(NoMemory) => Said::NoMemory,
         }
     }
 

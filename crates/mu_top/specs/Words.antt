@@ -65,15 +65,22 @@ asked_of (word ∷ []) = with_input (task_named (string_bytes word))
 asked_of (word ∷ other ∷ []) = asked_of_two (string_bytes word) (string_bytes other)
 asked_of (word ∷ other ∷ more ∷ words) = None
 
--- the number of replicas, if the words ask for a session: `serve` with a number from 1 to the most
+-- the number of replicas, if two words ask for a session: `serve` with a number from 1 to the most
 -- replicas
+abbrev pub session_of_two : List ℕ → List ℕ → Option ℕ
+session_of_two word other =
+    if bytes_eq word (codes "serve") then within 1 MOST_REPLICAS (number_of other) else None
+
+-- the number of replicas, if the words ask for a session
 abbrev pub session_of : List (String Global) → Option ℕ
 session_of [] = None
 session_of (word ∷ []) = None
-session_of (word ∷ other ∷ []) =
-    if bytes_eq (string_bytes word) (codes "serve")
-    then within 1 MOST_REPLICAS (number_of (string_bytes other)) else None
+session_of (word ∷ other ∷ []) = session_of_two (string_bytes word) (string_bytes other)
 session_of (word ∷ other ∷ more ∷ words) = None
+
+-- as many replicas as a session may have
+abbrev pub HasReplicas : ℕ → Type 0
+HasReplicas replicas = (1 ≤ replicas) × (replicas ≤ MOST_REPLICAS)
 
 -- no more readers than there may be, and one at least
 abbrev pub HasReaders : Task → Type 0
