@@ -8,8 +8,10 @@
 mod config;
 mod contents;
 mod event;
+mod event_list;
 mod journal;
 mod numbers;
+mod packing;
 mod reason;
 mod rooms;
 mod scoring;
@@ -22,6 +24,7 @@ pub use contents::{
     row_number, row_rest, row_word, stands_for_batch, stands_for_mark,
 };
 pub use event::{Answer, Event, Fence, Target, Verb};
+pub use event_list::EventList;
 pub use journal::Journal;
 pub use numbers::{majority, next_number};
 pub use reason::Reason;

@@ -2,7 +2,7 @@
 ghost use Rattle.std.specs.Prelude.{map, ◌≡◌};
 ghost use Rattle.shared_fabric.specs.Gathering.{AreOfOneList};
 
-use mu_model::{Config, Journal, Sequence};
+use mu_model::{Config, EventList as Journal, Sequence};
 use std::marker::Model;
 
 /// The parts of all replicas, in the order of their numbers.

@@ -3,7 +3,7 @@ ghost use Rattle.std.specs.Prelude.{IfOk, ◌≡◌};
 ghost use Rattle.shared_fabric.specs.Gathering.{AreAllPorts};
 
 use crate::port::SharedPort;
-use mu_model::{Journal, NoMemory};
+use mu_model::{EventList as Journal, NoMemory};
 use std::alloc::Global;
 use std::marker::Model;
 

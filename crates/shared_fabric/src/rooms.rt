@@ -4,7 +4,7 @@ ghost use Rattle.std.specs.Arc.{arc_value};
 ghost use Rattle.mu_model.specs.Contents.{IsConfig};
 ghost use Rattle.shared_fabric.specs.Rooms.{IsRoom};
 
-use mu_model::{Config, Journal, NoMemory};
+use mu_model::{Config, EventList as Journal, NoMemory};
 use mu_words::Found;
 use shared_steps::Words;
 use std::alloc::Global;

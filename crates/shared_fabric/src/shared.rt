@@ -13,7 +13,7 @@ use crate::gathered::Gathered;
 use crate::port::SharedPort;
 use crate::ports::{PartsRoom, SharedPorts};
 use crate::rooms::{Room, rooms};
-use mu_model::{Config, Journal, NoMemory, Sequence};
+use mu_model::{Config, EventList as Journal, NoMemory, Sequence};
 use shared_steps::{RootSeat, Words};
 use std::alloc::Global;
 use std::marker::Model;

@@ -11,7 +11,7 @@ use crate::moves::ViewSeat;
 use crate::rule::{Unite, Whole};
 use crate::seat::PortSeat;
 use crate::words::Words;
-use mu_model::Journal;
+use mu_model::EventList as Journal;
 use mu_words::Found;
 use std::marker::{Brand, Model};
 

@@ -3,7 +3,7 @@ ghost use Rattle.std.specs.Prelude.{◌≡◌};
 ghost use Rattle.mu_model.specs.Histories.{history};
 
 use crate::moves::ViewSeat;
-use mu_model::{Event, Journal};
+use mu_model::{Event, EventList as Journal};
 use mu_words::Found;
 use std::marker::Model;
 

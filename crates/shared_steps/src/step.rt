@@ -5,7 +5,7 @@ ghost use Rattle.mu_words.specs.Founds.{Notes};
 ghost use Rattle.mu_words.specs.Places.{IsName, place_of};
 ghost use Rattle.mu_words.specs.Steps.{answer_from};
 
-use mu_model::{Answer, Event, Journal, Verb};
+use mu_model::{Answer, Event, EventList as Journal, Verb};
 use mu_words::{Found, Layout};
 
 /// The place of the word on which the replica makes a step.

@@ -1,6 +1,6 @@
 use Rattle.std.proofs.Common.{◌≡◌, ◌∙◌, ap, sym, subst, map, length, List}
 use Rattle.mu_model.specs.declared.config.Config.{Config}
-use Rattle.mu_model.specs.declared.journal.Journal.{Journal}
+use Rattle.mu_model.specs.declared.event_list.EventList.{EventList as Journal}
 use Rattle.shared_steps.specs.Rule.{HaveOneList}
 use Rattle.shared_steps.specs.Seats.{Board}
 use Rattle.shared_fabric.specs.Gathering.{Fabric, PortValue}
