@@ -2,7 +2,7 @@
 use crate::replays::{ONE_PUT, TWO_CLIENTS, job_of};
 use kv_store::Reply;
 use mu_cluster::{Gate, OpenGate, Outcome, rows_spell_commands, run};
-use mu_model::{Answer, End, Event, Journal, Verb};
+use mu_model::{Answer, End, Event, EventList, Verb};
 use mu_outcome::Log;
 use std::alloc::Global;
 use std::sync::Wait;
@@ -159,7 +159,7 @@ fn ran<R: Threads + Wait + Clock + Sync, G: Gate + Sync>(
 }
 
 /// The events of each replica.
-fn parts(outcome: &Outcome) -> &[Journal] {
+fn parts(outcome: &Outcome) -> &[EventList] {
     match &outcome.gathered {
         Some(gathered) => gathered.parts().as_slice(),
         None => &[],
