@@ -1,5 +1,5 @@
 //! The trace of a replay: its job, and its events in their order.
-ghost use Rattle.std.specs.Prelude.{◌≡◌, ◌+◌, ◌<◌, [], map};
+ghost use Rattle.std.specs.Prelude.{◌≡◌, ◌+◌, ◌<◌, map};
 ghost use Rattle.mu_outcome.specs.AllEvents.{HasEvents};
 ghost use Rattle.mu_report.specs.Trace.{event_line as event_line_of, batch_lines, setting_lines, client_count, command_lines, commands_lines, client_lines, stop_line, pause_line, has_lines as has_lines_of, script_lines, events_of, trace_lines};
 

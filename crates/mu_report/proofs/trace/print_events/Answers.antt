@@ -17,4 +17,4 @@ loop-k-preserved g c =
     let line = shown_text _ _ _ _ c.as_slice.ensures c.push_event.ensures.bytes c.clear.ensures in
     let within : k < length events = (let low = c.loop-k-test.true in let all = c.len.ensures in omega (arith, low, all)) in
     leaves g.P.Printer.Prints g.met.P.Printer.append c.loop-k.invariant
-        (map-drop-or event_line events k event _ within (line ∙ ap event_line (sym (get_or_from_slice_get events k event event c.at.ensures)))) c.print_bytes.ensures
+    (map-drop-or event_line events k event _ within (line ∙ ap event_line (sym (get_or_from_slice_get events k event event c.at.ensures)))) c.print_bytes.ensures
