@@ -23,4 +23,5 @@ pub mod Room
 pub mod Scores
 pub mod Serving
 pub mod Steps
+pub mod Stops
 pub mod Stretches
