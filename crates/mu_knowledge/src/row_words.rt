@@ -11,6 +11,7 @@ ghost use Rattle.mu_model.specs.Contents.{IsConfig, row_count};
 ghost use Rattle.mu_knowledge.specs.HeldRows.{IsOfRows};
 ghost use Rattle.mu_knowledge.specs.RowWords.{HoldWords, StandsForRowWords, word_held, words_held};
 
+use crate::held_rows::ROW_WORDS;
 use crate::tables::add_words;
 use mu_model::{Config, NoMemory, PAYLOADS, Row};
 use std::alloc::Global;
