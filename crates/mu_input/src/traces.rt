@@ -122,8 +122,8 @@ impl<'a> EventLines<'a> {
     }
 }
 
-/// Whether a line ends the events: a pattern is compared in place.
-fn is_end(line: &[u8]) -> bool
+/// Whether a line ends a job, or the events: a pattern is compared in place.
+pub fn is_end(line: &[u8]) -> bool
     ensures { result ≡ bytes_eq line.now (codes "end") }
 {
     match line {

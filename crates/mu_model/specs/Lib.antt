@@ -25,4 +25,5 @@ pub mod Room
 pub mod Scores
 pub mod Serving
 pub mod Steps
+pub mod Stops
 pub mod Stretches
