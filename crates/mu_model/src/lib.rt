@@ -8,7 +8,6 @@
 mod config;
 mod contents;
 mod event;
-mod event_list;
 mod journal;
 mod numbers;
 mod packing;
@@ -24,7 +23,6 @@ pub use contents::{
     row_number, row_rest, row_word, stands_for_batch, stands_for_mark,
 };
 pub use event::{Answer, Event, Fence, Target, Verb};
-pub use event_list::EventList;
 pub use journal::Journal;
 pub use numbers::{majority, next_number};
 pub use reason::Reason;
