@@ -7,8 +7,8 @@ ghost use Rattle.mu_input.specs.declared.job.InputEnd.TheVariants.{Refused};
 ghost use Rattle.mu_text.specs.Lines.{ended};
 
 use mu_clients::{Item, item};
-use mu_input::{InputEnd, is_end};
 use mu_input::cause::{AFTER_END, EVENT, NO_END};
+use mu_input::{InputEnd, is_end};
 use mu_model::NoMemory;
 use mu_text::{LINE_FEED, LineReader};
 use std::alloc::Global;

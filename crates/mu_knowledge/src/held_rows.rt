@@ -277,7 +277,10 @@ impl HeldRows {
         ensures { (c : Config) → (r : ℕ) → (mine : List Event) → j < row_count c → k < 12
             → StandsForHeldRows c r mine self.now → result ≡ wrote r j k mine }
     {
-        match self.written.get(usize::from(j) * ROW_WORDS + usize::from(k)) {
+        match self
+            .written
+            .get(usize::from(j) * ROW_WORDS + usize::from(k))
+        {
             None => false,
             Some(is_written) => *is_written,
         }

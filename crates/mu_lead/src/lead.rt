@@ -37,7 +37,9 @@ use crate::positions::{end_of, narrow};
 use crate::recording::{write_head, write_reach, write_up, write_word};
 use mu_knowledge::KnownLog;
 use mu_leadership::Leadership;
-use mu_model::{Answer, Config, Event, NoMemory, Target, Verb, count_of_rows, push_within, row_word};
+use mu_model::{
+    Answer, Config, Event, NoMemory, Target, Verb, count_of_rows, push_within, row_word,
+};
 use std::alloc::Global;
 
 /// What a replica does as a leader: its place in the listing, and what it read and did on the way.
