@@ -43,12 +43,7 @@ NAMES = re.compile(r"\b(\w+)::(\{[^}]*\}|\w+)")
 # system says that the words of the command line can't be had, but not as an allocator does.
 MADE_UP = {("mu_io", "read_all"), ("mu_drawing", "unread"), ("mu_top", "end_without_words")}
 # What is left as it is until its crate is proved anew for another reason.
-LEFT = {
-    "crates/mu_agree/proofs/Growing.antt: before_added is cited nowhere",
-    "crates/mu_knowledge/src/client_rows.rt: ◌++◌ is imported for nothing",
-    "crates/mu_node/src/replying.rt: false is imported for nothing",
-    "crates/mu_node/src/replying.rt: includes is imported for nothing",
-}
+LEFT = set()
 # What is no code: comments, texts, ghost items, and imports; and where a clause begins.
 NO_CODE = re.compile(r'//[^\n]*|b?"(?:[^"\\]|\\.)*"|\bghost use [^;]*;|\b(?:pub )?use [^;]*;')
 CLAUSE = re.compile(r"\b(?:(?:requires|ensures)\*?(?: \w+)? \{|ghost [\w ]+(?: =|:) \{)")
