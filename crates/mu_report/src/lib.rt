@@ -26,3 +26,4 @@ pub use reasons::fault_line;
 pub use report::status;
 pub use said::{Said, print, print_counted};
 pub use statuses::status_for;
+pub use trace::write_trace;

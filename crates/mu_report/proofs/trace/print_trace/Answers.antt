@@ -1,13 +1,11 @@
-use Rattle.std.proofs.Common.{ap, map}
-use Rattle.mu_report.specs.Trace.{event_line}
+use Rattle.std.proofs.Common.{ap, ◌∙◌}
+use Rattle.mu_report.specs.Trace.{lines_of_parts}
 use Rattle.mu_report.proofs.Prints.{same_lines}
-use Rattle.mu_report.proofs.Traces.{asked_clients}
 use Rattle.mu_report.proofs.trace.print_trace.Goals as goal
 
 pub returns : goal.returns
 returns g c =
-    let prints = g.P.Printer.Prints in
-    let then = g.met.P.Printer.append in
-    let clients = same_lines prints (asked_clients _ _ _ c.as_slice-commands.ensures c.count_of_clients-count.ensures) c.print_clients.ensures in
-    let events = same_lines prints (ap (map event_line) c.events_of.ensures) c.print_events.ensures in
-    then _ _ _ _ _ c.print_settings.ensures (then _ _ _ _ _ clients (then _ _ _ _ _ c.print_script.ensures (then _ _ _ _ _ c.print_words.ensures (then _ _ _ _ _ events c.print_words-2.ensures))))
+    let job = c.args.outcome.now.job in
+    same_lines g.P.Printer.Prints
+    (ap (λ commands. lines_of_parts job.config commands job.script c.events_of.result.now) c.as_slice-commands.ensures
+    ∙ ap (lines_of_parts job.config job.commands job.script) c.events_of.ensures) c.print_parts.ensures
