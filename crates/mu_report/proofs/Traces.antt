@@ -1,5 +1,5 @@
 -- The lines of a trace, taken from the front.
-use Rattle.std.proofs.Common.{◌≡◌, ℕ, zero, suc, ◌+◌, ◌*◌, ◌-◌, ◌<◌, ◌≤◌, ◌^◌, ◌==◌, Bool, true, false, cond, List, [], ◌∷◌, ◌++◌, refl, sym, ap, subst, ◌∙◌, length, drop, map, get_or, arith, length-append}
+use Rattle.std.proofs.Common.{◌≡◌, ℕ, zero, suc, ◌+◌, ◌*◌, ◌-◌, ◌<◌, ◌≤◌, ◌^◌, ◌==◌, Bool, true, false, cond, List, [], ◌∷◌, ◌++◌, refl, sym, ap, subst, ◌∙◌, length, drop, map, get_or, arith, append_assoc, length-append}
 use Rattle.std.specs.Fmt.{decimal}
 use Rattle.std.specs.Prelude.{codes, is_some, nat_le, ◌||◌}
 use Rattle.std.proofs.lemmas.List.{drop_more, length-map, length-reverse}
@@ -11,6 +11,7 @@ use Rattle.mu_input.specs.declared.job.Job.{Job}
 use Rattle.mu_model.specs.Contents.{IsConfig}
 use Rattle.mu_model.specs.Histories.{history}
 use Rattle.mu_model.specs.Legal.{IsLegal}
+use Rattle.mu_model.specs.declared.config.Config.{Config}
 use Rattle.mu_model.specs.declared.config.Row.{Row}
 use Rattle.mu_model.specs.declared.event.Event.{Event}
 use Rattle.mu_model.specs.declared.script.Pause.{Pause}
@@ -21,7 +22,7 @@ use Rattle.mu_outcome.specs.declared.outcome.Outcome.{Outcome}
 use Rattle.mu_outcome.specs.Outcomes.{IsRun}
 use Rattle.mu_report.specs.Words.{op_words}
 use Rattle.mu_report.specs.declared.line.TheConstants.{LINE_BYTES}
-use Rattle.mu_report.specs.Trace.{has_lines, event_line, setting_lines, client_count, client_lines, command_lines, commands_lines, stop_line, pause_line, script_lines, events_of, IsCountable}
+use Rattle.mu_report.specs.Trace.{has_lines, event_line, setting_lines, client_count, client_lines, command_lines, commands_lines, stop_line, pause_line, script_lines, events_of, job_lines, lines_of_parts, IsCountable}
 
 -- the lines of the next client, and those of the others
 pub client_lines-next : (commands : List Request) (client count : ℕ) → client < count
@@ -118,6 +119,16 @@ run_fits o good have few short run = (
 -- the clients of these commands, by their count
 pub asked_clients : (commands others : List Request) (count : ℕ) → commands ≡ others → count ≡ client_count 0 commands → client_lines commands 0 count ≡ client_lines others 0 (client_count 0 others)
 asked_clients commands others count is counted = ap (client_lines commands 0) counted ∙ ap (λ l. client_lines l 0 (client_count 0 l)) is
+
+-- the events behind a job
+pub behind_job : (config : Config) (commands : List Request) (script : Script) (events : List Event)
+    → job_lines config commands script ++ (map event_line events ++ codes "end" ∷ []) ≡ lines_of_parts config commands script events
+behind_job config commands script events =
+    let first : List (List ℕ) = setting_lines config in
+    let asked : List (List ℕ) = client_lines commands 0 (client_count 0 commands) in
+    let told : List (List ℕ) = map event_line events ++ codes "end" ∷ [] in
+    append_assoc first (asked ++ (script_lines script ++ codes "end" ∷ [])) told
+    ∙ ap (λ l. first ++ l) (append_assoc asked (script_lines script ++ codes "end" ∷ []) told ∙ ap (λ l. asked ++ l) (append_assoc (script_lines script) (codes "end" ∷ []) told))
 
 -- the script, if it has a line
 pub lines_told : (script : Script) (stops : List Stop) (pauses : List Pause) → has_lines script ≡ true → stops ≡ script.stops → pauses ≡ script.pauses

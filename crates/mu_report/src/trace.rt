@@ -1,11 +1,11 @@
 //! A trace: a job, and its events in their order.
-ghost use Rattle.std.specs.Prelude.{◌≡◌, ◌*◌, ◌+◌, ◌<◌, ◌≤◌, ◌^◌, [], length, map, take, IfErr, IfOk, OnErr, OnOk};
+ghost use Rattle.std.specs.Prelude.{◌≡◌, ◌*◌, ◌+◌, ◌<◌, ◌≤◌, ◌^◌, length, map, take, IfErr, IfOk, OnErr, OnOk};
 ghost use Rattle.std.specs.Io.KnownBytes.{Appends};
 ghost use Rattle.mu_io.specs.Faults.{Rose};
 ghost use Rattle.mu_outcome.specs.AllEvents.{HasEvents};
 ghost use Rattle.mu_report.specs.Printing.{ended};
 ghost use Rattle.mu_report.specs.declared.line.TheConstants.{LINE_BYTES};
-ghost use Rattle.mu_report.specs.Trace.{event_line as event_line_of, batch_lines, setting_lines, client_count, command_lines, commands_lines, client_lines, stop_line, pause_line, has_lines as has_lines_of, script_lines, events_of as events_of_order, lines_of_parts, trace_lines};
+ghost use Rattle.mu_report.specs.Trace.{event_line as event_line_of, batch_lines, setting_lines, client_count, command_lines, commands_lines, client_lines, stop_line, pause_line, has_lines as has_lines_of, script_lines, events_of, job_lines, lines_of_parts, trace_lines};
 
 use crate::line::{HasLine, Line, print_each, print_numbered, print_words};
 use crate::printer::{Printer, SinkPrinter};
@@ -13,7 +13,7 @@ use kv_store::Command;
 use mu_events::push_event;
 use mu_input::op_line;
 use mu_io::{Sink, WriteFault};
-use mu_model::{Config, Event, Pause, Script, Stop};
+use mu_model::{Config, Journal, Pause, Script, Stop};
 use mu_outcome::{AllEvents, Outcome};
 
 /// Prints the trace of a run. Takes no memory.
@@ -21,14 +21,10 @@ pub fn print_trace<P: Printer>(out: &mut P, outcome: &Outcome)
     requires { HasEvents outcome.now }
     ensures { P.Prints out.old (trace_lines outcome.now) out.new }
 {
-    let commands = outcome.job.commands.as_slice();
-    print_parts(
-        out,
-        &outcome.job.config,
-        commands,
-        &outcome.job.script,
-        events_of(outcome),
-    );
+    let job = &outcome.job;
+    print_job(out, &job.config, job.commands.as_slice(), &job.script);
+    print_all_events(out, outcome);
+    print_words(out, b"end");
 }
 
 /// Writes the trace of a job, given by its parts, and of its events, in pieces as
@@ -43,25 +39,25 @@ pub fn write_trace<K: Sink>(
     config: &Config,
     commands: &[Command],
     script: &Script,
-    events: &[Event],
+    journal: &Journal,
 ) -> Result<usize, WriteFault>
-    requires { LINE_BYTES
-        * length (lines_of_parts config.now commands.now script.now events.now) < 2 ^ 64 }
+    requires { LINE_BYTES * length
+        (lines_of_parts config.now commands.now script.now journal.now.events) < 2 ^ 64 }
     ensures whole { OnOk result (Appends (K.written sink.old) (K.written sink.new)
-        (ended (lines_of_parts config.now commands.now script.now events.now))) }
-    ensures count { IfOk result (λ count. count
-        ≡ length (ended (lines_of_parts config.now commands.now script.now events.now))) }
+        (ended (lines_of_parts config.now commands.now script.now journal.now.events))) }
+    ensures count { IfOk result (λ count. count ≡ length
+        (ended (lines_of_parts config.now commands.now script.now journal.now.events))) }
     ensures same_faults { OnOk result (K.faults sink.new ≡ K.faults sink.old) }
     ensures part { IfErr result (λ fault. Appends (K.written sink.old) (K.written sink.new)
         (take fault.taken
-        (ended (lines_of_parts config.now commands.now script.now events.now)))) }
-    ensures short { IfErr result (λ fault. fault.taken
-        < length (ended (lines_of_parts config.now commands.now script.now events.now))) }
+        (ended (lines_of_parts config.now commands.now script.now journal.now.events)))) }
+    ensures short { IfErr result (λ fault. fault.taken < length
+        (ended (lines_of_parts config.now commands.now script.now journal.now.events))) }
     ensures fault { OnErr result (Rose (K.faults sink.old) (K.faults sink.new)) }
     ensures never_falls { K.faults sink.old ≤ K.faults sink.new }
 {
     let mut printer = SinkPrinter::new(sink);
-    print_parts(&mut printer, config, commands, script, events);
+    print_parts(&mut printer, config, commands, script, journal);
     printer.finish()
 }
 
@@ -71,40 +67,47 @@ fn print_parts<P: Printer>(
     config: &Config,
     commands: &[Command],
     script: &Script,
-    events: &[Event],
+    journal: &Journal,
 )
     ensures { P.Prints out.old
-        (lines_of_parts config.now commands.now script.now events.now) out.new }
+        (lines_of_parts config.now commands.now script.now journal.now.events) out.new }
+{
+    print_job(out, config, commands, script);
+    print_events(out, journal);
+    print_words(out, b"end");
+}
+
+/// Prints the lines of a job, given by its parts.
+fn print_job<P: Printer>(out: &mut P, config: &Config, commands: &[Command], script: &Script)
+    ensures { P.Prints out.old (job_lines config.now commands.now script.now) out.new }
 {
     let count = count_of_clients(commands);
     print_settings(out, config);
     print_clients(out, commands, count);
     print_script(out, script);
     print_words(out, b"end");
-    print_events(out, events);
-    print_words(out, b"end");
 }
 
-/// Prints events, a line each: it is the same one, since most of a trace are events.
-fn print_events<P: Printer>(out: &mut P, events: &[Event])
-    ensures { P.Prints out.old (map event_line_of events.now) out.new }
+/// Prints the events in their order, and none if only the parts of threads are given.
+fn print_all_events<P: Printer>(out: &mut P, outcome: &Outcome)
+    requires { HasEvents outcome.now }
+    ensures { P.Prints out.old (map event_line_of (events_of outcome.now.order)) out.new }
 {
-    let mut line = Line::new();
-    for event in events {
-        line.clear();
-        push_event(&mut line, event);
-        out.print_bytes(line.as_slice());
+    match outcome.events() {
+        AllEvents::InOrder(journal) => print_events(out, journal),
+        AllEvents::InParts(_) => {}
     }
 }
 
-/// The events in their order, and none if only the parts of threads are given.
-fn events_of(outcome: &Outcome) -> &[Event]
-    requires { HasEvents outcome.now }
-    ensures { result.now ≡ events_of_order outcome.now.order }
+/// Prints events, a line each: it is the same one, since most of a trace are events.
+fn print_events<P: Printer>(out: &mut P, journal: &Journal)
+    ensures { P.Prints out.old (map event_line_of journal.now.events) out.new }
 {
-    match outcome.events() {
-        AllEvents::InOrder(journal) => journal.as_slice(),
-        AllEvents::InParts(_) => &[],
+    let mut line = Line::new();
+    for k in 0..journal.len() {
+        line.clear();
+        push_event(&mut line, &journal.at(k));
+        out.print_bytes(line.as_slice());
     }
 }
 

@@ -1,11 +1,9 @@
-use Rattle.std.proofs.Common.{refl}
 use Rattle.mu_report.proofs.Prints.{same_lines}
-use Rattle.mu_report.proofs.Traces.{asked_clients}
+use Rattle.mu_report.proofs.Traces.{behind_job}
 use Rattle.mu_report.proofs.trace.print_parts.Goals as goal
 
 pub returns : goal.returns
 returns g c =
-    let prints = g.P.Printer.Prints in
     let then = g.met.P.Printer.append in
-    let clients = same_lines prints (asked_clients _ _ _ refl c.count_of_clients-count.ensures) c.print_clients.ensures in
-    then _ _ _ _ _ c.print_settings.ensures (then _ _ _ _ _ clients (then _ _ _ _ _ c.print_script.ensures (then _ _ _ _ _ c.print_words.ensures (then _ _ _ _ _ c.print_events.ensures c.print_words-2.ensures))))
+    same_lines g.P.Printer.Prints (behind_job c.args.config.now c.args.commands.now c.args.script.now c.args.journal.now.events)
+    (then _ _ _ _ _ c.print_job.ensures (then _ _ _ _ _ c.print_events.ensures c.print_words.ensures))

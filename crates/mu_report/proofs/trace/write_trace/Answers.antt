@@ -7,7 +7,7 @@ use Rattle.mu_report.proofs.trace.write_trace.Goals as goal
 pub returns-clause-part : goal.returns-clause-part
 returns-clause-part g c =
     let all =
-    told g.K.Sink.written g.K.Sink.faults (over c.new-printer.result) _ _ (lines_of_parts c.args.config.now c.args.commands.now c.args.script.now c.args.events.now)
+    told g.K.Sink.written g.K.Sink.faults (over c.new-printer.result) _ _ (lines_of_parts c.args.config.now c.args.commands.now c.args.script.now c.args.journal.now.events)
     c.new-printer.ensures.none_held c.new-printer.ensures.nothing c.new-printer.ensures.whole c.requires
     c.print_parts.ensures.1 c.finish.ensures.written c.finish.ensures.none_held in
     err_of _ c.finish.result (λ fault is.
