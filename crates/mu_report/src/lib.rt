@@ -28,3 +28,4 @@ pub use report::status;
 pub use responses::{Response, print_responses};
 pub use said::{Said, print, print_counted};
 pub use statuses::status_for;
+pub use trace::write_trace;
