@@ -1,5 +1,5 @@
 //! What a line of a session says.
-ghost use Rattle.std.specs.Prelude.{◌≡◌, ◌<◌, ◌≤◌, ℕ, List, length, map, take, IfOk, IfSome};
+ghost use Rattle.std.specs.Prelude.{◌≡◌, ◌<◌, ◌≤◌, ℕ, List, map, take, IfOk, IfSome};
 ghost use Rattle.mu_input.specs.Operations.{operation_of};
 ghost use Rattle.mu_input.specs.declared.TheConstants.{MOST_ROUNDS as MOST_PAUSED};
 ghost use Rattle.mu_input.specs.Readings.{Tells};
