@@ -47,10 +47,6 @@ MADE_UP = {("mu_io", "read_all"), ("mu_drawing", "unread"), ("mu_top", "end_with
 LEFT = {
     "crates/mu_input/proofs/ManyWords.antt",
     "crates/mu_input/proofs/ManyWords.antt: operation-take is cited nowhere",
-    "crates/mu_agree/proofs/Growing.antt: before_added is cited nowhere",
-    "crates/mu_knowledge/src/client_rows.rt: ◌++◌ is imported for nothing",
-    "crates/mu_node/src/replying.rt: false is imported for nothing",
-    "crates/mu_node/src/replying.rt: includes is imported for nothing",
 }
 # What is no code: comments, texts, ghost items, and imports; and where a clause begins.
 NO_CODE = re.compile(r'//[^\n]*|b?"(?:[^"\\]|\\.)*"|\bghost use [^;]*;|\b(?:pub )?use [^;]*;')

@@ -75,8 +75,8 @@ impl Memory for ListFabric {
         self.step(by, Verb::Ask(p))
     }
 
-    fn events(&self) -> &[Event] {
-        self.kept.as_slice()
+    fn events(&self) -> &Journal {
+        &self.kept
     }
 
     fn into_events(self) -> Journal {

@@ -79,18 +79,6 @@ last_word c row k = ap (λ o. word_of o k) (get_push_here c.rows (row_count c) r
 pub last_client : (c : Config) (row : Row) → client_of (with_more c (row ∷ [])) (row_count c) ≡ slice_index row.words 0 / 2 ^ 8 % 2 ^ 8
 last_client c row = ap (λ w. w / 2 ^ 8 % 2 ^ 8) (last_word c row 0)
 
--- how many rows are the client's with the one that was added
-pub before_added : (c : Config) (row : Row) (client : ℕ)
-    → rows_before (with_more c (row ∷ [])) client (row_count (with_more c (row ∷ [])))
-    ≡ (if slice_index row.words 0 / 2 ^ 8 % 2 ^ 8 == client then rows_before c client (row_count c) + 1 else rows_before c client (row_count c))
-before_added c row client =
-    ap (rows_before (with_more c (row ∷ [])) client) count
-    ∙ ap (λ w. if w == client then rows_before (with_more c (row ∷ [])) client (row_count c) + 1 else rows_before (with_more c (row ∷ [])) client (row_count c)) (last_client c row)
-    ∙ ap (λ k. if slice_index row.words 0 / 2 ^ 8 % 2 ^ 8 == client then k + 1 else k) (before_kept c (row ∷ []) client (row_count c) (omega arith))
-  where
-    count : row_count (with_more c (row ∷ [])) ≡ suc (row_count c)
-    count = let e = length-append c.rows (row ∷ []) in omega (arith, e)
-
 -- a row was there, or is the one that was added
 there_or_last : (c : Config) (row : Row) (j : ℕ) → j < row_count (with_more c (row ∷ [])) → (j < row_count c) ⊎ (j ≡ row_count c)
 there_or_last c row j l = elim (cases_lt j (row_count c)) [

@@ -1,6 +1,5 @@
 //! The lines of an attested trace: those of its job, and of its items.
-ghost use Rattle.std.specs.Prelude.{◌≡◌, ◌+◌, ◌<◌, IfOk, IfSome, None, List, OnOk, codes, length};
-ghost use Rattle.std.specs.Str.{bytes_eq};
+ghost use Rattle.std.specs.Prelude.{◌≡◌, ◌+◌, ◌<◌, IfOk, IfSome, None, List, OnOk, length};
 ghost use Rattle.mu_attest.specs.Traces.{EndsItems, GivesItem, HasFew, job_lines, later_lines};
 ghost use Rattle.mu_clients.specs.Items.{IsWithin};
 ghost use Rattle.mu_clients.specs.declared.items.Item.{Item as SomeItem};
@@ -8,21 +7,11 @@ ghost use Rattle.mu_input.specs.declared.job.InputEnd.TheVariants.{Refused};
 ghost use Rattle.mu_text.specs.Lines.{ended};
 
 use mu_clients::{Item, item};
-use mu_input::InputEnd;
 use mu_input::cause::{AFTER_END, EVENT, NO_END};
+use mu_input::{InputEnd, is_end};
 use mu_model::NoMemory;
 use mu_text::{LINE_FEED, LineReader};
 use std::alloc::Global;
-
-/// Whether a line ends the job, or the items.
-fn is_end(line: &[u8]) -> bool
-    ensures { result ≡ bytes_eq line.now (codes "end") }
-{
-    match line {
-        b"end" => true,
-        _ => false,
-    }
-}
 
 /// Takes the lines of the job, up to the first `end`, and gives their bytes.
 ///

@@ -6,8 +6,8 @@ ghost use Rattle.mu_text.specs.Numbers.{below, wide_number_of};
 
 use crate::items::Item;
 use kv_store::{Reply, Text};
-use mu_events::event;
-use mu_text::{is_word, of_8, of_16, split_word};
+use mu_events::{event, replica_of};
+use mu_text::{is_word, of_16, split_word};
 
 /// The item that a line spells, if it spells one of this many replicas and rows. Takes no memory.
 pub fn item(replicas: u8, rows: u16, line: &[u8]) -> Option<Item>
@@ -44,15 +44,6 @@ fn row_of(rows: u16, word: &[u8]) -> Option<u16>
 {
     let row = of_16(word)?;
     (row < rows).then_some(row)
-}
-
-/// The replica that a word names, if it is one of these.
-fn replica_of(replicas: u8, word: &[u8]) -> Option<u8>
-    ensures is { result ≡ below replicas (wide_number_of word.now) }
-    ensures within { IfSome result (λ replica. replica < replicas) }
-{
-    let replica = of_8(word)?;
-    (replica < replicas).then_some(replica)
 }
 
 /// The reply that was told, from what follows `told`.

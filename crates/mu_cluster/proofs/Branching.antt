@@ -77,6 +77,5 @@ mine_part c events parts r mine low has at =
     sym (reverse-reverse mine) ∙ (ap reverse same ∙ history-part r events)
 
 -- the one list of what was gathered
-pub one_list : (c : Config) (g : Collected) (parts : List (List Event)) → g.config ≡ c → parts ≡ g.parts → AreOfOneList g → (events : List Event) × (IsLegal c events × HasParts c events parts)
-one_list c g parts config is one =
-    (one.events, (subst (λ k. IsLegal k one.events) config one.legal, subst (λ l. HasParts c one.events l) (sym is) (subst (λ k. HasParts k one.events g.parts) config one.has_parts)))
+pub one_list : (c : Config) (g : Collected) → g.config ≡ c → AreOfOneList g → (events : List Event) × (IsLegal c events × HasParts c events g.parts)
+one_list c g config one = (one.events, (subst (λ k. IsLegal k one.events) config one.legal, subst (λ k. HasParts k one.events g.parts) config one.has_parts))

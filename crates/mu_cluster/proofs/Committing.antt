@@ -26,6 +26,7 @@ use Rattle.mu_model.specs.Knowledge.{applied}
 use Rattle.mu_model.specs.Leaderships.{majority_of}
 use Rattle.mu_model.specs.Room.{reserve}
 use Rattle.mu_model.specs.Scores.{least_below}
+use Rattle.mu_model.specs.Stops.{is_stopped}
 use Rattle.mu_model.proofs.Basics.{same_some}
 use Rattle.mu_model.proofs.Parts.{filter-append}
 use Rattle.mu_outcome.specs.declared.outcome.Outcome.{Outcome}
@@ -56,10 +57,10 @@ use Rattle.mu_cluster.proofs.Taken.{GoOn, TakenAt, fetches_at, taken_at}
 use Rattle.mu_cluster.proofs.Turning.{least_most}
 use Rattle.mu_cluster.proofs.Unblocking.{StopBy, lower_stop, unblocked_at}
 use Rattle.mu_enough.specs.Committed.{committed_by, steps_after, steps_after_in_any_ring, steps_after_pauses}
-use Rattle.mu_enough.specs.Lines.{disturbed_until, has_large_ring, has_pause, has_stop, is_left, is_majority_left, is_stopped, last_line_step, last_pause_step, last_stop_below, last_stop_step, least_left, most_paused_rounds, paused_rounds}
+use Rattle.mu_enough.specs.Lines.{disturbed_until, has_large_ring, has_pause, has_stop, is_left, is_majority_left, last_line_step, last_pause_step, last_stop_below, last_stop_step, least_left, most_paused_rounds, paused_rounds}
 
 -- a step at which a line stops r is at most the greatest
-stop_within : (stops : List Stop) (r steps : ℕ) → stops_at r steps stops ≡ true → (is_stopped stops r ≡ true) × (steps ≤ last_stop_step stops)
+stop_within : (stops : List Stop) (r steps : ℕ) → stops_at r steps stops ≡ true → (is_stopped r stops ≡ true) × (steps ≤ last_stop_step stops)
 stop_within [] r steps is = absurd (true≢false (sym is))
 stop_within (s ∷ ss) r steps is = go (s.replica == r) (s.steps == steps) refl is (stop_within ss r steps)
   where
@@ -69,7 +70,7 @@ stop_within (s ∷ ss) r steps is = go (s.replica == r) (s.steps == steps) refl 
     later : steps ≤ last_stop_step ss → steps ≤ max s.steps (last_stop_step ss)
     later low = let most = le-max_right s.steps (last_stop_step ss) in omega (arith, low, most)
 
-    go : (t u : Bool) → (s.steps == steps) ≡ u → ((t && u) || stops_at r steps ss) ≡ true → (stops_at r steps ss ≡ true → (is_stopped ss r ≡ true) × (steps ≤ last_stop_step ss)) → ((t || is_stopped ss r) ≡ true) × (steps ≤ max s.steps (last_stop_step ss))
+    go : (t u : Bool) → (s.steps == steps) ≡ u → ((t && u) || stops_at r steps ss) ≡ true → (stops_at r steps ss ≡ true → (is_stopped r ss ≡ true) × (steps ≤ last_stop_step ss)) → ((t || is_stopped r ss) ≡ true) × (steps ≤ max s.steps (last_stop_step ss))
     go true true at is ih = (refl, first (eqb-true s.steps steps at))
     go true false at is ih = (refl, later (ih is).1)
     go false u at is ih = ((ih is).0, later (ih is).1)
@@ -123,7 +124,7 @@ line_there o run r low was = go (run.ended r low).0 (run.ended r low).1 (run.end
     go (End.Finished heads) is ends = absurd (true≢false (sym was ∙ ap is_stop is))
 
 -- so it has a line, and took at most the greatest step
-pub stopped_there : (o : Outcome) → IsRun o → (r : ℕ) → r < o.job.config.replicas → was_stopped o r ≡ true → (is_stopped o.job.script.stops r ≡ true) × (length (journal_of o r) ≤ last_stop_step o.job.script.stops)
+pub stopped_there : (o : Outcome) → IsRun o → (r : ℕ) → r < o.job.config.replicas → was_stopped o r ≡ true → (is_stopped r o.job.script.stops ≡ true) × (length (journal_of o r) ≤ last_stop_step o.job.script.stops)
 stopped_there o run r low was = stop_within o.job.script.stops r (length (journal_of o r)) (line_there o run r low was)
 
 -- so who has no line wasn't stopped

@@ -85,9 +85,9 @@ fn drive<R: Wait + Clock, G: Gate>(rt: &R, branch: &mut Branch, script: &Script,
         let passed = Passed::through(gate, node.id(), steps);
         match turn_rested(node, port, script, &rested, &passed) {
             Turn::Took(_) => {
-                let events = port.part();
-                silences.take_newest(events);
-                idling.take_newest(events);
+                let newest = port.newest();
+                silences.take(newest);
+                idling.take(newest);
                 next = pause_after(next, pauses, node.id(), node.steps());
             }
             Turn::Ended(_) => break,

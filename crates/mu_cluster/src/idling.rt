@@ -1,7 +1,6 @@
 //! How many cycles in a row a replica got nothing done.
-ghost use Rattle.std.specs.Prelude.{List, [], min, ℕ, ◌<◌, ◌∷◌, ◌≡◌};
+ghost use Rattle.std.specs.Prelude.{List, Some, [], min, ℕ, ◌<◌, ◌∷◌, ◌≡◌};
 ghost use Rattle.mu_model.specs.declared.event.Event.{Event as SomeEvent};
-ghost use Rattle.mu_model.specs.Histories.{history};
 ghost use Rattle.mu_model.specs.Steps.{is_ask_read_verb};
 ghost use Rattle.mu_follow.specs.Published.{HoldsPublished};
 ghost use Rattle.mu_cluster.specs.Idling.{ReadsHeadsWithin, StandsForIdling, gets_done, idle_after, idle_ended};
@@ -84,16 +83,16 @@ impl Idling {
 
     /// Takes the newest of the replica's own events.
     #[inline(always)]
-    pub(crate) fn take_newest(&mut self, events: &[Event])
-        ensures { (event : SomeEvent) → (past : List SomeEvent) → history events.now ≡ event ∷ past
+    pub(crate) fn take(&mut self, newest: Option<Event>)
+        ensures { (event : SomeEvent) → (past : List SomeEvent) → newest ≡ Some event
             → ReadsHeadsWithin 7 event.verb → StandsForIdling event.by past self.old
             → StandsForIdling event.by (event ∷ past) self.new }
     {
-        if let Some(event) = events.last() {
+        if let Some(event) = newest {
             let ends = ends_cycle(event.verb);
-            self.cycles = cycles_after(gets_done(&self.heads, event), ends, self.cycles);
+            self.cycles = cycles_after(gets_done(&self.heads, &event), ends, self.cycles);
             self.ended = if ends { self.cycles } else { 0 };
-            self.heads.note(event.by, event);
+            self.heads.note(event.by, &event);
         }
     }
 }

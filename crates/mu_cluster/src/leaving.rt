@@ -1,5 +1,5 @@
 //! What replicas that ran in threads leave.
-ghost use Rattle.std.specs.Prelude.{true, List, map, ◌≡◌};
+ghost use Rattle.std.specs.Prelude.{true, List, ◌≡◌};
 ghost use Rattle.mu_model.specs.declared.event.Event.{Event};
 ghost use Rattle.mu_model.specs.Contents.{IsConfig};
 ghost use Rattle.mu_model.specs.Legal.{IsLegal};
@@ -16,7 +16,7 @@ use mu_input::Job;
 use mu_model::Sequence;
 use mu_node::Node;
 use mu_outcome::Outcome;
-use shared_fabric::{Gathered, Parts};
+use shared_fabric::Gathered;
 
 /// What a run of threads leaves if every replica has an end. Takes no memory.
 pub(crate) fn gathered_outcome(
@@ -40,7 +40,8 @@ pub(crate) fn gathered_outcome(
         lists,
         printed: room,
     } = room;
-    let lists = left_by(lists, &job, gathered.parts(), nodes);
+    gathered.are_of_one_list();
+    let lists = left_by(lists, &job, &gathered, nodes);
     let printed = printed(room, &lists);
     let Lists {
         logs,
@@ -60,17 +61,16 @@ pub(crate) fn gathered_outcome(
     }
 }
 
-/// The lists with what each replica leaves. The job and the parts are only for the clauses.
-fn left_by(mut lists: Lists, _job: &Job, _parts: &Parts, nodes: Vec<Node>) -> Lists
+/// The lists with what each replica leaves. The job and what was gathered are only for the clauses.
+fn left_by(mut lists: Lists, _job: &Job, _gathered: &Gathered, nodes: Vec<Node>) -> Lists
     requires good { IsConfig _job.now.config }
     requires room { HasRoom _job.now.config.replicas 0 lists }
     requires list { (events : List Event)
         × (IsLegal _job.now.config events
-        × HasParts _job.now.config events (map (λ j. j.events) _parts.now)) }
-    requires left { AreLeft _job.now.config _job.now.script
-        (map (λ j. j.events) _parts.now) nodes.items }
+        × HasParts _job.now.config events _gathered.now.parts) }
+    requires left { AreLeft _job.now.config _job.now.script _gathered.now.parts nodes.items }
     ensures { (events : List Event) → IsLegal _job.now.config events
-        → HasParts _job.now.config events (map (λ j. j.events) _parts.now)
+        → HasParts _job.now.config events _gathered.now.parts
         → HoldsLists true _job.now.config _job.now.script events _job.now.config.replicas
         result }
 {

@@ -23,7 +23,7 @@ use crate::rounds::Seat;
 use kv_store::Reply;
 use mu_input::Job;
 use mu_knowledge::{Commits, Log};
-use mu_model::{Config, End, Event, Journal, NoMemory, Sequence};
+use mu_model::{Config, End, Journal, NoMemory, Sequence};
 use mu_node::{NodeResult, Zeal};
 use mu_outcome::{Outcome, Replies};
 use std::alloc::Global;
@@ -165,7 +165,7 @@ impl OutcomeRoom {
             lists,
             printed: room,
         } = self;
-        let lists = filled(lists, &job, order.as_slice(), seats, _kind);
+        let lists = filled(lists, &job, &order, seats, _kind);
         let printed = printed(room, &lists);
         let Lists {
             logs,
@@ -187,15 +187,15 @@ impl OutcomeRoom {
 }
 
 /// The lists with what each replica leaves.
-fn filled(mut lists: Lists, _job: &Job, _events: &[Event], seats: Vec<Seat>, _kind: Zeal) -> Lists
+fn filled(mut lists: Lists, _job: &Job, _order: &Journal, seats: Vec<Seat>, _kind: Zeal) -> Lists
     requires good { IsConfig _job.now.config }
-    requires legal { IsLegal _job.now.config _events.now }
+    requires legal { IsLegal _job.now.config _order.now.events }
     requires room { HasRoom _job.now.config.replicas 0 lists }
     requires played { (rounds : ℕ)
-        × PlayedBy _kind _job.now.config _job.now.script _events.now seats.items rounds 0 }
+        × PlayedBy _kind _job.now.config _job.now.script _order.now.events seats.items rounds 0 }
     requires ended { (r : ℕ) → (seat : SomeSeat) → slice_get seats.items r ≡ Some seat
         → seat.ended ≡ true }
-    ensures { HoldsLists (is_eager _kind) _job.now.config _job.now.script _events.now
+    ensures { HoldsLists (is_eager _kind) _job.now.config _job.now.script _order.now.events
         _job.now.config.replicas result }
 {
     for seat in seats {

@@ -50,9 +50,9 @@ pub fn run<R: Threads + Wait + Clock + Sync, G: Gate + Sync>(
     let nodes = Vec::with_capacity(alloc, count)?;
     let back = Vec::with_capacity(alloc, count)?;
     let mut shared = Shared::start(alloc, &job.config)?;
-    let (ports, parts) = shared.ports(alloc)?;
+    let ports = shared.ports(alloc)?;
     let first = branches(alloc, &job, ports.into_ports())?;
     let (nodes, ports) = parted(driven(rt, first, &job.script, gate), nodes, back);
-    let gathered = shared.gather(SharedPorts::of_ports(ports), parts);
+    let gathered = shared.gather(SharedPorts::of_ports(ports));
     Ok(gathered_outcome(room, job, gathered, nodes))
 }

@@ -1,9 +1,8 @@
 //! For how many reads in a row the beats of others have stood still.
-ghost use Rattle.std.specs.Prelude.{List, [], min, ℕ, ◌<◌, ◌∷◌, ◌≡◌};
+ghost use Rattle.std.specs.Prelude.{List, Some, [], min, ℕ, ◌<◌, ◌∷◌, ◌≡◌};
 ghost use Rattle.mu_model.specs.declared.event.Answer.{Answer as SomeAnswer};
 ghost use Rattle.mu_model.specs.declared.event.Event.{Event as SomeEvent};
 ghost use Rattle.mu_model.specs.declared.event.Verb.{Verb as SomeVerb};
-ghost use Rattle.mu_model.specs.Histories.{history};
 ghost use Rattle.mu_cluster.specs.Silences.{HoldReads, HoldsReads, ReadsBeatsWithin, StandsForSilences, reads_of, silence, silence_after};
 
 use mu_model::{Answer, Event, Verb};
@@ -105,13 +104,13 @@ impl Silences {
 
     /// Takes the newest of the replica's own events.
     #[inline(always)]
-    pub(crate) fn take_newest(&mut self, events: &[Event])
-        ensures { (event : SomeEvent) → (past : List SomeEvent) → history events.now ≡ event ∷ past
+    pub(crate) fn take(&mut self, newest: Option<Event>)
+        ensures { (event : SomeEvent) → (past : List SomeEvent) → newest ≡ Some event
             → ReadsBeatsWithin 7 event.verb → StandsForSilences past self.old
             → StandsForSilences (event ∷ past) self.new }
     {
-        if let Some(event) = events.last() {
-            self.shown = silence_with(&mut self.reads, event);
+        if let Some(event) = newest {
+            self.shown = silence_with(&mut self.reads, &event);
         }
     }
 }

@@ -60,8 +60,8 @@ fn drawing(alloc: Global, bytes: &[u8], asked: Extent) -> Result<(Sheet, bool), 
     requires { length bytes.now ≤ TRACE_LIMIT }
     ensures { Draws bytes.now asked (told_with result) }
 {
-    let (job, journal) = read_trace(alloc, bytes)?;
-    let events = journal.as_slice();
+    let (job, list) = read_trace(alloc, bytes)?;
+    let events = list.as_slice();
     let line = first_line(bytes, events);
     drawing_of_events(alloc, &job, line, events, asked)
 }

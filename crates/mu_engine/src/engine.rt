@@ -15,7 +15,7 @@ use crate::seat::{Seat, seats};
 use crate::shape::Shape;
 use kv_store::Command;
 use mu_input::Job;
-use mu_model::{Config, Event, NoMemory, Script, Sequence};
+use mu_model::{Config, Journal, NoMemory, Script, Sequence};
 use mu_port::Memory;
 use std::alloc::Global;
 use std::marker::Model;
@@ -167,8 +167,8 @@ impl Engine {
     }
 
     /// The events so far, in true order: a legal list of the commands so far.
-    pub fn events(&self) -> &[Event]
-        ensures events { result.now ≡ self.now.events }
+    pub fn events(&self) -> &Journal
+        ensures events { result.now.events ≡ self.now.events }
         ensures moment { IsMoment self.now.job self.now.events }
     {
         self.port.events()

@@ -1,7 +1,7 @@
 -- is left, last line step, disturbed until, least left: what the lines of a script say of a job: who
 -- is stopped by none, the greatest step of the lines, the rounds after which no line disturbs a
 -- replay, and the least replica that no line stops.
-use Rattle.std.specs.Prelude.{Bool, List, [], false, if◌then◌else◌, length, max, nat_le, nat_lt, not, suc, zero, ℕ, ◌*◌, ◌+◌, ◌==◌, ◌||◌, ◌∷◌}
+use Rattle.std.specs.Prelude.{Bool, List, [], false, if◌then◌else◌, length, max, nat_le, nat_lt, not, suc, zero, ℕ, ◌*◌, ◌+◌, ◌==◌, ◌∷◌}
 use Rattle.mu_model.specs.declared.config.Config.{Config}
 use Rattle.mu_model.specs.declared.script.Pause.{Pause}
 use Rattle.mu_model.specs.declared.script.Script.{Script}
@@ -11,15 +11,11 @@ use Rattle.mu_model.specs.Histories.{count_below}
 use Rattle.mu_model.specs.Leaderships.{majority_of}
 use Rattle.mu_model.specs.Room.{reserve}
 use Rattle.mu_model.specs.Scores.{least_below}
-
--- a line stops r
-abbrev pub is_stopped : List Stop → ℕ → Bool
-is_stopped [] r = false
-is_stopped (s ∷ ss) r = (s.replica == r) || is_stopped ss r
+use Rattle.mu_model.specs.Stops.{is_stopped}
 
 -- no line stops r
 abbrev pub is_left : List Stop → ℕ → Bool
-is_left stops r = not (is_stopped stops r)
+is_left stops r = not (is_stopped r stops)
 
 -- the greatest step of these lines
 abbrev pub last_stop_step : List Stop → ℕ

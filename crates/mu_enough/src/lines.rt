@@ -3,13 +3,13 @@ ghost use Rattle.std.specs.Prelude.{◌<◌, ◌==◌, ◌≡◌, ◌≤◌, ◌
 ghost use Rattle.mu_enough.specs.Lines.{disturbed_until, has_pause, has_stop, is_left, is_majority_left, last_line_step, last_pause_step, last_stop_below, last_stop_step, least_left, most_paused_rounds, paused_rounds};
 ghost use Rattle.mu_model.specs.Histories.{count_below};
 
-use mu_model::{Config, Pause, Script, Stop, majority};
+use mu_model::{Config, Pause, Script, Stop, is_stopped, majority};
 
 /// Whether no line stops the replica.
 pub(crate) fn is_left(stops: &[Stop], replica: u8) -> bool
     ensures { result ≡ is_left stops.now replica }
 {
-    !stops.iter().any(|stop| stop.replica == replica)
+    !is_stopped(replica, stops)
 }
 
 /// The greatest step of these stops, or 0.

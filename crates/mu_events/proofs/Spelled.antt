@@ -16,7 +16,8 @@ use Rattle.mu_model.specs.declared.event.Target.TheVariants as target
 use Rattle.mu_model.specs.declared.event.Verb.{Verb}
 use Rattle.mu_model.specs.declared.event.Verb.TheVariants as verb
 use Rattle.mu_events.specs.Events.{answer_of, event_between, event_of, fence_of, named_of, of_four, of_three, of_two, owner_of, sides, state_of, verb_of}
-use Rattle.mu_events.specs.Lines.{EntersForWord, FitsAnswer, FitsEvent, FitsFence, FitsOwner, FitsTarget, FitsVerb, IsSpelled, answer_words, event_line, fence_words, owner_words, state_words, target_words, verb_words}
+use Rattle.mu_model.specs.Ranges.{FitsAnswer, FitsEvent, FitsFence, FitsOwner, FitsTarget, FitsVerb}
+use Rattle.mu_events.specs.Lines.{EntersForWord, IsSpelled, answer_words, event_line, fence_words, owner_words, state_words, target_words, verb_words}
 use Rattle.mu_text.specs.Lines.{words}
 use Rattle.mu_text.specs.Numbers.{below, of_8, of_16, of_32, of_64, wide_number_of}
 use Rattle.mu_text.specs.declared.TheConstants.{SPACE}

@@ -2,7 +2,7 @@
 ghost use Rattle.std.specs.Prelude.{◌≡◌, ◌+◌, ◌≤◌, ◌++◌, length};
 ghost use Rattle.mu_text.specs.declared.line_text.TheConstants.{LINE_BYTES};
 ghost use Rattle.mu_events.specs.Lines.{target_words, owner_words, state_words, fence_words, answer_words};
-ghost use Rattle.mu_events.specs.Lines.{FitsTarget, FitsOwner, FitsFence, FitsAnswer};
+ghost use Rattle.mu_model.specs.Ranges.{FitsTarget, FitsOwner, FitsFence, FitsAnswer};
 
 use mu_model::{Answer, Fence, Target};
 use mu_text::Line;

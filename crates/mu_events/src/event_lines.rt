@@ -4,7 +4,8 @@ ghost use Rattle.std.specs.Fmt.{decimal};
 ghost use Rattle.mu_text.specs.declared.line_text.TheConstants.{LINE_BYTES};
 ghost use Rattle.mu_events.specs.Events.{event_of};
 ghost use Rattle.mu_events.specs.Lines.{answer_words, verb_words, event_line as event_line_of};
-ghost use Rattle.mu_events.specs.Lines.{FitsAnswer, FitsEvent, FitsVerb, IsSpelled};
+ghost use Rattle.mu_events.specs.Lines.{IsSpelled};
+ghost use Rattle.mu_model.specs.Ranges.{FitsAnswer, FitsEvent, FitsVerb};
 ghost use Rattle.mu_model.specs.declared.event.Event.{Event as Made};
 ghost use Rattle.mu_text.specs.Lines.{words};
 

@@ -1,5 +1,5 @@
 //! Lines of events: `BY VERB = ANSWER`.
-ghost use Rattle.std.specs.Prelude.{◌≡◌, [], ◌∷◌, IsTrue, MatchOption, Some, codes, get_or, map, true};
+ghost use Rattle.std.specs.Prelude.{◌<◌, ◌≡◌, [], ◌∷◌, IfSome, IsTrue, MatchOption, Some, codes, get_or, map, true};
 ghost use Rattle.std.specs.Str.{bytes_eq};
 ghost use Rattle.mu_events.specs.Events.{event_of, sides};
 ghost use Rattle.mu_events.specs.Events.{target_of, verb_alone, verb_of_one, verb_of_two};
@@ -49,8 +49,9 @@ pub(crate) fn split_first(line: &[u8]) -> (&[u8], Option<&[u8]>)
 
 /// The replica that a word names, if it is one of `replicas`.
 #[inline(always)]
-fn replica_of(replicas: u8, word: &[u8]) -> Option<u8>
-    ensures { result ≡ below replicas (wide_number_of word.now) }
+pub fn replica_of(replicas: u8, word: &[u8]) -> Option<u8>
+    ensures is { result ≡ below replicas (wide_number_of word.now) }
+    ensures within { IfSome result (λ replica. replica < replicas) }
 {
     match word {
         [_] => below(replicas, of_8(word)?),
@@ -61,7 +62,8 @@ fn replica_of(replicas: u8, word: &[u8]) -> Option<u8>
 /// The same of any word. Apart, since a replica has one digit in every line that is an event.
 #[inline(never)]
 fn replica_of_many(replicas: u8, word: &[u8]) -> Option<u8>
-    ensures { result ≡ below replicas (wide_number_of word.now) }
+    ensures is { result ≡ below replicas (wide_number_of word.now) }
+    ensures within { IfSome result (λ replica. replica < replicas) }
 {
     below(replicas, of_8(word)?)
 }
@@ -69,7 +71,8 @@ fn replica_of_many(replicas: u8, word: &[u8]) -> Option<u8>
 /// The replica, if it is one of `replicas`.
 #[inline(always)]
 fn below(replicas: u8, replica: u8) -> Option<u8>
-    ensures { result ≡ below replicas (Some replica) }
+    ensures is { result ≡ below replicas (Some replica) }
+    ensures within { IfSome result (λ replica. replica < replicas) }
 {
     (replica < replicas).then_some(replica)
 }

@@ -8,4 +8,4 @@ mod events;
 
 pub use answers::push_answer;
 pub use event_lines::{event_line, events_are_read_back, push_event};
-pub use events::event;
+pub use events::{event, replica_of};

@@ -12,7 +12,8 @@ use Rattle.mu_model.specs.declared.event.Event.{Event}
 use Rattle.mu_model.specs.declared.event.Target.TheVariants as target
 use Rattle.mu_model.specs.declared.event.Verb.{Verb}
 use Rattle.mu_model.specs.declared.event.Verb.TheVariants as verb
-use Rattle.mu_events.specs.Lines.{EntersForWord, FitsEvent, IsSpelled}
+use Rattle.mu_model.specs.Ranges.{FitsEvent}
+use Rattle.mu_events.specs.Lines.{EntersForWord, IsSpelled}
 
 -- a verb that is allowed enters for a word
 enters : (c : Config) (r : ℕ) (past : List Event) (made : Verb) → Needs c r past made → EntersForWord made

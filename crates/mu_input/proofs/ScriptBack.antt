@@ -10,6 +10,7 @@ use Rattle.std.proofs.lemmas.List.Elements.{All-cons, All-head, All-nil, All-pus
 use Rattle.mu_model.specs.declared.script.Pause.{Pause}
 use Rattle.mu_model.specs.declared.script.Script.{Script}
 use Rattle.mu_model.specs.declared.script.Stop.{Stop}
+use Rattle.mu_model.specs.Stops.{is_stopped}
 use Rattle.mu_text.specs.Lines.{Left, is_alone, words}
 use Rattle.mu_text.specs.Numbers.{below, number_of, within}
 use Rattle.mu_text.specs.declared.TheConstants.{SPACE}
@@ -17,7 +18,7 @@ use Rattle.mu_text.proofs.Decimals.{below-decimal, within-decimal}
 use Rattle.mu_text.proofs.SpelledWords.{IsOneLine, IsOneWord, Spells, Spells-join, Spells-word, one_number, written}
 use Rattle.mu_input.specs.JobLines.{stop_line as line_of_stop, pause_line as line_of_pause}
 use Rattle.mu_input.specs.Readings.{Begins, Line, Says, Wrong}
-use Rattle.mu_input.specs.Scripts.{another_pause, another_stop, is_stopped, pause_line, pauses_before, pauses_in_order, pauses_of, script_after, script_at, script_from, script_line, script_of, stop_line, stop_or_pause, stops_in_order, stops_of, with_room}
+use Rattle.mu_input.specs.Scripts.{another_pause, another_stop, pause_line, pauses_before, pauses_in_order, pauses_of, script_after, script_at, script_from, script_line, script_of, stop_line, stop_or_pause, stops_in_order, stops_of, with_room}
 use Rattle.mu_input.specs.declared.TheConstants.{MOST_REPLICAS, MOST_ROUNDS, MOST_SCRIPT_LINES, MOST_STEPS}
 use Rattle.mu_input.specs.declared.cause.TheConstants.{SCRIPT, TOO_MANY}
 use Rattle.mu_input.specs.declared.scripts.ScriptLine.{ScriptLine}

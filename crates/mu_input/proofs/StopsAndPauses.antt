@@ -5,23 +5,19 @@ use Rattle.std.proofs.lemmas.List.Elements.{filter_more}
 use Rattle.std.proofs.lemmas.List.Recursion.{same_from_clauses}
 use Rattle.std.proofs.lemmas.Bool.Decides.{nat_tests}
 use Rattle.std.specs.declared.option.Option.{Option}
-use Rattle.std.specs.List.{filter, list_all, list_any}
+use Rattle.std.specs.List.{filter, list_all}
 use Rattle.mu_model.specs.declared.script.Stop.{Stop}
 use Rattle.mu_model.specs.declared.script.Pause.{Pause}
 use Rattle.mu_text.specs.Lines.{is_alone, words}
 use Rattle.mu_input.specs.Readings.{Line, Says, Wrong}
-use Rattle.mu_input.specs.Scripts.{is_stopped, stop_line, pauses_before, pause_line, script_after, script_from, script_line, stop_or_pause, with_room, stops_of, pauses_of}
+use Rattle.mu_input.specs.Scripts.{stop_line, pauses_before, pause_line, script_after, script_from, script_line, stop_or_pause, with_room, stops_of, pauses_of}
 use Rattle.mu_input.specs.declared.scripts.ScriptLine.{ScriptLine}
 use Rattle.mu_input.specs.declared.scripts.ScriptLine.TheVariants as line
 use Rattle.mu_input.specs.declared.cause.TheConstants.{TOO_MANY}
 use Rattle.mu_text.specs.declared.TheConstants.{MANY_WORDS}
 use Rattle.mu_input.specs.declared.TheConstants.{MOST_SCRIPT_LINES}
 
--- the test of a stop is one of each of them
-pub is_stopped-any : (r : ℕ) (stops : List Stop) → list_any (λ (stop : Stop). stop.replica == r) stops ≡ is_stopped r stops
-is_stopped-any r stops = same_from_clauses (list_any (λ (stop : Stop). stop.replica == r)) (is_stopped r) (λ (stop : Stop) (rest : Bool). (stop.replica == r) || rest) refl (λ _ _. refl) (λ _ _. refl) stops
-
--- and so is that of a pause
+-- the test of a pause is one of each of them
 pub pauses_before-all : (r k : ℕ) (pauses : List Pause) → list_all (λ (pause : Pause). not (pause.replica == r) || nat_lt pause.steps k) pauses ≡ pauses_before r k pauses
 pauses_before-all r k pauses = same_from_clauses (list_all (λ (pause : Pause). not (pause.replica == r) || nat_lt pause.steps k)) (pauses_before r k) (λ (pause : Pause) (rest : Bool). (not (pause.replica == r) || nat_lt pause.steps k) && rest) refl (λ _ _. refl) (λ _ _. refl) pauses
 

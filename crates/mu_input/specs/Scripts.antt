@@ -5,6 +5,7 @@ use Rattle.std.specs.Str.{bytes_eq}
 use Rattle.mu_model.specs.declared.script.Stop.{Stop}
 use Rattle.mu_model.specs.declared.script.Pause.{Pause}
 use Rattle.mu_model.specs.declared.script.Script.{Script}
+use Rattle.mu_model.specs.Stops.{is_stopped}
 use Rattle.mu_text.specs.Lines.{Left, is_alone, words}
 use Rattle.mu_text.specs.Numbers.{below, number_of, within}
 use Rattle.mu_input.specs.Readings.{Front, Begins, Breaks, Line, Says, Wrong}
@@ -12,11 +13,6 @@ use Rattle.mu_input.specs.declared.TheConstants.{MOST_STEPS, MOST_ROUNDS, MOST_S
 use Rattle.mu_input.specs.declared.cause.TheConstants.{SCRIPT, TOO_MANY, NO_END}
 use Rattle.mu_input.specs.declared.scripts.ScriptLine.{ScriptLine}
 use Rattle.mu_input.specs.declared.scripts.ScriptLine.TheVariants as line
-
--- one of these stops is of replica r
-abbrev pub is_stopped : ℕ → List Stop → Bool
-is_stopped r [] = false
-is_stopped r (stop ∷ stops) = (stop.replica == r) || is_stopped r stops
 
 -- the stop of a replica after this many steps, if it has none yet
 abbrev pub another_stop : List Stop → Option ℕ → Option ℕ → Option Stop

@@ -10,7 +10,6 @@ use Rattle.mu_model.specs.declared.event.Event.{Event}
 use Rattle.mu_events.specs.Events.{event_of}
 use Rattle.mu_input.specs.Grammar.{all_lines, job_at}
 use Rattle.mu_text.specs.Lines.{Left, words}
-use Rattle.mu_model.specs.Journals.{Record}
 use Rattle.mu_input.specs.Readings.{Front, Begins, Breaks, Reading, Fits, Leaves, followed, whole}
 use Rattle.mu_input.specs.declared.cause.TheConstants.{EVENT, NO_END}
 use Rattle.mu_input.specs.declared.job.Job.{Job}
@@ -102,8 +101,7 @@ CountsAll bytes job events (Ok count) = GoesOn bytes job events count
 CountsAll bytes job events (Err end) = IsRefused bytes end
 
 -- a result says what the reading is; want of memory can come at any bytes
-abbrev pub ReadsTrace : Result (Job × Record) InputEnd → Reading Trace → Type 0
-ReadsTrace (Ok (job, journal)) reading =
-    reading ≡ Fits (record { job = job; events = journal.events })
+abbrev pub ReadsTrace : Result (Job × List Event) InputEnd → Reading Trace → Type 0
+ReadsTrace (Ok (job, events)) reading = reading ≡ Fits (record { job = job; events = events })
 ReadsTrace (Err (Refused line cause)) reading = reading ≡ Leaves line cause
 ReadsTrace (Err NoMemory) reading = ⊤

@@ -24,7 +24,7 @@ pub use operations::operation;
 pub use reading::read;
 pub use scripts::replica_of;
 pub use senders::desk_line;
-pub use traces::{EventLines, read_trace, traces_are_read_back};
+pub use traces::{EventLines, is_end, read_trace, traces_are_read_back};
 
 /// The most bytes of a trace.
 pub const TRACE_LIMIT: usize = 67_108_864;

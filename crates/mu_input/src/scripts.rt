@@ -2,12 +2,12 @@
 ghost use Rattle.std.specs.Prelude.{◌≡◌, ◌+◌, ◌<◌, ◌≤◌, ◌^◌, ◌++◌, [], IfOk, length, map};
 ghost use Rattle.mu_text.specs.Numbers.{below, number_of};
 ghost use Rattle.mu_input.specs.Readings.{ReadsFront, Tells};
-ghost use Rattle.mu_input.specs.Scripts.{is_stopped, another_stop, stop_line, pauses_before, another_pause, pause_line, stop_or_pause, script_line, stops_of, stops_in_order, pauses_of, pauses_in_order, script_of, script_from, script_at};
+ghost use Rattle.mu_input.specs.Scripts.{another_stop, stop_line, pauses_before, another_pause, pause_line, stop_or_pause, script_line, stops_of, stops_in_order, pauses_of, pauses_in_order, script_of, script_from, script_at};
 
 use crate::cause::{NO_END, SCRIPT, TOO_MANY};
 use crate::job::InputEnd;
 use crate::{MOST_ROUNDS, MOST_SCRIPT_LINES, MOST_STEPS};
-use mu_model::{Pause, Script, Sequence, Stop};
+use mu_model::{Pause, Script, Sequence, Stop, is_stopped};
 use mu_text::{LineReader, Words, is_alone, limited, number};
 use std::alloc::{AllocError, Global};
 
@@ -159,12 +159,6 @@ fn another_stop(stops: &[Stop], replica: Option<u8>, steps: Option<u32>) -> Opti
         return None;
     }
     Some(Stop { replica, steps })
-}
-
-fn is_stopped(replica: u8, stops: &[Stop]) -> bool
-    ensures { result ≡ is_stopped replica stops.now }
-{
-    stops.iter().any(|stop| stop.replica == replica)
 }
 
 /// The pause that a line adds to these.

@@ -2,7 +2,8 @@
 ghost use Rattle.std.specs.Prelude.{◌≡◌, ◌+◌, ◌≤◌, ◌<◌, ◌^◌, ℕ, List, [], All, codes, length, IfErr, IfOk, IfSome};
 ghost use Rattle.std.specs.Str.{bytes_eq};
 ghost use Rattle.kv_store.specs.Sessions.{IsInSession};
-ghost use Rattle.mu_events.specs.Lines.{FitsEvent, IsSpelled};
+ghost use Rattle.mu_events.specs.Lines.{IsSpelled};
+ghost use Rattle.mu_model.specs.Ranges.{FitsEvent};
 ghost use Rattle.mu_model.specs.Contents.{IsConfig};
 ghost use Rattle.mu_model.specs.Legal.{IsLegal};
 ghost use Rattle.mu_model.specs.declared.event.Event.{Event as Made};
@@ -19,7 +20,7 @@ use crate::cause::{EVENT, NO_END};
 use crate::job::{InputEnd, Job};
 use crate::reading::{read_end, read_job};
 use mu_events::event;
-use mu_model::{Event, Journal};
+use mu_model::{Event, Sequence};
 use mu_text::LineReader;
 use std::alloc::Global;
 use std::marker::Model;
@@ -121,8 +122,8 @@ impl<'a> EventLines<'a> {
     }
 }
 
-/// Whether a line ends the events: a pattern is compared in place.
-fn is_end(line: &[u8]) -> bool
+/// Whether a line ends a job, or the events: a pattern is compared in place.
+pub fn is_end(line: &[u8]) -> bool
     ensures { result ≡ bytes_eq line.now (codes "end") }
 {
     match line {
@@ -137,20 +138,20 @@ fn is_end(line: &[u8]) -> bool
 /// # Errors
 ///
 /// Those of `read`, and the cause 13 for a line that is no event of the job's replicas.
-pub fn read_trace(alloc: Global, bytes: &[u8]) -> Result<(Job, Journal), InputEnd>
+pub fn read_trace(alloc: Global, bytes: &[u8]) -> Result<(Job, Sequence<Event>), InputEnd>
     requires { length bytes.now ≤ TRACE_LIMIT }
     ensures reading { ReadsTrace result (trace bytes.now) }
     ensures config { IfOk result (λ r. IsConfig r.0.config) }
     ensures session { IfOk result (λ r. IsInSession r.0.commands) }
     ensures heads { IfOk result (λ r. HaveHeads r.0.config.width r.0.commands r.0.config.rows) }
-    ensures few { IfOk result (λ r. length r.1.events < 2 ^ 32) }
+    ensures few { IfOk result (λ r. length r.1 < 2 ^ 32) }
 {
     let (job, mut lines) = EventLines::of(alloc, bytes)?;
     let mut events = Vec::new(alloc);
     while let Some(event) = lines.next()? {
         events.push(event)?;
     }
-    Ok((job, Journal::from_vec(events)))
+    Ok((job, Sequence::from_vec(events)))
 }
 
 /// The lines of a trace are read back as its job and its events: of every job that bytes spell, and

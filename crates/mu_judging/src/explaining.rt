@@ -27,14 +27,14 @@ pub fn explain_trace(alloc: Global, bytes: &[u8]) -> Said
     ensures says { NotesOf bytes.now result }
     ensures short { IsShort result }
 {
-    let (job, journal) = match read_trace(alloc, bytes) {
+    let (job, list) = match read_trace(alloc, bytes) {
         Ok(read) => read,
         Err(InputEnd::Refused { line, cause }) => {
             return Said::Misread(refused_at(bytes, line, cause));
         }
         Err(InputEnd::NoMemory) => return Said::NoMemory,
     };
-    let events = journal.as_slice();
+    let events = list.as_slice();
     let (line, broken) = match located(alloc, bytes, &job.config, events) {
         Ok(found) => found,
         Err(NoMemory) => return Said::NoMemory,

@@ -21,14 +21,14 @@ pub fn show_trace(alloc: Global, bytes: &[u8], count: u32) -> Said
     ensures says { ShowsOf count bytes.now result }
     ensures short { IsShort result }
 {
-    let (job, journal) = match read_trace(alloc, bytes) {
+    let (job, list) = match read_trace(alloc, bytes) {
         Ok(read) => read,
         Err(InputEnd::Refused { line, cause }) => {
             return Said::Misread(refused_at(bytes, line, cause));
         }
         Err(InputEnd::NoMemory) => return Said::NoMemory,
     };
-    let events = journal.as_slice();
+    let events = list.as_slice();
     let (line, broken) = match located(alloc, bytes, &job.config, events) {
         Ok(found) => found,
         Err(NoMemory) => return Said::NoMemory,

@@ -17,6 +17,10 @@ use std::alloc::Global;
 
 /// The last word of a row, counted from 0.
 pub const LAST_WORD: u8 = 11;
+/// How many words a row has.
+pub const ROW_WORDS: usize = 12;
+/// How many words a row of each of seven replicas has.
+const ALL_WORDS: usize = 7 * ROW_WORDS;
 
 /// Which rows a replica has written or read, and what it has applied.
 #[derive(Drop)]
@@ -35,7 +39,7 @@ pub struct HeldRows {
 fn place(v: usize, k: u8) -> usize
     ensures { result ≡ word_place v k }
 {
-    (v % 4096 * 7 + v / 4096) * 12 + usize::from(k)
+    (v % 4096 * 7 + v / 4096) * ROW_WORDS + usize::from(k)
 }
 
 /// Notes that word `k` of the row of `v` is there.
@@ -56,7 +60,7 @@ fn mark_written(written: &mut [bool], j: u16, k: u8)
         → e.verb ≡ Verb.WriteRow j k x → j < row_count c → k < 12
         → WroteWords c r mine written.old → WroteWords c r (e ∷ mine) written.new }
 {
-    let at = usize::from(j) * 12 + usize::from(k);
+    let at = usize::from(j) * ROW_WORDS + usize::from(k);
     if at < written.len() {
         written[at] = true;
     }
@@ -67,7 +71,7 @@ fn none_written(alloc: Global, config: &Config) -> Result<Vec<bool>, NoMemory>
     requires { IsConfig config.now }
     ensures { IfOk result (λ marks. marks.items ≡ replicate (row_count config.now * 12) false) }
 {
-    vec![in alloc; false; config.rows.len() * 12]
+    vec![in alloc; false; config.rows.len() * ROW_WORDS]
 }
 
 /// No word there: such marks of seven replicas, and no more.
@@ -75,7 +79,7 @@ fn none_there(alloc: Global, config: &Config) -> Result<Vec<bool>, NoMemory>
     requires { IsConfig config.now }
     ensures { IfOk result (λ marks. marks.items ≡ replicate (row_count config.now * 84) false) }
 {
-    vec![in alloc; false; config.rows.len() * 84]
+    vec![in alloc; false; config.rows.len() * ALL_WORDS]
 }
 
 impl HeldRows {
@@ -98,8 +102,8 @@ impl HeldRows {
         ensures room { IfOk result (λ done. (c : Config) → (r : ℕ) → (mine : List Event)
             → IsConfig c → StandsForHeldRows c r mine self.old → HasRoomForMarks c self.new) }
     {
-        self.written.reserve(12)?;
-        self.got.reserve(84)?;
+        self.written.reserve(ROW_WORDS)?;
+        self.got.reserve(ALL_WORDS)?;
         Ok(())
     }
 
@@ -111,8 +115,8 @@ impl HeldRows {
             → StandsForHeldRows config.now r mine self.new }
     {
         let rows = config.rows.len().saturating_sub(1);
-        add_marks(&mut self.written, rows, 12);
-        add_marks(&mut self.got, rows, 84);
+        add_marks(&mut self.written, rows, ROW_WORDS);
+        add_marks(&mut self.got, rows, ALL_WORDS);
     }
 
     /// Whether the replica has word `k` of the row of `v`.
@@ -273,7 +277,10 @@ impl HeldRows {
         ensures { (c : Config) → (r : ℕ) → (mine : List Event) → j < row_count c → k < 12
             → StandsForHeldRows c r mine self.now → result ≡ wrote r j k mine }
     {
-        match self.written.get(usize::from(j) * 12 + usize::from(k)) {
+        match self
+            .written
+            .get(usize::from(j) * ROW_WORDS + usize::from(k))
+        {
             None => false,
             Some(is_written) => *is_written,
         }

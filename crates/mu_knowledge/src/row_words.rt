@@ -11,6 +11,7 @@ ghost use Rattle.mu_model.specs.Contents.{IsConfig, row_count};
 ghost use Rattle.mu_knowledge.specs.HeldRows.{IsOfRows};
 ghost use Rattle.mu_knowledge.specs.RowWords.{HoldWords, StandsForRowWords, word_held, words_held};
 
+use crate::held_rows::ROW_WORDS;
 use crate::tables::add_words;
 use mu_model::{Config, NoMemory, PAYLOADS, Row};
 use std::alloc::Global;
@@ -29,7 +30,7 @@ fn put(words: &mut [u64], j: u16, k: u8, x: u64)
         → HoldWords rows word words.old
         → HoldWords rows (λ i l. if (j == i) && (k == l) then x else word i l) words.new }
 {
-    let at = usize::from(j) * 12 + usize::from(k);
+    let at = usize::from(j) * ROW_WORDS + usize::from(k);
     if at < words.len() {
         words[at] = x;
     }
@@ -40,7 +41,7 @@ fn no_words(alloc: Global, config: &Config) -> Result<Vec<u64>, NoMemory>
     requires { IsConfig config.now }
     ensures { IfOk result (λ words. words.items ≡ replicate (row_count config.now * 12) 0) }
 {
-    vec![in alloc; 0; config.rows.len() * 12]
+    vec![in alloc; 0; config.rows.len() * ROW_WORDS]
 }
 
 impl RowWords {
@@ -62,7 +63,7 @@ impl RowWords {
             → StandsForRowWords c r mine self.old
             → row_count c * 12 + 12 ≤ vec_capacity self.new.words) }
     {
-        self.words.reserve(12)
+        self.words.reserve(ROW_WORDS)
     }
 
     /// Takes the last row of the configuration, which came after all others. Takes no memory.
@@ -73,7 +74,7 @@ impl RowWords {
             → StandsForRowWords c r mine self.old → StandsForRowWords config.now r mine self.new }
     {
         let rows = config.rows.len().saturating_sub(1);
-        add_words(&mut self.words, rows, 12);
+        add_words(&mut self.words, rows, ROW_WORDS);
     }
 
     /// Takes the next event of a replica, if that writes this word of this row of its own. Takes no
@@ -103,7 +104,7 @@ impl RowWords {
         ensures { (c : Config) → (r : ℕ) → (mine : List Event) → j < row_count c → k < 12
             → StandsForRowWords c r mine self.now → result ≡ word_held r j k mine }
     {
-        match self.words.get(usize::from(j) * 12 + usize::from(k)) {
+        match self.words.get(usize::from(j) * ROW_WORDS + usize::from(k)) {
             None => 0,
             Some(word) => *word,
         }

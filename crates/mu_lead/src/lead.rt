@@ -34,10 +34,12 @@ use crate::batches::knows_all;
 use crate::note::Note;
 use crate::place::Place;
 use crate::positions::{end_of, narrow};
-use crate::recording::{push_unwritten, write_head, write_reach, write_up, write_word};
+use crate::recording::{write_head, write_reach, write_up, write_word};
 use mu_knowledge::KnownLog;
 use mu_leadership::Leadership;
-use mu_model::{Answer, Config, Event, NoMemory, Target, Verb, count_of_rows, row_word};
+use mu_model::{
+    Answer, Config, Event, NoMemory, Target, Verb, count_of_rows, push_within, row_word,
+};
 use std::alloc::Global;
 
 /// What a replica does as a leader: its place in the listing, and what it read and did on the way.
@@ -119,7 +121,7 @@ impl Lead {
         ensures id { self.new.id ≡ self.old.id }
     {
         self.config = config;
-        push_unwritten(&mut self.written);
+        push_within(&mut self.written, 0);
         if is_resting(self.place) {
             self.place = self.late_from(0, known, log);
         }

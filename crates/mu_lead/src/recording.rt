@@ -1,5 +1,5 @@
 //! What a step writes into the leader's tables, by its verb.
-ghost use Rattle.std.specs.Prelude.{List, [], false, get_or, length, nat_lt, set, true, vec_capacity, ℕ, ◌++◌, ◌+◌, ◌<◌, ◌∷◌, ◌≡◌};
+ghost use Rattle.std.specs.Prelude.{List, false, get_or, length, nat_lt, set, true, ℕ, ◌+◌, ◌<◌, ◌∷◌, ◌≡◌};
 ghost use Rattle.mu_model.specs.declared.config.Config.{Config};
 ghost use Rattle.mu_model.specs.declared.event.Answer.{Answer as SomeAnswer};
 ghost use Rattle.mu_model.specs.declared.event.Event.{Event};
@@ -167,16 +167,5 @@ fn farther(held: Option<u64>, u: u64) -> Option<u64>
     match held {
         None => Some(u),
         Some(x) => Some(u.max(x)),
-    }
-}
-
-/// Adds a row of which no word is written, if there is room. Takes no memory.
-pub(crate) fn push_unwritten(written: &mut Vec<u8>)
-    ensures items { length written.old.items < vec_capacity written.old
-        → written.new.items ≡ written.old.items ++ 0 ∷ [] }
-    ensures room { vec_capacity written.new ≡ vec_capacity written.old }
-{
-    if written.len() < written.capacity() {
-        written.push_reserved(0);
     }
 }

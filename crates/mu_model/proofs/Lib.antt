@@ -10,3 +10,4 @@ pub mod Parts
 pub mod Putting
 pub mod Reasons
 pub mod Scans
+pub mod Unpacking

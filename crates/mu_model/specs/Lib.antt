@@ -13,14 +13,17 @@ pub mod Journals
 pub mod Knowledge
 pub mod Leaderships
 pub mod Legal
+pub mod Packing
 pub mod Parts
 pub mod Picks
 pub mod Placing
 pub mod Points
+pub mod Ranges
 pub mod Reasons
 pub mod Regions
 pub mod Room
 pub mod Scores
 pub mod Serving
 pub mod Steps
+pub mod Stops
 pub mod Stretches

@@ -1,60 +1,78 @@
-//! The list of the events of a run, or of one replica.
-ghost use Rattle.std.specs.Prelude.{◌≡◌, ◌+◌, ◌<◌, ◌++◌, [], ◌∷◌, IfOk};
+//! The list of the events of a run.
+ghost use Rattle.std.specs.Prelude.{◌≡◌, ◌+◌, ◌<◌, ◌++◌, [], ◌∷◌, IfOk, Some, length};
+ghost use Rattle.std.specs.List.{slice_get};
+ghost use Rattle.mu_model.specs.Packing.{FitsJournal};
 
 use crate::event::Event;
+use crate::packing::{EventWords, packed, unpacked};
 use std::alloc::{AllocError, Global};
 use std::marker::Model;
 
-/// A list of events in true order, with room for more. Contracts see the events and the room.
+/// A list of events in true order, with room for more: 16 bytes for each. Contracts see the events
+/// and the room.
 #[derive(Drop)]
 pub struct Journal {
-    events: Vec<Event>,
+    words: Vec<EventWords>,
 }
 
 impl Model for Journal {
-    ghost use Rattle.std.specs.Prelude.{◌-◌, vec_len, vec_capacity};
+    ghost use Rattle.std.specs.Prelude.{◌-◌, map, vec_len, vec_capacity};
     ghost use Rattle.mu_model.specs.Journals.{Record};
+    ghost use Rattle.mu_model.specs.Packing.{unpacked_of};
 
     ghost Value = { Record };
 
     ghost view = { λ j. record {
-      events = j.events.items;
-      room = vec_capacity j.events - vec_len j.events;
+      events = map unpacked_of j.words.items;
+      room = vec_capacity j.words - vec_len j.words;
     } };
 }
 
 impl Journal {
-    ghost use Rattle.std.specs.Prelude.{◌≤◌};
-
     /// An empty journal with room for at least `events` events. Takes memory once.
     pub fn with_room(alloc: Global, events: usize) -> Result<Journal, AllocError>
         ensures empty { IfOk result (λ j. j.events ≡ []) }
         ensures room { IfOk result (λ j. j.room ≡ events) }
     {
-        let events = Vec::with_capacity(alloc, events)?;
-        Ok(Journal { events })
+        let words = Vec::with_capacity(alloc, events)?;
+        Ok(Journal { words })
     }
 
-    /// The journal of these events, in true order. Takes no memory.
-    pub fn from_vec(events: Vec<Event>) -> Journal
-        ensures { result.events ≡ events.items }
-    {
-        Journal { events }
-    }
-
-    /// Adds an event at the end. Takes no memory.
+    /// Adds an event at the end. Takes no memory. Two words have room for each event that a memory
+    /// answers: a put and a write of a row find no number.
+    #[inline(always)]
     pub fn push(&mut self, event: Event)
-        requires { 0 < self.old.room }
+        requires room { 0 < self.old.room }
+        requires fits { FitsJournal event }
         ensures events { self.new.events ≡ self.old.events ++ event ∷ [] }
         ensures room { self.new.room + 1 ≡ self.old.room }
     {
-        self.events.push_reserved(event);
+        self.words.push_reserved(packed(event));
     }
 
-    /// The events in true order.
-    pub fn as_slice(&self) -> &[Event]
-        ensures { result.now ≡ self.now.events }
+    /// How many events there are.
+    pub fn len(&self) -> usize
+        ensures { result ≡ length self.now.events }
     {
-        self.events.as_slice()
+        self.words.len()
+    }
+
+    /// The event at this place, which is there.
+    pub fn at(&self, place: usize) -> Event
+        requires { place < length self.now.events }
+        ensures { slice_get self.now.events place ≡ Some result }
+    {
+        unpacked(self.words[place])
+    }
+
+    /// The events in true order, as a list of their own. Takes memory once.
+    pub fn to_vec(&self, alloc: Global) -> Result<Vec<Event>, AllocError>
+        ensures { IfOk result (λ events. events.items ≡ self.now.events) }
+    {
+        let mut events = Vec::with_capacity(alloc, self.words.len())?;
+        for words in &self.words {
+            events.push_reserved(unpacked(*words));
+        }
+        Ok(events)
     }
 }

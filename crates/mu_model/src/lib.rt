@@ -10,6 +10,7 @@ mod contents;
 mod event;
 mod journal;
 mod numbers;
+mod packing;
 mod reason;
 mod rooms;
 mod scoring;
@@ -27,7 +28,7 @@ pub use numbers::{majority, next_number};
 pub use reason::Reason;
 pub use rooms::{push_within, reserve_to};
 pub use scoring::score_after;
-pub use script::{End, Pause, Pauses, Script, Stop, Stops};
+pub use script::{End, Pause, Pauses, Script, Stop, Stops, is_stopped};
 pub use sequence::Sequence;
 
 /// Want of memory.

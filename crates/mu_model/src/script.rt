@@ -1,4 +1,7 @@
 //! What befalls the replicas of a run, and how each ends.
+ghost use Rattle.std.specs.Prelude.{◌≡◌};
+ghost use Rattle.mu_model.specs.Stops.{is_stopped as is_stopped_by};
+
 use crate::sequence::Sequence;
 
 /// A replica that stops once it has taken a number of steps.
@@ -19,6 +22,13 @@ pub struct Pause {
     pub steps: u32,
     /// The rounds of the pause: 1 to 10,000.
     pub rounds: u32,
+}
+
+/// Whether one of these stops is of the replica.
+pub fn is_stopped(replica: u8, stops: &[Stop]) -> bool
+    ensures { result ≡ is_stopped_by replica stops.now }
+{
+    stops.iter().any(|stop| stop.replica == replica)
 }
 
 /// Stops, in order of replica.

@@ -1,11 +1,11 @@
 //! What a replica tells of the commands that it answered so far.
-ghost use Rattle.std.specs.Prelude.{List, false, length, take, ℕ, ◌<◌, ◌≡◌};
+ghost use Rattle.std.specs.Prelude.{List, length, take, ℕ, ◌<◌, ◌≡◌};
 ghost use Rattle.kv_store.specs.Beside.{beside};
 ghost use Rattle.kv_store.specs.Commands.{Request};
 ghost use Rattle.kv_store.specs.Tables.{replies};
 ghost use Rattle.mu_model.specs.declared.config.Config.{Config};
 ghost use Rattle.mu_model.specs.declared.event.Event.{Event as SomeEvent};
-ghost use Rattle.mu_model.specs.Contents.{IsConfig, includes, rows_in, rows_of};
+ghost use Rattle.mu_model.specs.Contents.{IsConfig, rows_in, rows_of};
 ghost use Rattle.mu_model.specs.Knowledge.{applied};
 ghost use Rattle.mu_model.specs.Parts.{IsPossible};
 ghost use Rattle.mu_follow.specs.Groups.{AreSpelled, groups_of};

@@ -22,8 +22,9 @@ pub type AllReplies = Sequence<Replies>;
 /// How each replica ended.
 pub type Ends = Sequence<End>;
 
-/// What a run leaves. Lists of replicas are in order of id. Each event is kept once, in the order
-/// or in the parts of the threads' ports; the journal of a replica is read off these.
+/// What a run leaves. Lists of replicas are in order of id. A run by turns keeps each event, in their
+/// order; a run of threads keeps none, and only contracts see the parts of their ports. The journal
+/// of a replica is read off these.
 #[derive(Drop)]
 pub struct Outcome {
     /// What was run.
@@ -40,7 +41,7 @@ pub struct Outcome {
     pub ends: Ends,
     /// All events in their order, if the run took turns on one thread.
     pub order: Option<Journal>,
-    /// The parts that the threads' ports had at the end, if the run was one of threads.
+    /// Stands for the parts that the threads' ports had at the end, if the run was one of threads.
     pub gathered: Option<Gathered>,
 }
 
@@ -49,7 +50,7 @@ pub struct Outcome {
 pub enum AllEvents<'a> {
     /// In their order: the run took turns on one thread.
     InOrder(&'a Journal),
-    /// As the parts that the threads' ports had at the end.
+    /// As the parts that the threads' ports had at the end: only contracts see them.
     InParts(&'a Gathered),
 }
 

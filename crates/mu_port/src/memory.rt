@@ -2,7 +2,7 @@
 ghost use Rattle.std.specs.Prelude.{◌<◌, ◌≡◌};
 
 use crate::port::Port;
-use mu_model::{Answer, Config, Event, Journal, Verb};
+use mu_model::{Answer, Config, Journal, Verb};
 use std::marker::Model;
 
 /// The memory of all replicas, with the list of their events.
@@ -57,8 +57,8 @@ pub trait Memory: Drop + Sized {
         ensures legal { IsLegal (config self.new) (events self.new) };
 
     /// The kept list, in true order.
-    fn events(&self) -> &[Event]
-        ensures events { result.now ≡ events self.now }
+    fn events(&self) -> &Journal
+        ensures events { result.now.events ≡ events self.now }
         ensures legal { IsLegal (config self.now) (events self.now) };
 
     /// The kept list itself.
@@ -118,8 +118,8 @@ impl<M: Memory> MemoryPort<M> {
     }
 
     /// The kept list, in true order.
-    pub fn events(&self) -> &[Event]
-        ensures events { result.now ≡ self.now.events }
+    pub fn events(&self) -> &Journal
+        ensures events { result.now.events ≡ self.now.events }
         ensures legal { IsLegal self.now.config self.now.events }
     {
         self.memory.events()

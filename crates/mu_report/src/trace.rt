@@ -1,14 +1,14 @@
 //! The trace of a replay: its job, and its events in their order.
-ghost use Rattle.std.specs.Prelude.{◌≡◌, ◌+◌, ◌<◌, [], map};
+ghost use Rattle.std.specs.Prelude.{◌≡◌, ◌+◌, ◌<◌, map};
 ghost use Rattle.mu_outcome.specs.AllEvents.{HasEvents};
-ghost use Rattle.mu_report.specs.Trace.{event_line as event_line_of, batch_lines, setting_lines, client_count, command_lines, commands_lines, client_lines, stop_line, pause_line, has_lines as has_lines_of, script_lines, events_of as events_of_order, trace_lines};
+ghost use Rattle.mu_report.specs.Trace.{event_line as event_line_of, batch_lines, setting_lines, client_count, command_lines, commands_lines, client_lines, stop_line, pause_line, has_lines as has_lines_of, script_lines, events_of, trace_lines};
 
 use crate::line::{HasLine, Line, print_each, print_numbered, print_words};
 use crate::printer::Printer;
 use kv_store::Command;
 use mu_events::push_event;
 use mu_input::op_line;
-use mu_model::{Config, Event, Pause, Script, Stop};
+use mu_model::{Config, Journal, Pause, Script, Stop};
 use mu_outcome::{AllEvents, Outcome};
 
 /// Prints the trace. Takes no memory.
@@ -22,30 +22,30 @@ pub fn print_trace<P: Printer>(out: &mut P, outcome: &Outcome)
     print_clients(out, commands, count);
     print_script(out, &outcome.job.script);
     print_words(out, b"end");
-    print_events(out, events_of(outcome));
+    print_all_events(out, outcome);
     print_words(out, b"end");
 }
 
-/// Prints events, a line each: it is the same one, since most of a trace are events.
-fn print_events<P: Printer>(out: &mut P, events: &[Event])
-    ensures { P.Prints out.old (map event_line_of events.now) out.new }
+/// Prints the events in their order, and none if only the parts of threads are given.
+fn print_all_events<P: Printer>(out: &mut P, outcome: &Outcome)
+    requires { HasEvents outcome.now }
+    ensures { P.Prints out.old (map event_line_of (events_of outcome.now.order)) out.new }
 {
-    let mut line = Line::new();
-    for event in events {
-        line.clear();
-        push_event(&mut line, event);
-        out.print_bytes(line.as_slice());
+    match outcome.events() {
+        AllEvents::InOrder(journal) => print_events(out, journal),
+        AllEvents::InParts(_) => {}
     }
 }
 
-/// The events in their order, and none if only the parts of threads are given.
-fn events_of(outcome: &Outcome) -> &[Event]
-    requires { HasEvents outcome.now }
-    ensures { result.now ≡ events_of_order outcome.now.order }
+/// Prints events, a line each: it is the same one, since most of a trace are events.
+fn print_events<P: Printer>(out: &mut P, journal: &Journal)
+    ensures { P.Prints out.old (map event_line_of journal.now.events) out.new }
 {
-    match outcome.events() {
-        AllEvents::InOrder(journal) => journal.as_slice(),
-        AllEvents::InParts(_) => &[],
+    let mut line = Line::new();
+    for k in 0..journal.len() {
+        line.clear();
+        push_event(&mut line, &journal.at(k));
+        out.print_bytes(line.as_slice());
     }
 }
 

@@ -17,7 +17,7 @@ use Rattle.mu_model.proofs.Parts.{history-part}
 use Rattle.shared_steps.specs.declared.rule.Entry.{Entry}
 use Rattle.shared_steps.specs.Rule.{HaveOneList, entry, entry_of}
 use Rattle.shared_steps.proofs.Entries.{entry_here, entry_there}
-use Rattle.shared_fabric.specs.Gathering.{AreOfOneList, ArePorts, IsPortOf, IsSamePort, PortValue, StayingIsEnough, fresh_port, fresh_ports}
+use Rattle.shared_fabric.specs.Gathering.{AreOfOneList, ArePorts, IsPortOf, IsSamePort, PortValue, StayingIsEnough, collected, fresh_port, fresh_ports, part_of_entry, parts_from}
 
 pub length_fresh : (table : TableId) (c : Config) (n : ℕ) → length (fresh_ports table c n) ≡ n
 length_fresh table c zero = refl
@@ -81,23 +81,46 @@ only_replicas c (e ∷ past) h = ap (λ b. cond (not b) true (has (λ x. not (na
 in_order : (events : List Event) (r : ℕ) (mine : List Event) → mine ≡ part r (history events) → reverse mine ≡ part r events
 in_order events r mine is = ap reverse is ∙ (sym (ap reverse (history-part r events)) ∙ reverse-reverse (part r events))
 
-pub gathers : (c : Config) (ports : List PortValue) (es : List Entry) (parts : List (List Event)) → HaveOneList c es → length ports ≡ c.replicas → parts ≡ map (λ (p : PortValue). reverse p.part) ports
-    → ((r : ℕ) (p : PortValue) → slice_get ports r ≡ Some p → (seen : List (Event × ℕ)) × (entry_of r es ≡ Some (entry r p.part seen)))
-    → AreOfOneList record { config = c; parts = parts }
-gathers c ports es parts one count is taken = record {
-  events = one.events;
-  legal = one.legal;
-  has_parts = record {
-    count = ap length is ∙ (length_of_map (λ (p : PortValue). reverse p.part) ports ∙ count);
-    each = λ r below.
-        let p = some_at ports r (omega (arith, count)) in
-        let t = taken r p.0 p.1 in
-        let its : reverse p.0.part ≡ part r one.events = in_order one.events r p.0.part (one.parts r (entry r p.0.part t.0) t.1) in
-        ap (λ (l : List (List Event)). slice_get l r) is
-        ∙ (slice_get-map (λ (x : PortValue). reverse x.part) ports r ∙ (ap (option_map (λ (x : PortValue). reverse x.part)) p.1 ∙ ap Some its));
-    whole = only_replicas c (history one.events) one.legal;
-  };
-}
+-- the parts of replicas from k on, as entries have them, are those of the ports
+parts_are : (es : List Entry) (k : ℕ) (ports : List PortValue)
+    → ((i : ℕ) (p : PortValue) → slice_get ports i ≡ Some p → (seen : List (Event × ℕ)) × (entry_of (k + i) es ≡ Some (entry (k + i) p.part seen)))
+    → parts_from k (length ports) es ≡ map (λ (p : PortValue). reverse p.part) ports
+parts_are es k [] taken = refl
+parts_are es k (p ∷ ps) taken =
+    let here = taken 0 p refl in
+    let same : k ≡ k + 0 = omega arith in
+    let head : part_of_entry (entry_of k es) ≡ reverse p.part = ap (λ n. part_of_entry (entry_of n es)) same ∙ ap part_of_entry here.1 in
+    let rest : parts_from (suc k) (length ps) es ≡ map (λ (q : PortValue). reverse q.part) ps = parts_are es (suc k) ps (λ i q at.
+    let on : k + suc i ≡ suc k + i = omega arith in
+    let t = taken (suc i) q at in
+    (t.0, subst (λ n. entry_of n es ≡ Some (entry n q.part t.0)) on t.1)) in
+    λ i. head i ∷ rest i
+
+-- the ports were taken in
+module _ (c : Config) (ports : List PortValue) (es : List Entry) (count : length ports ≡ c.replicas)
+    (taken : (r : ℕ) (p : PortValue) → slice_get ports r ≡ Some p → (seen : List (Event × ℕ)) × (entry_of r es ≡ Some (entry r p.part seen))) where
+  all_parts : parts_from 0 c.replicas es ≡ map (λ (p : PortValue). reverse p.part) ports
+  all_parts = ap (λ n. parts_from 0 n es) (sym count)
+      ∙ parts_are es 0 ports (λ i p at. let same : i ≡ 0 + i = omega arith in let t = taken i p at in (t.0, subst (λ n. entry_of n es ≡ Some (entry n p.part t.0)) same t.1))
+
+  pub gathered_is : collected c es ≡ record { config = c; parts = map (λ (p : PortValue). reverse p.part) ports }
+  gathered_is = λ i. record { config = c; parts = all_parts i }
+
+  pub gathers : HaveOneList c es → AreOfOneList (collected c es)
+  gathers one = record {
+    events = one.events;
+    legal = one.legal;
+    has_parts = record {
+      count = ap length all_parts ∙ (length_of_map (λ (p : PortValue). reverse p.part) ports ∙ count);
+      each = λ r below.
+          let p = some_at ports r (omega (arith, count)) in
+          let t = taken r p.0 p.1 in
+          let its : reverse p.0.part ≡ part r one.events = in_order one.events r p.0.part (one.parts r (entry r p.0.part t.0) t.1) in
+          ap (λ (l : List (List Event)). slice_get l r) all_parts
+          ∙ (slice_get-map (λ (x : PortValue). reverse x.part) ports r ∙ (ap (option_map (λ (x : PortValue). reverse x.part)) p.1 ∙ ap Some its));
+      whole = only_replicas c (history one.events) one.legal;
+    };
+  }
 
 fresh_each : (table : TableId) (c : Config) (n r : ℕ) (p : PortValue) → slice_get (fresh_ports table c n) r ≡ Some p → IsPortOf table c r p
 fresh_each table c zero r p h = absurd (none_some p h)

@@ -1,7 +1,8 @@
 -- fabric, value of a port, same port, of one list: the shared memory and its ports as contracts see
 -- them; when two values are one port; and that parts are of one legal list.
-use Rattle.std.specs.Prelude.{List, Some, [], length, slice_index_or, suc, zero, ℕ, ◌++◌, ◌<◌, ◌∷◌, ◌≡◌}
+use Rattle.std.specs.Prelude.{List, None, Some, [], length, reverse, slice_index_or, suc, zero, ℕ, ◌++◌, ◌<◌, ◌∷◌, ◌≡◌}
 use Rattle.std.specs.List.{slice_get}
+use Rattle.std.specs.declared.option.Option.{Option}
 use Rattle.atomic_table.specs.Seated.{TableId}
 use Rattle.mu_model.specs.declared.config.Config.{Config}
 use Rattle.mu_model.specs.declared.event.Event.{Event}
@@ -9,7 +10,7 @@ use Rattle.mu_model.specs.Contents.{IsConfig}
 use Rattle.mu_model.specs.Legal.{IsLegal}
 use Rattle.mu_model.specs.Parts.{HasParts, IsPossible}
 use Rattle.shared_steps.specs.declared.rule.Entry.{Entry}
-use Rattle.shared_steps.specs.Rule.{empty_entries}
+use Rattle.shared_steps.specs.Rule.{empty_entries, entry_of}
 use Rattle.shared_steps.specs.Seats.{Board, IsOf, IsRootOf, Port, Root}
 
 -- which table it is, the configuration, and the entries that no port has
@@ -35,10 +36,11 @@ pub record PortValue : Type 0 where
   pub id : ℕ
   pub part : List Event
 
--- the seat is of the words, and its part is possible
-pub record IsHeld (b : Board) (p : Port) : Type 0 where
+-- the seat is of the words, its part is possible, and this is the newest event of it
+pub record IsHeld (b : Board) (p : Port) (newest : Option Event) : Type 0 where
   pub of : IsOf b p
   pub possible : IsPossible b.key p.id p.part
+  pub newest_is : newest ≡ slice_get p.part 0
 
 -- two values are one port: of one table and configuration, and of one replica
 pub record IsSamePort (p q : PortValue) : Type 0 where
@@ -88,6 +90,20 @@ StayingIsEnough =
 pub record Collected : Type 0 where
   pub config : Config
   pub parts : List (List Event)
+
+-- the part of an entry, in true order, if there is one
+abbrev pub part_of_entry : Option Entry → List Event
+part_of_entry None = []
+part_of_entry (Some e) = reverse e.part
+
+-- the parts of n replicas from k on, in order, each in true order
+abbrev pub parts_from : ℕ → ℕ → List Entry → List (List Event)
+parts_from k zero entries = []
+parts_from k (suc n) entries = part_of_entry (entry_of k entries) ∷ parts_from (suc k) n entries
+
+-- the parts of all replicas, as entries have them
+abbrev pub collected : Config → List Entry → Collected
+collected c entries = record { config = c; parts = parts_from 0 c.replicas entries }
 
 -- one legal list has exactly these parts
 pub record AreOfOneList (c : Collected) : Type 0 where

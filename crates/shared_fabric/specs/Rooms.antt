@@ -6,10 +6,7 @@ use Rattle.mu_words.specs.Founds.{FoundIs}
 use Rattle.shared_steps.specs.Seats.{Board}
 use Rattle.shared_fabric.specs.declared.rooms.Room.{Room}
 
--- a share of the words, an empty journal with room for just the budget, and room for the words that
--- a replica finds
+-- a share of the words, and room for the words that a replica finds
 pub record IsRoom (b : Board) (c : Config) (r : Room) : Type 0 where
   pub of : arc_value r.words ≡ b
-  pub empty : r.journal.events ≡ []
-  pub room : r.journal.room ≡ c.budget
   pub found : (q : ℕ) → FoundIs c q r.found [] []

@@ -1,41 +1,34 @@
-//! The parts of all ports, taken in.
-ghost use Rattle.std.specs.Prelude.{map, ◌≡◌};
+//! What is left of all ports once they are taken in.
 ghost use Rattle.shared_fabric.specs.Gathering.{AreOfOneList};
 
-use mu_model::{Config, Journal, Sequence};
+use mu_model::Config;
+use shared_steps::RootSeat;
 use std::marker::Model;
 
-/// The parts of all replicas, in the order of their numbers.
-pub type Parts = Sequence<Journal>;
-
-/// The parts of all replicas of one legal list of events. Only `Shared::gather` makes it. Contracts
-/// see the configuration and the parts, each in true order.
+/// The parts of all replicas of one legal list of events. Only `Shared::gather` makes it. No value
+/// holds an event: the seat of all entries stands for them. Contracts see the configuration and the
+/// parts in the order of the numbers of their replicas, each in true order.
 #[derive(Drop)]
 pub struct Gathered {
     pub(crate) config: Config,
-    pub(crate) parts: Parts,
+    pub(crate) root: RootSeat,
 }
 
 impl Model for Gathered {
-    ghost use Rattle.std.specs.Prelude.{map};
-    ghost use Rattle.shared_fabric.specs.Gathering.{Collected, AreOfOneList};
+    ghost use Rattle.shared_fabric.specs.Gathering.{AreOfOneList, Collected, collected};
 
     ghost Value = { Collected };
 
-    ghost view = { λ g. record { config = g.config; parts = map (λ j. j.events) g.parts } };
+    ghost view = { λ g. collected g.config g.root.entries };
 
-    ghost invariant = { λ g. AreOfOneList (record {
-      config = g.config;
-      parts = map (λ j. j.events) g.parts;
-    }) };
+    ghost invariant = { λ g. AreOfOneList (collected g.config g.root.entries) };
 }
 
 impl Gathered {
-    /// The parts, in the order of the numbers of their replicas: one legal list has exactly these.
-    pub fn parts(&self) -> &Parts
-        ensures parts { map (λ j. j.events) result.now ≡ self.now.parts }
-        ensures list { AreOfOneList self.now }
+    /// One legal list has exactly these parts. Only contracts see it: nothing is done.
+    pub fn are_of_one_list(&self)
+        ensures { AreOfOneList self.now }
     {
-        &self.parts
+        let _ = &self.config;
     }
 }

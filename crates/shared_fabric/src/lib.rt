@@ -14,9 +14,9 @@ mod ports;
 mod rooms;
 mod shared;
 
-pub use gathered::{Gathered, Parts};
+pub use gathered::Gathered;
 pub use port::SharedPort;
-pub use ports::{PartsRoom, SharedPorts};
+pub use ports::SharedPorts;
 pub use shared::Shared;
 
 /// Ports that stayed the same ports, whatever steps they made, are those of all replicas as before.

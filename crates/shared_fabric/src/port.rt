@@ -1,4 +1,9 @@
 //! A port that may go to another thread.
+ghost use Rattle.std.specs.Prelude.{◌≡◌};
+ghost use Rattle.mu_model.specs.Allowed.{Allowed};
+ghost use Rattle.mu_model.specs.Parts.{IsPossible};
+ghost use Rattle.shared_steps.specs.Seats.{IsOf, after_step};
+
 use mu_model::{Answer, Event, Verb};
 use mu_port::Port;
 use shared_steps::{PortSeat, Words};
@@ -6,12 +11,14 @@ use std::alloc::Global;
 use std::marker::Model;
 use std::sync::Arc;
 
-/// The access of one replica to words that all share. Each step is one atomic step on one word.
-/// Contracts see the table, the configuration, the replica and the part, newest first.
+/// The access of one replica to words that all share. Each step is one atomic step on one word. Of
+/// its events it keeps the newest. Contracts see the table, the configuration, the replica and the
+/// part, newest first.
 #[derive(Drop)]
 pub struct SharedPort {
     pub(crate) words: Arc<Words, Global>,
     pub(crate) seat: PortSeat,
+    pub(crate) newest: Option<Event>,
 }
 
 impl Model for SharedPort {
@@ -27,18 +34,18 @@ impl Model for SharedPort {
       part = p.seat.part;
     } };
 
-    ghost invariant = { λ p. IsHeld (arc_value p.words) p.seat };
+    ghost invariant = { λ p. IsHeld (arc_value p.words) p.seat p.newest };
 }
 
 impl SharedPort {
-    ghost use Rattle.std.specs.Prelude.{◌≡◌};
-    ghost use Rattle.mu_model.specs.Histories.{history};
+    ghost use Rattle.std.specs.List.{slice_get};
 
-    /// The events of the replica so far, in true order.
-    pub fn part(&self) -> &[Event]
-        ensures { history result.now ≡ self.now.part }
+    /// The newest event of the replica, if it has made a step.
+    #[inline(always)]
+    pub fn newest(&self) -> Option<Event>
+        ensures { result ≡ slice_get self.now.part 0 }
     {
-        self.seat.part()
+        self.newest
     }
 }
 
@@ -62,36 +69,10 @@ impl Port for SharedPort {
     }
 
     fn step(&mut self, verb: Verb) -> Answer {
-        // The verb is named in each arm, so the compiler settles its word, what it expects, its
-        // answer and what is noted.
-        match verb {
-            Verb::WriteRow(row, word, content) => {
-                self.seat
-                    .store(&self.words, Verb::WriteRow(row, word, content))
-            }
-            Verb::RaiseFuo(p, fuo) => self.seat.raise(&self.words, Verb::RaiseFuo(p, fuo)),
-            Verb::RaiseHead(head) => self.seat.raise(&self.words, Verb::RaiseHead(head)),
-            Verb::Ask(p) => self.seat.add(&self.words, Verb::Ask(p)),
-            Verb::Beat => self.seat.add(&self.words, Verb::Beat),
-            Verb::Enter(p, target) => self.seat.enter(&self.words, Verb::Enter(p, target)),
-            Verb::PutMin(p, number) => self.seat.put_min(&self.words, Verb::PutMin(p, number)),
-            Verb::PutSlot(p, position, number, value) => {
-                let verb = Verb::PutSlot(p, position, number, value);
-                self.seat.put_slot(&self.words, verb)
-            }
-            Verb::Close => self.seat.close(&self.words, Verb::Close),
-            Verb::Drain => self.seat.drain(&self.words, Verb::Drain),
-            Verb::Grant(owner) => self.seat.grant(&self.words, Verb::Grant(owner)),
-            Verb::Fence(p) => self.seat.load(&self.words, Verb::Fence(p)),
-            Verb::Min(p) => self.seat.load(&self.words, Verb::Min(p)),
-            Verb::Look(p, position) => self.seat.load(&self.words, Verb::Look(p, position)),
-            Verb::Fuo(p) => self.seat.load(&self.words, Verb::Fuo(p)),
-            Verb::Head(q) => self.seat.load(&self.words, Verb::Head(q)),
-            Verb::ReadBeat(q) => self.seat.load(&self.words, Verb::ReadBeat(q)),
-            Verb::ReadRow(value, word) => self.seat.load(&self.words, Verb::ReadRow(value, word)),
-            Verb::ReadAsk(w) => self.seat.load(&self.words, Verb::ReadAsk(w)),
-            Verb::LookTarget => self.seat.load(&self.words, Verb::LookTarget),
-        }
+        let by = self.seat.id();
+        let answer = stepped(&self.words, &mut self.seat, verb);
+        self.newest = Some(Event { by, verb, answer });
+        answer
     }
 
     fn ask(&mut self, p: u8) -> Answer {
@@ -109,4 +90,43 @@ impl Port for SharedPort {
     ghost same_number = { λ x y p. p.id };
 
     ghost same_config = { λ x y p. p.config };
+}
+
+/// Makes a step of the seat.
+#[inline(always)]
+fn stepped(words: &Words, seat: &mut PortSeat, verb: Verb) -> Answer
+    requires of { IsOf words.now seat.old }
+    requires allowed { Allowed words.now.key seat.old.id seat.old.part verb }
+    ensures part { seat.new ≡ after_step seat.old verb result }
+    ensures possible { IsPossible words.now.key seat.new.id seat.new.part }
+{
+    // The verb is named in each arm, so the compiler settles its word, what it expects, its
+    // answer and what is noted.
+    match verb {
+        Verb::WriteRow(row, word, content) => {
+            seat.store(words, Verb::WriteRow(row, word, content))
+        }
+        Verb::RaiseFuo(p, fuo) => seat.raise(words, Verb::RaiseFuo(p, fuo)),
+        Verb::RaiseHead(head) => seat.raise(words, Verb::RaiseHead(head)),
+        Verb::Ask(p) => seat.add(words, Verb::Ask(p)),
+        Verb::Beat => seat.add(words, Verb::Beat),
+        Verb::Enter(p, target) => seat.enter(words, Verb::Enter(p, target)),
+        Verb::PutMin(p, number) => seat.put_min(words, Verb::PutMin(p, number)),
+        Verb::PutSlot(p, position, number, value) => {
+            let verb = Verb::PutSlot(p, position, number, value);
+            seat.put_slot(words, verb)
+        }
+        Verb::Close => seat.close(words, Verb::Close),
+        Verb::Drain => seat.drain(words, Verb::Drain),
+        Verb::Grant(owner) => seat.grant(words, Verb::Grant(owner)),
+        Verb::Fence(p) => seat.load(words, Verb::Fence(p)),
+        Verb::Min(p) => seat.load(words, Verb::Min(p)),
+        Verb::Look(p, position) => seat.load(words, Verb::Look(p, position)),
+        Verb::Fuo(p) => seat.load(words, Verb::Fuo(p)),
+        Verb::Head(q) => seat.load(words, Verb::Head(q)),
+        Verb::ReadBeat(q) => seat.load(words, Verb::ReadBeat(q)),
+        Verb::ReadRow(value, word) => seat.load(words, Verb::ReadRow(value, word)),
+        Verb::ReadAsk(w) => seat.load(words, Verb::ReadAsk(w)),
+        Verb::LookTarget => seat.load(words, Verb::LookTarget),
+    }
 }

@@ -4,7 +4,7 @@ ghost use Rattle.std.specs.Arc.{arc_value};
 ghost use Rattle.mu_model.specs.Contents.{IsConfig};
 ghost use Rattle.shared_fabric.specs.Rooms.{IsRoom};
 
-use mu_model::{Config, Journal, NoMemory};
+use mu_model::{Config, NoMemory};
 use mu_words::Found;
 use shared_steps::Words;
 use std::alloc::Global;
@@ -14,7 +14,6 @@ use std::sync::Arc;
 #[derive(Drop)]
 pub(crate) struct Room {
     pub(crate) words: Arc<Words, Global>,
-    pub(crate) journal: Journal,
     pub(crate) found: Found,
 }
 
@@ -32,7 +31,6 @@ pub(crate) fn rooms(
     for _ in 0..config.replicas {
         rooms.push(Room {
             words: Arc::try_clone(words)?,
-            journal: Journal::with_room(alloc, config.budget as usize)?,
             found: Found::with_room(alloc, config)?,
         })?;
     }

@@ -1,5 +1,5 @@
 //! The words of all replicas, and what isn't in the ports.
-ghost use Rattle.std.specs.Prelude.{IfOk, List, OnErr, Some, [], map, reverse, vec_capacity, vec_len, All, ℕ, ◌≡◌, ◌≤◌};
+ghost use Rattle.std.specs.Prelude.{IfOk, List, OnErr, Some, [], map, reverse, vec_capacity, vec_len, All, ℕ, ◌≡◌};
 ghost use Rattle.std.specs.Arc.{arc_value};
 ghost use Rattle.std.specs.List.{slice_get};
 ghost use Rattle.mu_model.specs.Contents.{IsConfig};
@@ -11,9 +11,9 @@ ghost use Rattle.shared_fabric.specs.Rooms.{IsRoom};
 
 use crate::gathered::Gathered;
 use crate::port::SharedPort;
-use crate::ports::{PartsRoom, SharedPorts};
+use crate::ports::SharedPorts;
 use crate::rooms::{Room, rooms};
-use mu_model::{Config, Journal, NoMemory, Sequence};
+use mu_model::{Config, NoMemory};
 use shared_steps::{RootSeat, Words};
 use std::alloc::Global;
 use std::marker::Model;
@@ -60,28 +60,25 @@ impl Shared {
         })
     }
 
-    /// A port for each replica, in order, each with an empty part; and the room in which `gather`
-    /// gives their parts. Takes all memory that their steps need.
-    pub fn ports(&mut self, alloc: Global) -> Result<(SharedPorts, PartsRoom), NoMemory>
+    /// A port for each replica, in order, each with an empty part. Takes all memory that their
+    /// steps need.
+    pub fn ports(&mut self, alloc: Global) -> Result<SharedPorts, NoMemory>
         requires { IsFresh self.old }
         ensures same { (self.new.table ≡ self.old.table) × (self.new.config ≡ self.old.config) }
         ensures ports { IfOk result
-            (λ t. t.0 ≡ fresh_ports self.old.table self.old.config self.old.config.replicas) }
-        ensures are { IfOk result (λ t. ArePorts self.new.table self.new.config t.0) }
-        ensures room { IfOk result (λ t. t.1 ≡ self.old.config.replicas) }
+            (λ p. p ≡ fresh_ports self.old.table self.old.config self.old.config.replicas) }
+        ensures are { IfOk result (λ p. ArePorts self.new.table self.new.config p) }
         ensures err { OnErr result (self.new ≡ self.old) }
     {
         let rooms = rooms(&self.words, &self.config, alloc)?;
         let ports = Vec::with_capacity(alloc, usize::from(self.config.replicas))?;
-        let parts = PartsRoom::with_room(alloc, self.config.replicas)?;
         let ports = seated(&self.words, &mut self.root, &self.config, rooms, ports);
-        Ok((SharedPorts::of_ports(ports), parts))
+        Ok(SharedPorts::of_ports(ports))
     }
 
     /// The parts of all ports: one legal list of events has exactly these. Takes no memory.
-    pub fn gather(self, ports: SharedPorts, room: PartsRoom) -> Gathered
-        requires ports { ArePorts self.table self.config ports }
-        requires room { self.config.replicas ≤ room }
+    pub fn gather(self, ports: SharedPorts) -> Gathered
+        requires { ArePorts self.table self.config ports }
         ensures { result
             ≡ record { config = self.config; parts = map (λ p. reverse p.part) ports } }
     {
@@ -90,18 +87,9 @@ impl Shared {
             mut root,
             config,
         } = self;
-        let parts = joined(
-            &words,
-            &mut root,
-            &config,
-            ports.into_ports(),
-            room.into_vec(),
-        );
+        take_in(&words, &mut root, &config, ports.into_ports());
         root.learn(&words);
-        Gathered {
-            config,
-            parts: Sequence::from_vec(parts),
-        }
+        Gathered { config, root }
     }
 }
 
@@ -126,33 +114,30 @@ fn seated(
     while let Some(room) = rooms.pop() {
         let Room {
             words: shared,
-            journal,
             found,
         } = room;
-        let seat = root.split(words, id, journal, found);
+        let seat = root.split(words, id, found);
         ports.push_reserved(SharedPort {
             words: shared,
             seat,
+            newest: None,
         });
         id += 1;
     }
     ports
 }
 
-/// Takes each seat in.
-fn joined(
+/// Takes each seat in. The configuration is only for the clauses.
+fn take_in(
     words: &Arc<Words, Global>,
     root: &mut RootSeat,
-    config: &Config,
+    _config: &Config,
     ports: Vec<SharedPort>,
-    mut parts: Vec<Journal>,
-) -> Vec<Journal>
+)
     requires of { IsRootOf (arc_value words.now) root.old }
-    requires ports { ArePorts root.old.table config.now ports.items }
-    requires key { (arc_value words.now).key ≡ config.now }
-    requires room { (parts.items ≡ []) × (config.now.replicas ≤ vec_capacity parts) }
+    requires ports { ArePorts root.old.table _config.now ports.items }
+    requires key { (arc_value words.now).key ≡ _config.now }
     ensures same { (root.new.table ≡ root.old.table) × (root.new.config ≡ root.old.config) }
-    ensures parts { map (λ j. j.events) result.items ≡ map (λ p. reverse p.part) ports.items }
     ensures taken { (r : ℕ) (p : PortValue) → slice_get ports.items r ≡ Some p
         → (seen : List (Event × ℕ)) × (entry_of r root.new.entries ≡ Some (entry r p.part seen)) }
 {
@@ -160,8 +145,8 @@ fn joined(
         let SharedPort {
             words: _shared,
             seat,
+            newest: _,
         } = port;
-        parts.push_reserved(root.join(words, seat));
+        root.join(words, seat);
     }
-    parts
 }

@@ -4,14 +4,17 @@ use Rattle.std.proofs.lemmas.Bool.{eqb-false}
 use mathlib.Core.Option as opt
 use mathlib.Core.Option.{some-injective, some-ne-none}
 use lib.ListN.{get_elem?}
-use Rattle.atomic_table.specs.Table.{Splits}
+use Rattle.atomic_table.specs.Table.{Me, Splits}
 use Rattle.atomic_table.proofs.Lists.{at_last, at_longer, at_set, set_else}
 use Rattle.mu_model.specs.declared.config.Config.{Config}
 use Rattle.mu_model.specs.Histories.{history, part}
 use Rattle.mu_model.proofs.Basics.{same_some}
+use Rattle.mu_words.specs.declared.found.Found.{Found}
+use Rattle.mu_words.specs.Founds.{FoundIs}
 use Rattle.shared_steps.specs.declared.rule.Entry.{Entry}
 use Rattle.shared_steps.specs.declared.rule.View.{View}
-use Rattle.shared_steps.specs.Rule.{Fits, FitsEntry, HasNone, Holds, entry_of, listed, only_view, without_view}
+use Rattle.shared_steps.specs.Insides.{Seated}
+use Rattle.shared_steps.specs.Rule.{Fits, FitsEntry, HasNone, Holds, entry, entry_of, listed, only_view, part_in, single, without_view}
 use Rattle.shared_steps.proofs.Entries.{entry_here, entry_of_without, has_id, in_listed, in_rest, set_there}
 
 -- what stands at a place of a longer list
@@ -100,3 +103,14 @@ cuts c id r v x has s h at = record { events = h.events; owner = given h.owner r
         subst (λ (i : ℕ). Fits c h.events (given h.owner r (length (set s.views id (without_view r v)))) i u) (sym t.0)
         (subst (λ (w : View). Fits c h.events (given h.owner r (length (set s.views id (without_view r v)))) (length (set s.views id (without_view r v))) w) t.1 right))
         (at_end (set s.views id (without_view r v)) (only_view r v) u j k)
+
+-- a seat that was cut off with an empty entry
+module _ (c : Config) (r : ℕ) (v : View) (me : Me (Unit {0}) View) (config : v.config ≡ Some c) (has : entry_of r v.entries ≡ Some (entry r [] [])) (cut : me ≡ (only_view r v, [])) where
+  fresh_single : me ≡ (single c r [] [], [])
+  fresh_single = cut ∙ (λ i. (record { config = config i; entries = listed (has i) }, []))
+
+  pub fresh_part : part_in me.0.entries ≡ []
+  fresh_part = ap (λ (m : Me (Unit {0}) View). part_in m.0.entries) fresh_single
+
+  pub fresh_seated : (found : Found) → FoundIs c r found [] [] → Seated c r (part_in me.0.entries) found me
+  fresh_seated found is = subst (λ l. Seated c r l found me) (sym fresh_part) (record { seen = []; is_single = fresh_single; found_is = is; possible = record { past = []; legal = tt; is = refl } })

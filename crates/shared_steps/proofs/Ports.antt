@@ -1,5 +1,5 @@
 -- What the steps of a seat ask, and what they leave.
-use Rattle.std.proofs.Common.{◌≡◌, ℕ, ◌+◌, true, slice_index, ◌<◌, ◌≤◌, ◌==◌, List, [], ◌∷◌, ◌++◌, length, sym, ap, subst, ◌∙◌, arith}
+use Rattle.std.proofs.Common.{◌≡◌, ℕ, true, slice_index, ◌<◌, ◌==◌, List, [], ◌∷◌, sym, ap, subst, ◌∙◌, arith}
 use prog.Atomic.{either}
 use Rattle.atomic_table.specs.Table.{Allows, Me, carried_after}
 use Rattle.mu_model.specs.declared.config.Config.{Config}
@@ -7,7 +7,6 @@ use Rattle.mu_model.specs.declared.event.Answer.{Answer}
 use Rattle.mu_model.specs.declared.event.Event.{Event}
 use Rattle.mu_model.specs.declared.event.Verb.{Verb}
 use Rattle.mu_model.specs.Allowed.{Allowed}
-use Rattle.mu_model.specs.Histories.{history}
 use Rattle.mu_model.specs.Parts.{IsPossible}
 use Rattle.mu_model.proofs.Basics.{same_some}
 use Rattle.mu_words.specs.declared.layout.Layout.{Layout}
@@ -20,12 +19,11 @@ use Rattle.mu_words.proofs.Fitting.{place_named, verb_fits}
 use Rattle.mu_words.proofs.Limits.{Limits, config_is_limited}
 use Rattle.mu_words.proofs.Places.{places_inside_law}
 use Rattle.mu_words.proofs.Prepared.{allowed_are_prepared_law}
-use Rattle.mu_words.proofs.Stand.{longer}
 use Rattle.shared_steps.specs.declared.rule.View.{View}
 use Rattle.shared_steps.specs.declared.seat.PortSeat.TheInside as seat
 use Rattle.shared_steps.specs.declared.words.Words.TheInside as words
-use Rattle.shared_steps.specs.Insides.{IsBoard, IsPort, Seated, board_of, port_of}
-use Rattle.shared_steps.specs.Rule.{Holds, Told, event_at, layout_of, single}
+use Rattle.shared_steps.specs.Insides.{IsBoard, IsPort, Seated, board_of, mine_of, port_of}
+use Rattle.shared_steps.specs.Rule.{Holds, Told, event_at, layout_of, part_in, single}
 use Rattle.shared_steps.specs.Seats.{Board, IsOf, Port, granted_to, is_store}
 use Rattle.shared_steps.proofs.Effects.{exchanges, false_true, grants}
 use Rattle.shared_steps.proofs.Keeps.{Does, layout_is, steps}
@@ -36,7 +34,7 @@ pub record Ready (w : words.Inside) (s : seat.Inside) (v : Verb) : Type 0 where
   pub board : IsBoard w
   pub port : IsPort s
   pub of : IsOf (board_of w) (port_of s)
-  pub allowed : Allowed w.table.shared.key s.id (history s.journal.events) v
+  pub allowed : Allowed w.table.shared.key s.id (mine_of s) v
 
 pub seat_is_ready : (w : words.Inside) (s : seat.Inside) (v : Verb) (b : Board) (p : Port) → board_of w ≡ b → port_of s ≡ p → IsBoard w → IsPort s → IsOf b p → Allowed b.key p.id p.part v → Ready w s v
 seat_is_ready w s v b p is_b is_p board port of may = record {
@@ -47,17 +45,11 @@ seat_is_ready w s v b p is_b is_p board port of may = record {
 }
 
 -- the seat has the configuration of the table
-pub seated : (w : words.Inside) (s : seat.Inside) (v : Verb) → Ready w s v → Seated w.table.shared.key s.id (history s.journal.events) s.found s.seat.me
+pub seated : (w : words.Inside) (s : seat.Inside) (v : Verb) → Ready w s v → Seated w.table.shared.key s.id (mine_of s) s.found s.seat.me
 seated w s v r =
     let old = r.port.seated in
     let same : r.port.config ≡ w.table.shared.key = same_some r.port.config w.table.shared.key (sym (ap (λ (m : Me (Unit {0}) View). m.0.config) old.is_single) ∙ r.of.config) in
-    subst (λ (c : Config). Seated c s.id (history s.journal.events) s.found s.seat.me) same old
-
-room_in : (w : words.Inside) (s : seat.Inside) (v : Verb) → Ready w s v → w.table.shared.key.budget ≤ length (history s.journal.events) + s.journal.room
-room_in w s v r =
-    let old = r.port.seated in
-    let same : r.port.config ≡ w.table.shared.key = same_some r.port.config w.table.shared.key (sym (ap (λ (m : Me (Unit {0}) View). m.0.config) old.is_single) ∙ r.of.config) in
-    subst (λ (c : Config). c.budget ≤ length (history s.journal.events) + s.journal.room) same r.port.room
+    subst (λ (c : Config). Seated c s.id (mine_of s) s.found s.seat.me) same old
 
 -- the same of a part whose list is known
 name_there : (c : Config) (r : ℕ) (mine : List Event) (v : Verb) → Limits c → IsPossible c r mine → Allowed c r mine v → IsName (layout_of c) (name_of c r mine v)
@@ -70,41 +62,41 @@ fits_there c r mine v l p may = verb_fits c p.past r v l p.legal (subst (λ (m :
 prepared_there : (c : Config) (r : ℕ) (mine : List Event) (v : Verb) → IsPossible c r mine → Allowed c r mine v → IsPrepared c mine v
 prepared_there c r mine v p may = subst (λ (m : List Event). IsPrepared c m v) p.is (allowed_are_prepared_law c r p.past v (subst (λ (m : List Event). Allowed c r m v) (sym p.is) may))
 
-pub prepared : (w : words.Inside) (s : seat.Inside) (v : Verb) → Ready w s v → IsPrepared w.table.shared.key (history s.journal.events) v
-prepared w s v r = prepared_there w.table.shared.key s.id (history s.journal.events) v (seated w s v r).possible r.allowed
+pub prepared : (w : words.Inside) (s : seat.Inside) (v : Verb) → Ready w s v → IsPrepared w.table.shared.key (mine_of s) v
+prepared w s v r = prepared_there w.table.shared.key s.id (mine_of s) v (seated w s v r).possible r.allowed
 
 pub verb_in_range : (w : words.Inside) (s : seat.Inside) (v : Verb) → Ready w s v → VerbFits w.layout.ring v
-verb_in_range w s v r = subst (λ (l : Layout). VerbFits l.ring v) (sym r.board.layout) (fits_there w.table.shared.key s.id (history s.journal.events) v (config_is_limited w.table.shared.key r.board.is_config) (seated w s v r).possible r.allowed)
+verb_in_range w s v r = subst (λ (l : Layout). VerbFits l.ring v) (sym r.board.layout) (fits_there w.table.shared.key s.id (mine_of s) v (config_is_limited w.table.shared.key r.board.is_config) (seated w s v r).possible r.allowed)
 
 -- the name as the code has it
-name_is : (w : words.Inside) (s : seat.Inside) (v : Verb) → Ready w s v → name_at w.layout.ring s.id s.found.close_target v ≡ name_of w.table.shared.key s.id (history s.journal.events) v
+name_is : (w : words.Inside) (s : seat.Inside) (v : Verb) → Ready w s v → name_at w.layout.ring s.id s.found.close_target v ≡ name_of w.table.shared.key s.id (mine_of s) v
 name_is w s v r = λ i. name_at ((r.board.layout i).ring) s.id ((seated w s v r).found_is.close_target i) v
 
 pub name_is_of_layout : (w : words.Inside) (s : seat.Inside) (v : Verb) → Ready w s v → IsName w.layout (name_at w.layout.ring s.id s.found.close_target v)
 name_is_of_layout w s v r =
     subst (λ (k : Layout × Name). IsName k.0 k.1) (λ i. ((sym r.board.layout) i, (sym (name_is w s v r)) i))
-    (name_there w.table.shared.key s.id (history s.journal.events) v (config_is_limited w.table.shared.key r.board.is_config) (seated w s v r).possible r.allowed)
+    (name_there w.table.shared.key s.id (mine_of s) v (config_is_limited w.table.shared.key r.board.is_config) (seated w s v r).possible r.allowed)
 
-place_is : (w : words.Inside) (s : seat.Inside) (v : Verb) (i : ℕ) → Ready w s v → i ≡ place_of w.layout (name_at w.layout.ring s.id s.found.close_target v) → i ≡ place_of (layout_of w.table.shared.key) (name_of w.table.shared.key s.id (history s.journal.events) v)
+place_is : (w : words.Inside) (s : seat.Inside) (v : Verb) (i : ℕ) → Ready w s v → i ≡ place_of w.layout (name_at w.layout.ring s.id s.found.close_target v) → i ≡ place_of (layout_of w.table.shared.key) (name_of w.table.shared.key s.id (mine_of s) v)
 place_is w s v i r is = is ∙ (λ j. place_of (r.board.layout j) (name_is w s v r j))
 
 pub place_is_inside : (w : words.Inside) (s : seat.Inside) (v : Verb) (i : ℕ) → Ready w s v → i ≡ place_of w.layout (name_at w.layout.ring s.id s.found.close_target v) → i < w.table.shared.table_id.words
 place_is_inside w s v i r is =
     let key = w.table.shared.key in
-    let there = places_inside_law (layout_of key) (name_of key s.id (history s.journal.events) v) (name_there key s.id (history s.journal.events) v (config_is_limited key r.board.is_config) (seated w s v r).possible r.allowed) in
+    let there = places_inside_law (layout_of key) (name_of key s.id (mine_of s) v) (name_there key s.id (mine_of s) v (config_is_limited key r.board.is_config) (seated w s v r).possible r.allowed) in
     let at = place_is w s v i r is in
     let count = r.board.count in
     omega (arith, there, at, count)
 
 -- a step that is no exchange expects nothing
 pub plain_expects_nothing : (w : words.Inside) (s : seat.Inside) (v : Verb) (r : Ready w s v) → ((c : Config) (q : ℕ) (mine : List Event) (seen : List (Event × ℕ)) → 0 ≡ expected c q mine seen v)
-    → 0 ≡ expected w.table.shared.key s.id (history s.journal.events) (seated w s v r).seen v
-plain_expects_nothing w s v r none = none w.table.shared.key s.id (history s.journal.events) (seated w s v r).seen
+    → 0 ≡ expected w.table.shared.key s.id (mine_of s) (seated w s v r).seen v
+plain_expects_nothing w s v r none = none w.table.shared.key s.id (mine_of s) (seated w s v r).seen
 
 -- what is kept of the words found tells what an exchange expects
 pub exchange_expects_kept : (w : words.Inside) (s : seat.Inside) (v : Verb) (r : Ready w s v) (x : ℕ) → ((c : Config) (mine : List Event) (seen : List (Event × ℕ)) → FoundIs c s.id s.found mine seen → IsPrepared c mine v → x ≡ expected c s.id mine seen v)
-    → x ≡ expected w.table.shared.key s.id (history s.journal.events) (seated w s v r).seen v
-exchange_expects_kept w s v r x tells = tells w.table.shared.key (history s.journal.events) (seated w s v r).seen (seated w s v r).found_is (prepared w s v r)
+    → x ≡ expected w.table.shared.key s.id (mine_of s) (seated w s v r).seen v
+exchange_expects_kept w s v r x tells = tells w.table.shared.key (mine_of s) (seated w s v r).seen (seated w s v r).found_is (prepared w s v r)
 
 store_told : (v : Verb) → is_store v ≡ true → (me : Me (Unit {0}) View) (n new : ℕ) (after : Me (Unit {0}) View) → Told v me n after → Told v me new after
 store_told (Verb.WriteRow j k x) h me n new after told = λ c r mine seen is. let g = told c r mine seen is in record { is = g.is; possible = g.possible }
@@ -112,19 +104,19 @@ store_told v h me n new after told = absurd (false_true h)
 
 -- what `steps` asks, at the seat as the port has it
 pub allows : (w : words.Inside) (s : seat.Inside) (v : Verb) (i : ℕ) (f : ℕ → ℕ) → (r : Ready w s v) → i ≡ place_of w.layout (name_at w.layout.ring s.id s.found.close_target v)
-    → Does w.table.shared.key s.id (history s.journal.events) (seated w s v r).seen v f
+    → Does w.table.shared.key s.id (mine_of s) (seated w s v r).seen v f
     → Allows (Holds w.table.shared.key) w.table.shared.table_id.slots s.seat.id s.seat.me i f (Told v s.seat.me)
 allows w s v i f r is does =
     let key = w.table.shared.key in
     let now = seated w s v r in
     subst (λ (k : ℕ × Me (Unit {0}) View). Allows (Holds key) k.0 s.seat.id k.1 i f (Told v k.1)) (λ j. ((sym r.board.slots) j, (sym now.is_single) j))
-    (steps key s.seat.id s.id (history s.journal.events) now.seen v i f (place_is w s v i r is) r.allowed does)
+    (steps key s.seat.id s.id (mine_of s) now.seen v i f (place_is w s v i r is) r.allowed does)
 
 -- the same if what the step does rests only on the verb
 pub allows_plain : (w : words.Inside) (s : seat.Inside) (v : Verb) (i : ℕ) (f : ℕ → ℕ) → Ready w s v → i ≡ place_of w.layout (name_at w.layout.ring s.id s.found.close_target v)
     → ((c : Config) (q : ℕ) (mine : List Event) (seen : List (Event × ℕ)) → Does c q mine seen v f)
     → Allows (Holds w.table.shared.key) w.table.shared.table_id.slots s.seat.id s.seat.me i f (Told v s.seat.me)
-allows_plain w s v i f r is does = allows w s v i f r is (does w.table.shared.key s.id (history s.journal.events) (seated w s v r).seen)
+allows_plain w s v i f r is does = allows w s v i f r is (does w.table.shared.key s.id (mine_of s) (seated w s v r).seen)
 
 -- the same for a store, which tells of the word that it writes
 pub allows_store : (w : words.Inside) (s : seat.Inside) (v : Verb) (i new : ℕ) → is_store v ≡ true → Ready w s v → i ≡ place_of w.layout (name_at w.layout.ring s.id s.found.close_target v)
@@ -141,33 +133,31 @@ pub allows_exchange : (w : words.Inside) (s : seat.Inside) (v : Verb) (i x new :
     → Allows (Holds w.table.shared.key) w.table.shared.table_id.slots s.seat.id s.seat.me i (λ n. either (n == x) new n) (Told v s.seat.me)
 allows_exchange w s v i x new h r is tells makes =
     allows w s v i (λ n. either (n == x) new n) r is
-    (exchanges v x new h w.table.shared.key s.id (history s.journal.events) (seated w s v r).seen (λ fits. makes fits ∙ (λ j. exchanged ((r.board.layout j).ring) v x)) (exchange_expects_kept w s v r x tells))
+    (exchanges v x new h w.table.shared.key s.id (mine_of s) (seated w s v r).seen (λ fits. makes fits ∙ (λ j. exchanged ((r.board.layout j).ring) v x)) (exchange_expects_kept w s v r x tells))
 
 -- the same for a grant, which counts on from the grant that the last `Close` found
 pub allows_grant : (w : words.Inside) (s : seat.Inside) (v : Verb) (i new : ℕ) → is_granting_verb v ≡ true → Ready w s v → i ≡ place_of w.layout (name_at w.layout.ring s.id s.found.close_target v) → new ≡ granted s.found.close_grant (granted_to v)
     → Allows (Holds w.table.shared.key) w.table.shared.table_id.slots s.seat.id s.seat.me i (λ n. new) (Told v s.seat.me)
 allows_grant w s v i new h r is next =
     let now = seated w s v r in
-    allows w s v i (λ n. new) r is (grants v new h w.table.shared.key s.id (history s.journal.events) now.seen r.board.is_config r.allowed (next ∙ ap (λ g. granted g (granted_to v)) now.found_is.close_grant))
+    allows w s v i (λ n. new) r is (grants v new h w.table.shared.key s.id (mine_of s) now.seen r.board.is_config r.allowed (next ∙ ap (λ g. granted g (granted_to v)) now.found_is.close_grant))
 
 -- a seat s that made the step of v, expected x, found n and answered a, is s' now
 pub record Made (w : words.Inside) (s : seat.Inside) (v : Verb) (r : Ready w s v) (s' : seat.Inside) (n x : ℕ) (a : Answer) : Type 0 where
   pub table : s'.seat.table_id ≡ s.seat.table_id
   pub id : s'.id ≡ s.id
   pub told : Told v s.seat.me n s'.seat.me
-  pub expects : x ≡ expected w.table.shared.key s.id (history s.journal.events) (seated w s v r).seen v
+  pub expects : x ≡ expected w.table.shared.key s.id (mine_of s) (seated w s v r).seen v
   pub answer : a ≡ answer_from w.layout.ring v x n
-  pub events : s'.journal.events ≡ s.journal.events ++ (record { by = s.id; verb = v; answer = a }) ∷ []
-  pub room : s'.journal.room + 1 ≡ s.journal.room
   pub found : Notes s.id v a n s.found s'.found
 
 -- the seat has one event more
 pub now_seated : (w : words.Inside) (s : seat.Inside) (v : Verb) (r : Ready w s v) (s' : seat.Inside) (n x : ℕ) (a : Answer) → Made w s v r s' n x a
-    → Seated w.table.shared.key s.id ((record { by = s.id; verb = v; answer = a }) ∷ history s.journal.events) s'.found s'.seat.me
+    → Seated w.table.shared.key s.id ((record { by = s.id; verb = v; answer = a }) ∷ mine_of s) s'.found s'.seat.me
 now_seated w s v r s' n x a m =
     let key = w.table.shared.key in
     let old = seated w s v r in
-    let mine = history s.journal.events in
+    let mine = mine_of s in
     let grew = m.told key s.id mine old.seen old.is_single in
     let e : Event = record { by = s.id; verb = v; answer = a } in
     let is_a : answer_from key.ring v (expected key s.id mine old.seen v) n ≡ a = (λ i. answer_from ((sym r.board.layout i).ring) v (sym m.expects i) n) ∙ sym m.answer in
@@ -179,8 +169,8 @@ now_seated w s v r s' n x a m =
       possible = subst (λ (y : Event). IsPossible key s.id (y ∷ mine)) is_e grew.possible;
     }
 
-events_now : (w : words.Inside) (s : seat.Inside) (v : Verb) (r : Ready w s v) (s' : seat.Inside) (n x : ℕ) (a : Answer) → Made w s v r s' n x a → history s'.journal.events ≡ (record { by = s.id; verb = v; answer = a }) ∷ history s.journal.events
-events_now w s v r s' n x a m = ap history m.events ∙ longer s.journal.events (record { by = s.id; verb = v; answer = a })
+events_now : (w : words.Inside) (s : seat.Inside) (v : Verb) (r : Ready w s v) (s' : seat.Inside) (n x : ℕ) (a : Answer) → Made w s v r s' n x a → mine_of s' ≡ (record { by = s.id; verb = v; answer = a }) ∷ mine_of s
+events_now w s v r s' n x a m = ap (λ (y : Me (Unit {0}) View). part_in y.0.entries) (now_seated w s v r s' n x a m).is_single
 
 pub now_port : (w : words.Inside) (s : seat.Inside) (v : Verb) (r : Ready w s v) (s' : seat.Inside) (n x : ℕ) (a : Answer) → Made w s v r s' n x a → IsPort s'
 now_port w s v r s' n x a m =
@@ -190,17 +180,16 @@ now_port w s v r s' n x a m =
       config = key;
       is_config = r.board.is_config;
       seated = subst (λ (k : ℕ × List Event). Seated key k.0 k.1 s'.found s'.seat.me) (λ i. ((sym m.id) i, (sym is) i)) (now_seated w s v r s' n x a m);
-      room = let len = ap length is in let old = room_in w s v r in let one = m.room in omega (arith, len, old, one);
     }
 
 pub now_part : (w : words.Inside) (s : seat.Inside) (v : Verb) (r : Ready w s v) (s' : seat.Inside) (n x : ℕ) (a : Answer) → Made w s v r s' n x a
-    → port_of s' ≡ record { table = s.seat.table_id; config = s.seat.me.0.config; id = s.id; part = (record { by = s.id; verb = v; answer = a }) ∷ history s.journal.events }
+    → port_of s' ≡ record { table = s.seat.table_id; config = s.seat.me.0.config; id = s.id; part = (record { by = s.id; verb = v; answer = a }) ∷ mine_of s }
 now_part w s v r s' n x a m =
     let single_now = (now_seated w s v r s' n x a m).is_single in
     let single_was = (seated w s v r).is_single in
     let config = ap (λ (y : Me (Unit {0}) View). y.0.config) single_now ∙ sym (ap (λ (y : Me (Unit {0}) View). y.0.config) single_was) in
     λ i. record { table = m.table i; config = config i; id = m.id i; part = events_now w s v r s' n x a m i }
 
-pub now_possible : (w : words.Inside) (s : seat.Inside) (v : Verb) (r : Ready w s v) (s' : seat.Inside) (n x : ℕ) (a : Answer) (b : Board) → board_of w ≡ b → Made w s v r s' n x a → IsPossible b.key s'.id (history s'.journal.events)
+pub now_possible : (w : words.Inside) (s : seat.Inside) (v : Verb) (r : Ready w s v) (s' : seat.Inside) (n x : ℕ) (a : Answer) (b : Board) → board_of w ≡ b → Made w s v r s' n x a → IsPossible b.key s'.id (mine_of s')
 now_possible w s v r s' n x a b is_b m =
     subst (λ (k : Board × ℕ × List Event). IsPossible k.0.key k.1 k.2) (λ i. (is_b i, (sym m.id) i, (sym (events_now w s v r s' n x a m)) i)) (now_seated w s v r s' n x a m).possible

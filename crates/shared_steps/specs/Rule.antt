@@ -34,6 +34,11 @@ abbrev pub entry_of : ℕ → List Entry → Option Entry
 entry_of r [] = None
 entry_of r (e ∷ es) = if e.id == r then Some e else entry_of r es
 
+-- the part of the first entry
+abbrev pub part_in : List Entry → List Event
+part_in [] = []
+part_in (e ∷ es) = e.part
+
 -- an entry with the empty part of each replica below n
 abbrev pub empty_entries : ℕ → List Entry
 empty_entries zero = []

@@ -31,13 +31,6 @@ impl PortSeat {
             verb,
         );
         let sight = Sight { expected: 0, word };
-        note(
-            &words.layout,
-            &mut self.journal,
-            &mut self.found,
-            self.id,
-            verb,
-            sight,
-        )
+        note(&words.layout, &mut self.found, self.id, verb, sight)
     }
 }

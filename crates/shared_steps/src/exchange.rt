@@ -36,14 +36,7 @@ impl PortSeat {
             verb,
         );
         let sight = Sight { expected, word };
-        note(
-            &words.layout,
-            &mut self.journal,
-            &mut self.found,
-            self.id,
-            verb,
-            sight,
-        )
+        note(&words.layout, &mut self.found, self.id, verb, sight)
     }
 
     /// Names at the fence of a region what the replica is about to put there, if the fence is as

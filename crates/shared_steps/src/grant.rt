@@ -37,13 +37,6 @@ impl PortSeat {
         let new = words.layout.granted(self.found.close_grant(), owner(&verb));
         let word = moves::swap::<Brand>(&words.table.shared, &mut self.seat, place, new, verb);
         let sight = Sight { expected: 0, word };
-        note(
-            &words.layout,
-            &mut self.journal,
-            &mut self.found,
-            self.id,
-            verb,
-            sight,
-        )
+        note(&words.layout, &mut self.found, self.id, verb, sight)
     }
 }

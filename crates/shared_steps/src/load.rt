@@ -25,13 +25,6 @@ impl PortSeat {
         let place = word_place(&words.layout, &self.found, self.id, &verb);
         let word = moves::load::<Brand>(&words.table.shared, &mut self.seat, place, verb);
         let sight = Sight { expected: 0, word };
-        note(
-            &words.layout,
-            &mut self.journal,
-            &mut self.found,
-            self.id,
-            verb,
-            sight,
-        )
+        note(&words.layout, &mut self.found, self.id, verb, sight)
     }
 }

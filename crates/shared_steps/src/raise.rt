@@ -36,13 +36,6 @@ impl PortSeat {
         let least = least(&verb);
         let word = moves::raise::<Brand>(&words.table.shared, &mut self.seat, place, least, verb);
         let sight = Sight { expected: 0, word };
-        note(
-            &words.layout,
-            &mut self.journal,
-            &mut self.found,
-            self.id,
-            verb,
-            sight,
-        )
+        note(&words.layout, &mut self.found, self.id, verb, sight)
     }
 }

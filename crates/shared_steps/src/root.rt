@@ -1,7 +1,6 @@
 //! The seat from which the seats of all replicas are cut, and which takes them in again.
-ghost use Rattle.std.specs.Prelude.{List, Some, [], ℕ, ◌∷◌, ◌≡◌, ◌≤◌};
+ghost use Rattle.std.specs.Prelude.{List, Some, [], ℕ, ◌∷◌, ◌≡◌};
 ghost use Rattle.mu_model.specs.declared.event.Event.{Event};
-ghost use Rattle.mu_model.specs.Histories.{history};
 ghost use Rattle.mu_words.specs.Founds.{FoundIs};
 ghost use Rattle.shared_steps.specs.Rule.{HaveOneList, entry, entry_of, without};
 ghost use Rattle.shared_steps.specs.Seats.{IsOf, IsRootOf};
@@ -11,7 +10,6 @@ use crate::moves::ViewSeat;
 use crate::rule::{Unite, Whole};
 use crate::seat::PortSeat;
 use crate::words::Words;
-use mu_model::Journal;
 use mu_words::Found;
 use std::marker::{Brand, Model};
 
@@ -35,42 +33,32 @@ impl Model for RootSeat {
 
 impl RootSeat {
     /// Cuts off the seat of a replica whose entry is still empty. Takes no memory.
-    pub fn split(&mut self, words: &Words, id: u8, journal: Journal, found: Found) -> PortSeat
+    pub fn split(&mut self, words: &Words, id: u8, found: Found) -> PortSeat
         requires of { IsRootOf words.now self.old }
         requires has { entry_of id self.old.entries ≡ Some (entry id [] []) }
-        requires empty { journal.events ≡ [] }
-        requires room { words.now.key.budget ≤ journal.room }
         requires found { FoundIs words.now.key id found [] [] }
         ensures root { self.new ≡ record self.old { entries = without id self.old.entries } }
         ensures seat { result
             ≡ record { table = self.old.table; config = self.old.config; id = id; part = [] } }
     {
         let seat = moves::split::<Brand>(&words.table.shared, &mut self.seat, id);
-        PortSeat {
-            seat,
-            id,
-            journal,
-            found,
-        }
+        PortSeat { seat, id, found }
     }
 
-    /// Takes a seat in, and gives its part back. Takes no memory.
-    pub fn join(&mut self, words: &Words, port: PortSeat) -> Journal
+    /// Takes a seat in, with its entry. Takes no memory.
+    pub fn join(&mut self, words: &Words, port: PortSeat)
         requires of { IsRootOf words.now self.old }
         requires port { IsOf words.now port }
-        ensures root { (seen : List (Event × ℕ))
+        ensures { (seen : List (Event × ℕ))
             × (self.new
             ≡ record self.old { entries = entry port.id port.part seen ∷ self.old.entries }) }
-        ensures journal { history result.events ≡ port.part }
     {
         let PortSeat {
             seat,
             id: _,
-            journal,
             found: _,
         } = port;
         words.table.shared.join_seat::<Unite>(&mut self.seat, seat);
-        journal
     }
 
     /// Learns that one legal list of events has all parts that this seat has. Loads one word, and

@@ -1,11 +1,11 @@
 //! What the steps of all kinds share: on which word a step is made, and how it is noted.
-ghost use Rattle.std.specs.Prelude.{[], ◌+◌, ◌++◌, ◌<◌, ◌∷◌, ◌≡◌};
+ghost use Rattle.std.specs.Prelude.{◌<◌, ◌≡◌};
 ghost use Rattle.mu_words.specs.Finding.{name_at};
 ghost use Rattle.mu_words.specs.Founds.{Notes};
 ghost use Rattle.mu_words.specs.Places.{IsName, place_of};
 ghost use Rattle.mu_words.specs.Steps.{answer_from};
 
-use mu_model::{Answer, Event, Journal, Verb};
+use mu_model::{Answer, Verb};
 use mu_words::{Found, Layout};
 
 /// The place of the word on which the replica makes a step.
@@ -27,27 +27,15 @@ pub(crate) struct Sight {
     pub(crate) word: u64,
 }
 
-/// Adds the event of a step to the journal, and keeps the word that it found. Takes no memory.
+/// The answer of a step. Keeps the word that it found. Takes no memory.
 #[inline(always)]
-pub(crate) fn note(
-    layout: &Layout,
-    journal: &mut Journal,
-    found: &mut Found,
-    by: u8,
-    verb: Verb,
-    sight: Sight,
-) -> Answer
+pub(crate) fn note(layout: &Layout, found: &mut Found, by: u8, verb: Verb, sight: Sight) -> Answer
     requires ring { 0 < layout.now.ring }
     requires kept { 0 < found.old.ring }
-    requires room { 0 < journal.old.room }
     ensures answer { result ≡ answer_from layout.now.ring verb sight.expected sight.word }
-    ensures events { journal.new.events
-        ≡ journal.old.events ++ (record { by = by; verb = verb; answer = result }) ∷ [] }
-    ensures room { journal.new.room + 1 ≡ journal.old.room }
     ensures found { Notes by verb result sight.word found.old found.new }
 {
     let answer = layout.answer_from(&verb, sight.expected, sight.word);
-    journal.push(Event { by, verb, answer });
     found.note(by, &verb, &answer, sight.word);
     answer
 }

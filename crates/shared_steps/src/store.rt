@@ -35,13 +35,6 @@ impl PortSeat {
         let word = content(&verb);
         moves::store::<Brand>(&words.table.shared, &mut self.seat, place, word, verb);
         let sight = Sight { expected: 0, word };
-        note(
-            &words.layout,
-            &mut self.journal,
-            &mut self.found,
-            self.id,
-            verb,
-            sight,
-        )
+        note(&words.layout, &mut self.found, self.id, verb, sight)
     }
 }

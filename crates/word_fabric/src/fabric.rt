@@ -118,8 +118,8 @@ impl Memory for WordFabric {
         self.make(by, Verb::Ask(p))
     }
 
-    fn events(&self) -> &[Event] {
-        self.kept.as_slice()
+    fn events(&self) -> &Journal {
+        &self.kept
     }
 
     fn into_events(self) -> Journal {

@@ -261,7 +261,8 @@ fn is_allowed<M: Memory>(alloc: Global, memory: &M, by: u8, verb: &Verb) -> Resu
         (λ b. IsTrue b
         → Allowed (M.config memory.now) by (part by (history (M.events memory.now))) verb.now) }
 {
-    let mine = part_of(alloc, memory.events(), by)?;
+    let events = memory.events().to_vec(alloc)?;
+    let mine = part_of(alloc, events.as_slice(), by)?;
     if memory.config().ring == 0 || MOST <= mine.len() {
         return Ok(false);
     }
@@ -286,7 +287,7 @@ pub(crate) fn first_wrong<M: Memory>(
         }
         memory = port.back();
     }
-    let kept = memory.into_events();
+    let kept = memory.into_events().to_vec(alloc)?;
     Ok(if kept.as_slice() == script {
         None
     } else {

@@ -1,34 +1,132 @@
 //! Three ports in threads of their own, and the scripts of events through three ports.
-ghost use Rattle.std.specs.Prelude.{All, IfOk, IfSome, IsTrue, [], vec_capacity, ◌<◌, ◌∷◌, ◌≡◌, ◌≤◌};
+ghost use Rattle.std.specs.Prelude.{All, IfOk, IfSome, IsTrue, [], length, ◌<◌, ◌∷◌, ◌≡◌};
 ghost use Rattle.std.specs.Thread.{IsSync};
 ghost use Rattle.mu_model.specs.Allowed.{Allowed};
-ghost use Rattle.shared_fabric.specs.Gathering.{AreAllPorts, IsSamePort, StayPorts};
+ghost use Rattle.mu_model.specs.Histories.{history};
+ghost use Rattle.shared_fabric.specs.Gathering.{IsSamePort, StayPorts};
 ghost use Rattle.worked_rows.specs.SharedPorts.{AreOf, AreSame};
 
 use crate::event_scripts::{JOB, LONG_JOB, SCRIPTS, config, events_of};
 use mu_model::{Answer, Config, Event, Verb};
 use mu_oracle::allows;
 use mu_port::Port;
-use shared_fabric::{Gathered, Shared, SharedPort, SharedPorts};
+use shared_fabric::{Shared, SharedPort, SharedPorts};
 use std::alloc::Global;
+use std::marker::Model;
 use std::process::Abort;
 use std::test::Fail;
 use std::thread;
 use std::thread::{Threads, join};
 
+/// The most events that a port keeps.
+const MOST: usize = 1_000;
+
+/// A port that keeps the events of its replica for the judge: a shared port keeps only the newest.
+/// Contracts see the port.
+#[derive(Drop)]
+struct KeptPort {
+    port: SharedPort,
+    events: Vec<Event>,
+}
+
+impl Model for KeptPort {
+    ghost use Rattle.std.specs.Prelude.{vec_capacity, ◌≡◌, ◌≤◌};
+    ghost use Rattle.mu_model.specs.Histories.{history};
+    ghost use Rattle.shared_fabric.specs.Gathering.{PortValue};
+
+    ghost Value = { PortValue };
+
+    ghost view = { λ k. k.port };
+
+    ghost invariant = { λ k. (history k.events.items ≡ k.port.part)
+        × (1_000 ≤ vec_capacity k.events) };
+}
+
+impl KeptPort {
+    /// A port that has made no step.
+    fn new(alloc: Global, port: SharedPort) -> Result<KeptPort, Fail>
+        ensures { IfOk result (λ k. k ≡ port) }
+    {
+        if port.newest().is_none() {
+            Ok(KeptPort {
+                port,
+                events: Vec::with_capacity(alloc, MOST)?,
+            })
+        } else {
+            Err(Fail::from("steps were made"))
+        }
+    }
+
+    /// The events of the replica, in true order.
+    fn events(&self) -> &[Event]
+        ensures { history result.now ≡ self.now.part }
+    {
+        self.events.as_slice()
+    }
+
+    /// Whether the step is allowed after the part of the port, and there is room for it.
+    fn is_allowed(&self, config: &Config, verb: &Verb) -> bool
+        requires config { self.now.config ≡ config.now }
+        requires ring { 0 < config.now.ring }
+        ensures { IsTrue result → Allowed self.now.config self.now.id self.now.part verb.now
+            × (length self.now.part < 1_000) }
+    {
+        let part = self.events();
+        part.len() < MOST && allows(config, self.port.id(), part, verb)
+    }
+
+    /// Makes a step if it is allowed.
+    fn try_step(&mut self, config: &Config, verb: Verb) -> Option<Answer>
+        requires config { self.old.config ≡ config.now }
+        requires ring { 0 < config.now.ring }
+        ensures { IsSamePort self.old self.new }
+    {
+        if self.is_allowed(config, &verb) {
+            let by = self.port.id();
+            let answer = self.port.step(verb);
+            self.events.push_reserved(Event { by, verb, answer });
+            Some(answer)
+        } else {
+            None
+        }
+    }
+}
+
+/// The ports, which keep their events from now on.
+fn kept(alloc: Global, ports: Vec<SharedPort>) -> Result<Vec<KeptPort>, Fail>
+    ensures { IfOk result (λ k. k.items ≡ ports.items) }
+{
+    let mut list = Vec::new(alloc);
+    for port in ports {
+        list.push(KeptPort::new(alloc, port)?)?;
+    }
+    Ok(list)
+}
+
+/// The ports without their events.
+fn bare(alloc: Global, ports: Vec<KeptPort>) -> Result<Vec<SharedPort>, Fail>
+    ensures { IfOk result (λ b. b.items ≡ ports.items) }
+{
+    let mut list = Vec::new(alloc);
+    for one in ports {
+        let KeptPort { port, events: _ } = one;
+        list.push(port)?;
+    }
+    Ok(list)
+}
+
 /// The ports of three replicas.
 #[derive(Drop)]
 struct Three {
-    first: SharedPort,
-    second: SharedPort,
-    third: SharedPort,
+    first: KeptPort,
+    second: KeptPort,
+    third: KeptPort,
 }
 
 /// The ports one by one, if there are three.
-fn apart(ports: SharedPorts) -> Option<Three>
-    ensures { IfSome result (λ t. ports ≡ t.first ∷ t.second ∷ t.third ∷ []) }
+fn apart(mut list: Vec<KeptPort>) -> Option<Three>
+    ensures { IfSome result (λ t. list.items ≡ t.first ∷ t.second ∷ t.third ∷ []) }
 {
-    let mut list = ports.into_ports();
     let third = list.pop()?;
     let second = list.pop()?;
     let first = list.pop()?;
@@ -44,61 +142,37 @@ fn apart(ports: SharedPorts) -> Option<Three>
 }
 
 /// The three ports as a list.
-fn together(three: Three, mut room: Vec<SharedPort>) -> SharedPorts
-    requires all { AreAllPorts (three.first ∷ three.second ∷ three.third ∷ []) }
-    requires room { (room.items ≡ []) × (3 ≤ vec_capacity room) }
-    ensures { result ≡ three.first ∷ three.second ∷ three.third ∷ [] }
+fn together(alloc: Global, three: Three) -> Result<Vec<KeptPort>, Fail>
+    ensures { IfOk result (λ l. l.items ≡ three.first ∷ three.second ∷ three.third ∷ []) }
 {
     let Three {
         first,
         second,
         third,
     } = three;
-    room.push_reserved(first);
-    room.push_reserved(second);
-    room.push_reserved(third);
-    SharedPorts::of_ports(room)
-}
-
-/// Whether the step is allowed after the part of the port.
-fn is_allowed(config: &Config, port: &SharedPort, verb: &Verb) -> bool
-    requires config { port.now.config ≡ config.now }
-    requires ring { 0 < config.now.ring }
-    ensures { IsTrue result → Allowed port.now.config port.now.id port.now.part verb.now }
-{
-    let part = port.part();
-    part.len() < 1_000 && allows(config, port.id(), part, verb)
-}
-
-/// Makes a step if it is allowed.
-fn try_step(config: &Config, port: &mut SharedPort, verb: Verb) -> Option<Answer>
-    requires config { port.old.config ≡ config.now }
-    requires ring { 0 < config.now.ring }
-    ensures { IsSamePort port.old port.new }
-{
-    if is_allowed(config, port, &verb) {
-        Some(port.step(verb))
-    } else {
-        None
-    }
+    let mut list = Vec::new(alloc);
+    list.push(first)?;
+    list.push(second)?;
+    list.push(third)?;
+    Ok(list)
 }
 
 /// A hundred beats and reads of the beats of the next replica, and one ask.
-fn act_on(config: &Config, port: &mut SharedPort, index: usize)
+fn act_on(config: &Config, port: &mut KeptPort, index: usize)
     requires config { port.old.config ≡ config.now }
     requires ring { 0 < config.now.ring }
     ensures { IsSamePort port.old port.new }
 {
     let other = if index < 2 { index as u8 + 1 } else { 0 };
-    try_step(config, port, Verb::Ask(0));
+    port.try_step(config, Verb::Ask(0));
     for _ in 0..100 {
-        try_step(config, port, Verb::Beat);
-        try_step(config, port, Verb::ReadBeat(other));
+        port.try_step(config, Verb::Beat);
+        port.try_step(config, Verb::ReadBeat(other));
     }
 }
 
 /// The same on a port that is handed over.
-fn act(config: &Config, mut port: SharedPort, index: usize) -> SharedPort
+fn act(config: &Config, mut port: KeptPort, index: usize) -> KeptPort
     requires config { port.config ≡ config.now }
     requires ring { 0 < config.now.ring }
     ensures { IsSamePort port result }
@@ -111,9 +185,9 @@ fn act(config: &Config, mut port: SharedPort, index: usize) -> SharedPort
 fn act_both<R: Threads + Sync>(
     rt: &R,
     config: &Config,
-    one: SharedPort,
-    other: SharedPort,
-) -> (SharedPort, SharedPort)
+    one: KeptPort,
+    other: KeptPort,
+) -> (KeptPort, KeptPort)
     requires one { one.config ≡ config.now }
     requires other { other.config ≡ config.now }
     requires ring { 0 < config.now.ring }
@@ -137,7 +211,7 @@ fn act_at_once<R: Threads + Sync>(rt: &R, config: &Config, three: Three) -> Thre
     let (first, (second, third)) = join(
         rt,
         || act(config, first, 0),
-        || -> (SharedPort, SharedPort)
+        || -> (KeptPort, KeptPort)
             requires { IsSync R.row × (second.config ≡ config.now) × (third.config ≡ config.now)
                 × (0 < config.now.ring) }
             ensures { IsSamePort second result.0 × IsSamePort third result.1 }
@@ -169,7 +243,7 @@ fn check_part(rt: &impl Abort, part: &[Event]) {
 }
 
 /// All ports act, each in a thread of its own.
-fn act_all<R: Threads + Sync>(rt: &R, config: &Config, ports: &mut [SharedPort])
+fn act_all<R: Threads + Sync>(rt: &R, config: &Config, ports: &mut [KeptPort])
     requires config { All (λ p. p.config ≡ config.now) ports.old }
     requires ring { 0 < config.now.ring }
     ensures { StayPorts ports.old ports.new }
@@ -185,12 +259,11 @@ fn threads_keep_one_list(rt: HostRuntime) -> Result<(), Fail> {
     let alloc = rt.alloc();
     let config = config(alloc, LONG_JOB)?;
     let mut shared = Shared::start(alloc, &config)?;
-    let room = Vec::with_capacity(alloc, 3)?;
-    let (ports, parts) = shared.ports(alloc)?;
-    if let Some(three) = apart(ports) {
-        let three = act_at_once(&rt, &config, three);
-        let gathered = shared.gather(together(three, room), parts);
-        check_parts(&rt, &gathered);
+    let ports = shared.ports(alloc)?;
+    if let Some(three) = apart(kept(alloc, ports.into_ports())?) {
+        let ports = together(alloc, act_at_once(&rt, &config, three))?;
+        check_parts(&rt, ports.as_slice());
+        shared.gather(SharedPorts::of_ports(bare(alloc, ports)?));
     } else {
         assert!(rt; false);
     }
@@ -198,7 +271,7 @@ fn threads_keep_one_list(rt: HostRuntime) -> Result<(), Fail> {
 }
 
 /// The ports after all of them acted.
-fn acted<R: Threads + Sync>(rt: &R, config: &Config, mut ports: Vec<SharedPort>) -> Vec<SharedPort>
+fn acted<R: Threads + Sync>(rt: &R, config: &Config, mut ports: Vec<KeptPort>) -> Vec<KeptPort>
     requires config { All (λ p. p.config ≡ config.now) ports.items }
     requires ring { 0 < config.now.ring }
     ensures { StayPorts ports.items result.items }
@@ -208,10 +281,10 @@ fn acted<R: Threads + Sync>(rt: &R, config: &Config, mut ports: Vec<SharedPort>)
 }
 
 /// Checks the parts of all ports.
-fn check_parts(rt: &impl Abort, gathered: &Gathered) {
-    assert_eq!(rt; gathered.parts().len(), 3);
-    for part in gathered.parts().as_slice() {
-        check_part(rt, part.as_slice());
+fn check_parts(rt: &impl Abort, ports: &[KeptPort]) {
+    assert_eq!(rt; ports.len(), 3);
+    for port in ports {
+        check_part(rt, port.events());
     }
 }
 
@@ -220,10 +293,10 @@ fn slices_of_ports_keep_one_list(rt: HostRuntime) -> Result<(), Fail> {
     let alloc = rt.alloc();
     let config = config(alloc, LONG_JOB)?;
     let mut shared = Shared::start(alloc, &config)?;
-    let (ports, room) = shared.ports(alloc)?;
-    let ports = acted(&rt, &config, ports.into_ports());
-    let gathered = shared.gather(SharedPorts::of_ports(ports), room);
-    check_parts(&rt, &gathered);
+    let ports = shared.ports(alloc)?;
+    let ports = acted(&rt, &config, kept(alloc, ports.into_ports())?);
+    check_parts(&rt, ports.as_slice());
+    shared.gather(SharedPorts::of_ports(bare(alloc, ports)?));
     Ok(())
 }
 
@@ -234,9 +307,9 @@ fn first_wrong(config: &Config, three: &mut Three, script: &[Event]) -> Option<u
 {
     for (index, event) in script.iter().enumerate() {
         let answer = match event.by {
-            0 => try_step(config, &mut three.first, event.verb),
-            1 => try_step(config, &mut three.second, event.verb),
-            _ => try_step(config, &mut three.third, event.verb),
+            0 => three.first.try_step(config, event.verb),
+            1 => three.second.try_step(config, event.verb),
+            _ => three.third.try_step(config, event.verb),
         };
         if answer != Some(event.answer) {
             return Some(index);
@@ -252,8 +325,8 @@ fn started(alloc: Global) -> Result<Option<(Config, Three)>, Fail>
 {
     let config = config(alloc, JOB)?;
     let mut shared = Shared::start(alloc, &config)?;
-    let (ports, _) = shared.ports(alloc)?;
-    Ok(match apart(ports) {
+    let ports = shared.ports(alloc)?;
+    Ok(match apart(kept(alloc, ports.into_ports())?) {
         Some(three) => Some((config, three)),
         None => None,
     })

@@ -84,7 +84,8 @@ fn is_legal_and_marked(alloc: Global, config: &Config, events: &[Event]) -> Resu
 fn stopped_is_marked(alloc: Global) -> Result<bool, Fail> {
     let config = config_of(alloc, MARKED)?;
     let order = order_of(alloc, MARKED)?.ok_or("no order")?;
-    Ok(is_legal_and_marked(alloc, &config, order.as_slice())?)
+    let events = order.to_vec(alloc)?;
+    Ok(is_legal_and_marked(alloc, &config, events.as_slice())?)
 }
 
 #[test]

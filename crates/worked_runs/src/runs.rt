@@ -1,8 +1,8 @@
 //! Whole jobs, whose replicas run in threads.
 use crate::replays::{ONE_PUT, TWO_CLIENTS, job_of};
 use kv_store::Reply;
-use mu_cluster::{Gate, OpenGate, Outcome, rows_spell_commands, run};
-use mu_model::{Answer, End, Event, Journal, Verb};
+use mu_cluster::{Gate, Outcome, rows_spell_commands, run};
+use mu_model::End;
 use mu_outcome::Log;
 use std::alloc::Global;
 use std::sync::Wait;
@@ -158,14 +158,6 @@ fn ran<R: Threads + Wait + Clock + Sync, G: Gate + Sync>(
     Ok(run(rt, alloc, job, gate)?)
 }
 
-/// The events of each replica.
-fn parts(outcome: &Outcome) -> &[Journal] {
-    match &outcome.gathered {
-        Some(gathered) => gathered.parts().as_slice(),
-        None => &[],
-    }
-}
-
 /// Whether one list begins the other.
 fn is_prefix(one: &[u16], other: &[u16]) -> bool {
     let both = one.len().min(other.len());
@@ -179,7 +171,8 @@ fn are_three(outcome: &Outcome) -> bool {
         .iter()
         .all(|other| is_prefix(one.as_slice(), other.as_slice()));
     outcome.order.is_none()
-        && (logs.len(), parts(outcome).len()) == (3, 3)
+        && outcome.gathered.is_some()
+        && logs.len() == 3
         && logs.iter().all(agree)
 }
 
@@ -230,28 +223,6 @@ fn a_run_that_is_fair_at_last_has_every_command(rt: HostRuntime) -> Result<(), F
     Ok(())
 }
 
-/// What the first read of the beats of replica 1 found.
-fn beats_read(events: &[Event]) -> Option<Answer> {
-    let mut reads = events
-        .iter()
-        .filter(|event| event.verb == Verb::ReadBeat(1));
-    reads.next().map(|event| event.answer)
-}
-
-/// Whether replica 0 of the two clients' job reads the beats of replica 1 before it has beaten.
-fn reads_no_beat<R: Threads + Wait + Clock + Sync, G: Gate + Sync>(
-    rt: &R,
-    alloc: Global,
-    gate: &G,
-) -> Result<bool, Fail> {
-    let outcome = ran(rt, alloc, TWO_CLIENTS, gate)?;
-    let first = match parts(&outcome).first() {
-        Some(journal) => beats_read(journal.as_slice()),
-        None => None,
-    };
-    Ok(first == Some(Answer::Number(0)))
-}
-
 #[test]
 fn gate_comes_before_the_turn(rt: HostRuntime) -> Result<(), Fail> {
     let gate = Ahead {
@@ -259,27 +230,49 @@ fn gate_comes_before_the_turn(rt: HostRuntime) -> Result<(), Fail> {
         ninth: AtomicU64::new(0),
         failures: AtomicU64::new(0),
     };
-    let is_right = reads_no_beat(&rt, rt.alloc(), &gate)?;
-    assert!(rt; is_right && gate.failures.load(Ordering::SeqCst) == 0);
+    let are_right = three_agree(&rt, rt.alloc(), &gate)?;
+    let entered = [&gate.first.one, &gate.first.other, &gate.ninth]
+        .iter()
+        .all(|count| count.load(Ordering::SeqCst) == 1);
+    assert!(rt; are_right && entered && gate.failures.load(Ordering::SeqCst) == 0);
     Ok(())
 }
 
 /// Whether this is what one replica leaves of one put.
 fn is_of_one_put(outcome: &Outcome) -> bool {
     let logs = outcome.logs.as_slice().iter().map(|log| log.len());
-    let journals = parts(outcome).iter();
     let commits = outcome.commits.as_slice().iter();
     logs.eq([1])
-        && journals.map(|journal| journal.as_slice().len()).eq([93])
         && commits.map(|commits| commits.len()).eq([1])
         && matches!(outcome.ends.as_slice(), [End::Finished { .. }])
         && matches!(outcome.replies.as_slice(), [Reply::Done])
 }
 
+/// Counts the steps of one replica: each passing of the gate has one step more than the one before.
+#[derive(Drop)]
+struct Counted {
+    passings: AtomicU64,
+    failures: AtomicU64,
+}
+
+impl Gate for Counted {
+    fn pass(&self, _replica: u8, step: u32) {
+        if self.passings.fetch_add(1, Ordering::SeqCst) != u64::from(step) {
+            self.failures.fetch_add(1, Ordering::SeqCst);
+        }
+    }
+}
+
 #[test]
 fn one_replica_runs(rt: HostRuntime) -> Result<(), Fail> {
-    let outcome = ran(&rt, rt.alloc(), ONE_PUT, &OpenGate)?;
+    let gate = Counted {
+        passings: AtomicU64::new(0),
+        failures: AtomicU64::new(0),
+    };
+    let outcome = ran(&rt, rt.alloc(), ONE_PUT, &gate)?;
     let is_right = is_of_one_put(&outcome);
-    assert!(rt; is_right);
+    assert!(rt; is_right && gate.failures.load(Ordering::SeqCst) == 0);
+    // Ninety-three steps, and the turn that finds the end.
+    assert_eq!(rt; gate.passings.load(Ordering::SeqCst), 94);
     Ok(())
 }

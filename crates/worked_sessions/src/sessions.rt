@@ -93,7 +93,8 @@ fn first_wrong(engine: &mut Engine, stops: bool) -> u8 {
 
 /// Whether the events of an engine so far are legal.
 fn is_legal(alloc: Global, engine: &Engine) -> Result<bool, Fail> {
-    let verdict = check(alloc, engine.config(), engine.events())?;
+    let events = engine.events().to_vec(alloc)?;
+    let verdict = check(alloc, engine.config(), events.as_slice())?;
     Ok(verdict == Verdict::Legal)
 }
 

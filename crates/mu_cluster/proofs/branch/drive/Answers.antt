@@ -5,6 +5,7 @@ use Rattle.mu_model.specs.Contents.{IsConfig}
 use Rattle.mu_model.specs.Parts.{IsPossible}
 use Rattle.mu_node.specs.Turns.{IsTurn}
 use Rattle.std.specs.Prelude.{None}
+use Rattle.std.specs.List.{slice_get}
 use Rattle.mu_cluster.specs.Branches.{IsDriven}
 use Rattle.mu_cluster.specs.Idling.{StandsForIdling}
 use Rattle.mu_cluster.specs.Pauses.{IsNextPause}
@@ -44,9 +45,9 @@ loop-preserved g c =
       tt,
       turned_on script c.loop.port c.turn_rested.new.port c.loop.node c.turn_rested.new.node c.turn_rested.result was c.turn_rested.ensures.same c.turn_rested.ensures.stands c.turn_rested.ensures.stops c.turn_rested.ensures.zeal told,
       same_same c.args.branch.now.port c.loop.port c.turn_rested.new.port c.loop.invariant.3 c.turn_rested.ensures.same,
-      subst (λ l. StandsForSilences l c.take_newest.new.self) (sym took.1.part) (c.take_newest.ensures e p.part (c.part-events.ensures ∙ took.1.part) (reads_beats_within q.config q.id p.part e few.replicas.1 possible) c.loop.invariant.4),
-      subst (λ i. StandsForIdling i q.part c.take_newest-in-Took.new.self) (sym c.turn_rested.ensures.same.id)
-          (subst (λ l. StandsForIdling p.id l c.take_newest-in-Took.new.self) (sym took.1.part) (c.take_newest-in-Took.ensures e p.part (c.part-events.ensures ∙ took.1.part) (reads_heads_within q.config q.id p.part e few.replicas.1 possible) c.loop.invariant.5)),
+      subst (λ l. StandsForSilences l c.take.new.self) (sym took.1.part) (c.take.ensures e p.part (c.newest-newest.ensures ∙ ap (λ l. slice_get l 0) took.1.part) (reads_beats_within q.config q.id p.part e few.replicas.1 possible) c.loop.invariant.4),
+      subst (λ i. StandsForIdling i q.part c.take-in-Took.new.self) (sym c.turn_rested.ensures.same.id)
+          (subst (λ l. StandsForIdling p.id l c.take-in-Took.new.self) (sym took.1.part) (c.take-in-Took.ensures e p.part (c.newest-newest.ensures ∙ ap (λ l. slice_get l 0) took.1.part) (reads_heads_within q.config q.id p.part e few.replicas.1 possible) c.loop.invariant.5)),
       later,
     )
 

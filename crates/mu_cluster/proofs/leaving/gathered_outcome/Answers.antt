@@ -1,7 +1,6 @@
-use Rattle.std.proofs.Common.{true, None, Some, map, refl, subst, sym}
+use Rattle.std.proofs.Common.{true, None, Some, refl}
 use Rattle.mu_model.specs.Parts.{HasParts}
 use Rattle.mu_outcome.specs.declared.outcome.Outcome.{Outcome}
-use Rattle.mu_cluster.specs.Branches.{AreLeft}
 use Rattle.mu_outcome.specs.Runs.{IsRunOver}
 use Rattle.mu_cluster.proofs.Branching.{one_list}
 use Rattle.mu_cluster.proofs.FairRuns.{applies_if_fair, eager_left}
@@ -9,16 +8,13 @@ use Rattle.mu_cluster.proofs.Filling.{diligent_of, printed_fit, printed_is, run_
 use Rattle.mu_cluster.proofs.leaving.gathered_outcome.Goals as goal
 
 pub left_by-lists-requires-clause-list : goal.left_by-lists-requires-clause-list
-left_by-lists-requires-clause-list c = one_list c.args.job.config c.args.gathered (map (λ j. j.events) c.parts.result.now) c.requires.config c.parts.ensures.parts c.parts.ensures.list
-
-pub left_by-lists-requires-clause-left : goal.left_by-lists-requires-clause-left
-left_by-lists-requires-clause-left c = subst (λ l. AreLeft c.args.job.config c.args.job.script l c.args.nodes.items) (sym c.parts.ensures.parts) c.requires.left
+left_by-lists-requires-clause-list c = one_list c.args.job.config c.args.gathered c.requires.config c.are_of_one_list.ensures
 
 pub printed-printed-requires-clause-room : goal.printed-printed-requires-clause-room
 printed-printed-requires-clause-room c =
     let job = c.args.job in
     let lists = c.left_by-lists.result in
-    let one = one_list job.config c.args.gathered (map (λ j. j.events) c.parts.result.now) c.requires.config c.parts.ensures.parts c.parts.ensures.list in
+    let one = one_list job.config c.args.gathered c.requires.config c.are_of_one_list.ensures in
     let held = c.left_by-lists.ensures one.0 one.1.0 one.1.1 in
     printed_fit true job job.script one.0 lists _ c.requires.good one.1.0 c.requires.spelled held c.requires.room.printed
 
@@ -28,10 +24,10 @@ returns-clause-run c =
     let k = job.config in
     let lists = c.left_by-lists.result in
     let g = c.args.gathered in
-    let one = one_list k g (map (λ j. j.events) c.parts.result.now) c.requires.config c.parts.ensures.parts c.parts.ensures.list in
+    let one = one_list k g c.requires.config c.are_of_one_list.ensures in
     let held = c.left_by-lists.ensures one.0 one.1.0 one.1.1 in
     let o : Outcome = record { job = job; logs = c.from_vec.result; commits = c.from_vec-2.result; replies = c.printed-printed.result; own_replies = c.from_vec-3.result; ends = c.from_vec-4.result; order = None; gathered = Some g } in
-    let has : HasParts k one.0 g.parts = subst (λ l. HasParts k one.0 l) c.parts.ensures.parts one.1.1 in
+    let has : HasParts k one.0 g.parts = one.1.1 in
     let over : IsRunOver one.0 o = run_over true o one.0 lists one.1.0 has c.from_vec.ensures c.from_vec-2.ensures c.from_vec-3.ensures c.from_vec-4.ensures held c.requires.spelled
     (printed_is true job job.script one.0 lists c.printed-printed.result c.requires.spelled held c.printed-printed.ensures) in
     record {
@@ -49,10 +45,10 @@ returns-clause-diligent c =
     let k = job.config in
     let lists = c.left_by-lists.result in
     let g = c.args.gathered in
-    let one = one_list k g (map (λ j. j.events) c.parts.result.now) c.requires.config c.parts.ensures.parts c.parts.ensures.list in
+    let one = one_list k g c.requires.config c.are_of_one_list.ensures in
     let held = c.left_by-lists.ensures one.0 one.1.0 one.1.1 in
     let o : Outcome = record { job = job; logs = c.from_vec.result; commits = c.from_vec-2.result; replies = c.printed-printed.result; own_replies = c.from_vec-3.result; ends = c.from_vec-4.result; order = None; gathered = Some g } in
-    let has : HasParts k one.0 g.parts = subst (λ l. HasParts k one.0 l) c.parts.ensures.parts one.1.1 in
+    let has : HasParts k one.0 g.parts = one.1.1 in
     diligent_of true o one.0 lists has held
 
 pub returns-clause-eager : goal.returns-clause-eager
@@ -61,9 +57,9 @@ returns-clause-eager c =
     let k = job.config in
     let lists = c.left_by-lists.result in
     let g = c.args.gathered in
-    let one = one_list k g (map (λ j. j.events) c.parts.result.now) c.requires.config c.parts.ensures.parts c.parts.ensures.list in
+    let one = one_list k g c.requires.config c.are_of_one_list.ensures in
     let o : Outcome = record { job = job; logs = c.from_vec.result; commits = c.from_vec-2.result; replies = c.printed-printed.result; own_replies = c.from_vec-3.result; ends = c.from_vec-4.result; order = None; gathered = Some g } in
-    let has : HasParts k one.0 g.parts = subst (λ l. HasParts k one.0 l) c.parts.ensures.parts one.1.1 in
+    let has : HasParts k one.0 g.parts = one.1.1 in
     eager_left o one.0 c.args.nodes.items has c.requires.left
 
 pub returns-clause-applies : goal.returns-clause-applies
@@ -72,10 +68,10 @@ returns-clause-applies c =
     let k = job.config in
     let lists = c.left_by-lists.result in
     let g = c.args.gathered in
-    let one = one_list k g (map (λ j. j.events) c.parts.result.now) c.requires.config c.parts.ensures.parts c.parts.ensures.list in
+    let one = one_list k g c.requires.config c.are_of_one_list.ensures in
     let held = c.left_by-lists.ensures one.0 one.1.0 one.1.1 in
     let o : Outcome = record { job = job; logs = c.from_vec.result; commits = c.from_vec-2.result; replies = c.printed-printed.result; own_replies = c.from_vec-3.result; ends = c.from_vec-4.result; order = None; gathered = Some g } in
-    let has : HasParts k one.0 g.parts = subst (λ l. HasParts k one.0 l) c.parts.ensures.parts one.1.1 in
+    let has : HasParts k one.0 g.parts = one.1.1 in
     let over : IsRunOver one.0 o = run_over true o one.0 lists one.1.0 has c.from_vec.ensures c.from_vec-2.ensures c.from_vec-3.ensures c.from_vec-4.ensures held c.requires.spelled
     (printed_is true job job.script one.0 lists c.printed-printed.result c.requires.spelled held c.printed-printed.ensures) in
     applies_if_fair o one.0 c.args.nodes.items c.requires.good over c.requires.left (diligent_of true o one.0 lists has held)

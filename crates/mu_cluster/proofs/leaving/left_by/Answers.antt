@@ -1,4 +1,4 @@
-use Rattle.std.proofs.Common.{true, ◌≡◌, ◌∙◌, ◌+◌, ◌++◌, ◌∷◌, suc, [], Some, ap, arith, length, map, subst, sym}
+use Rattle.std.proofs.Common.{true, ◌≡◌, ◌∙◌, ◌+◌, ◌++◌, ◌∷◌, suc, [], Some, ap, arith, length, subst, sym}
 use Rattle.std.specs.List.{slice_get}
 use Rattle.std.specs.Vec.Iter.{into_iter_items}
 use Rattle.std.proofs.lemmas.List.{length_push}
@@ -21,7 +21,7 @@ into_result-requires c =
     let all = c.args.nodes.items in
     let k = c.args._job.now.config in
     let script = c.args._job.now.script in
-    let parts = map (λ j. j.events) c.args._parts.now in
+    let parts = c.args._gathered.now.parts in
     let list = c.requires.list in
     let events = list.0 in
     let head : into_iter_items c.loop-node.node-iterator ≡ node ∷ into_iter_items c.next.new.self = c.in-Some.ensures.steps.0 in
@@ -50,7 +50,7 @@ loop-node-preserved c =
     let all = c.args.nodes.items in
     let k = c.args._job.now.config in
     let script = c.args._job.now.script in
-    let parts = map (λ j. j.events) c.args._parts.now in
+    let parts = c.args._gathered.now.parts in
     let inv = c.loop-node.invariant in
     let head : into_iter_items c.loop-node.node-iterator ≡ node ∷ into_iter_items c.next.new.self = c.in-Some.ensures.steps.0 in
     let long : length (c.loop-node.yielded ++ node ∷ []) ≡ n + 1 = length_push c.loop-node.yielded node in

@@ -1,4 +1,4 @@
-use Rattle.std.proofs.Common.{true, ◌≡◌, ◌+◌, ℕ, List, length, map}
+use Rattle.std.proofs.Common.{true, ◌≡◌, ◌+◌, ℕ, List, length}
 use Rattle.std.specs.List.{slice_get}
 use Rattle.std.specs.Vec.Iter.{into_iter_items}
 use Rattle.mu_model.specs.declared.event.Event.{Event}
@@ -11,5 +11,5 @@ abbrev pub invariant-loop-node : goal.invariant-loop-node
 invariant-loop-node l = record {
   rest : (r : ℕ) → slice_get (into_iter_items l.node-iterator) r ≡ slice_get l.fn.nodes.items (length l.yielded + r);
   count : length l.yielded + length (into_iter_items l.node-iterator) ≡ length l.fn.nodes.items;
-  holds : (events : List Event) → IsLegal l._job.config events → HasParts l._job.config events (map (λ j. j.events) l._parts) → HoldsLists true l._job.config l._job.script events (length l.yielded) l.lists;
+  holds : (events : List Event) → IsLegal l._job.config events → HasParts l._job.config events l._gathered.parts → HoldsLists true l._job.config l._job.script events (length l.yielded) l.lists;
 }

@@ -9,5 +9,5 @@ abbrev pub invariant-loop-seat : goal.invariant-loop-seat
 invariant-loop-seat l = record {
   rest : (r : ℕ) → slice_get (into_iter_items l.seat-iterator) r ≡ slice_get l.fn.seats.items (length l.yielded + r);
   count : length l.yielded + length (into_iter_items l.seat-iterator) ≡ length l.fn.seats.items;
-  holds : HoldsLists (is_eager l.fn._kind) l._job.config l._job.script l._events (length l.yielded) l.lists;
+  holds : HoldsLists (is_eager l.fn._kind) l._job.config l._job.script l._order.events (length l.yielded) l.lists;
 }

@@ -52,8 +52,8 @@ of_ports-requires g c =
     let are = are_ports table k c.args.job.script c.in_ok-first.first.items c.driven.result.items fresh c.driven.ensures.count c.driven.ensures.each in
     record { table = table; config = k; are = subst (λ (l : List PortValue). ArePorts table k l) (sym c.parted-nodes.ensures.ports) are }
 
-pub gather-gathered-requires-clause-ports : goal.gather-gathered-requires-clause-ports
-gather-gathered-requires-clause-ports g c =
+pub gather-gathered-requires : goal.gather-gathered-requires
+gather-gathered-requires g c =
     let k = c.args.job.config in
     let table = c.in_ok-shared.shared.table in
     let fresh = c.in_ok-first.ensures.ports ∙ fresh_of table k c.in_ok-shared.shared.config c.into_ports.result.items c.in_ok-ports.ports c.into_ports.ensures.ports c.in_ok-ports.ensures.ports c.in_ok-shared.ensures.config in

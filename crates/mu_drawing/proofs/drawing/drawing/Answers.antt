@@ -11,6 +11,6 @@ returns c =
     let job = c.in_ok-job.job in
     let line = c.first_line-line.result in
     let told = c.drawing_of_events.result in
-    draws bytes c.args.asked (record { job = job; events = c.in_ok-job.journal.events }) line told c.in_ok-job.ensures.reading
+    draws bytes c.args.asked (record { job = job; events = c.in_ok-job.list }) line told c.in_ok-job.ensures.reading
     (c.first_line-line.ensures ∙ ap (λ (es : List Event). length (lines bytes) - length es) c.as_slice-events.ensures)
     (subst (λ (es : List Event). TellsOfEvents job line es c.args.asked (told_with told)) c.as_slice-events.ensures c.drawing_of_events.ensures)

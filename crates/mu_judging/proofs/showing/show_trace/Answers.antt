@@ -11,7 +11,7 @@ pub moment_of-requires-clause-legal : goal.moment_of-requires-clause-legal
 moment_of-requires-clause-legal c =
     let n = c.args.count in
     let events = c.as_slice-events.result.now in
-    let spelled : Trace = record { job = c.in-Ok.read.0; events = c.in-Ok.read.1.events } in
+    let spelled : Trace = record { job = c.in-Ok.read.0; events = c.in-Ok.read.1 } in
     let fits : trace c.args.bytes.now ≡ Fits spelled = c.in-Ok.ensures.reading in
     let explained = c.in-Ok-located.ensures spelled fits refl c.as_slice-events.ensures in
     let legal = firsts_legal c.args.bytes.now spelled n c.in-Ok-located.found.0 (length events) c.in-Ok-located.found.1 fits explained (sym c.is_broken_before.ensures ∙ c.if-is_broken_before.false) in
@@ -22,7 +22,7 @@ returns-in-Ok-moment_of-clause-says c =
     let n = c.args.count in
     let events = c.as_slice-events.result.now in
     let moment = c.in-Ok-moment_of.moment in
-    let spelled : Trace = record { job = c.in-Ok.read.0; events = c.in-Ok.read.1.events } in
+    let spelled : Trace = record { job = c.in-Ok.read.0; events = c.in-Ok.read.1 } in
     let fits : trace c.args.bytes.now ≡ Fits spelled = c.in-Ok.ensures.reading in
     let explained = c.in-Ok-located.ensures spelled fits refl c.as_slice-events.ensures in
     record {

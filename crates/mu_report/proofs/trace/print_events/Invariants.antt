@@ -4,5 +4,5 @@ use Rattle.mu_report.specs.Trace.{event_line}
 use Rattle.mu_report.proofs.Prints.{Leaves}
 use Rattle.mu_report.proofs.trace.print_events.Given as goal
 
-abbrev pub invariant-loop-event : goal.invariant-loop-event
-invariant-loop-event g l = Leaves g.P.Printer.Prints l.initial.out (map event_line l.events) l.out (map event_line (drop l.event-index l.events))
+abbrev pub invariant-loop-k : goal.invariant-loop-k
+invariant-loop-k g l = Leaves g.P.Printer.Prints l.initial.out (map event_line l.journal.events) l.out (map event_line (drop l.k l.journal.events))

@@ -1,5 +1,3 @@
-use Rattle.std.proofs.Common.{ap, map}
-use Rattle.mu_report.specs.Trace.{event_line}
 use Rattle.mu_report.proofs.Prints.{same_lines}
 use Rattle.mu_report.proofs.Traces.{asked_clients}
 use Rattle.mu_report.proofs.trace.print_trace.Goals as goal
@@ -9,5 +7,5 @@ returns g c =
     let prints = g.P.Printer.Prints in
     let then = g.met.P.Printer.append in
     let clients = same_lines prints (asked_clients _ _ _ c.as_slice-commands.ensures c.count_of_clients-count.ensures) c.print_clients.ensures in
-    let events = same_lines prints (ap (map event_line) c.events_of.ensures) c.print_events.ensures in
+    let events = c.print_all_events.ensures in
     then _ _ _ _ _ c.print_settings.ensures (then _ _ _ _ _ clients (then _ _ _ _ _ c.print_script.ensures (then _ _ _ _ _ c.print_words.ensures (then _ _ _ _ _ events c.print_words-2.ensures))))

@@ -1,6 +1,7 @@
 use Rattle.std.proofs.Common.{◌≡◌, ◌≢◌, ◌∙◌, ap, sym, subst, ◌<◌, ◌++◌, [], ◌∷◌, Some, arith, length, List, vec_len, vec_capacity, refl}
 use Rattle.std.specs.Prelude.{All}
 use Rattle.std.specs.Arc.{arc_value}
+use Rattle.std.specs.List.{slice_get}
 use Rattle.std.proofs.lemmas.List.Elements.{All-take}
 use Rattle.mu_model.specs.declared.config.Config.{Config}
 use Rattle.mu_model.specs.Parts.{IsPossible}
@@ -32,6 +33,7 @@ invariant_of-push_reserved c =
         config = ap (λ (p : Port). p.config) seat ∙ (c.loop-room.invariant.2 ∙ (c.requires.of.config ∙ sym (ap (λ (b : Board). Some b.key) r)));
       };
       possible = subst (λ (p : Port). IsPossible (arc_value c.in-Some.room.words).key p.id p.part) (sym seat) record { past = []; legal = tt; is = refl };
+      newest_is = sym (ap (λ (p : Port). slice_get p.part 0) seat);
     }
 
 more_room : (c : goal.After-ports-1) → vec_len c.loop-room.ports < vec_capacity c.loop-room.ports

@@ -11,7 +11,8 @@ returns g c allowed =
     let by = c.args.by in
     let config = g.M.Memory.config c.args.memory.now in
     let events = g.M.Memory.events c.args.memory.now in
-    let mine : c.as_slice.result.now ≡ part by events = c.as_slice.ensures.value ∙ (c.in_ok-mine.ensures ∙ ap (part by) c.events.ensures.events) in
-    let past : history c.as_slice.result.now ≡ part by (history events) = ap (λ (l : List Event). history l) mine ∙ history-part by events in
-    let may = subst (λ (k : Config). Allowed k by (history c.as_slice.result.now) c.args.verb.now) c.config-2.ensures (c.allows.ensures.0 allowed) in
+    let kept = c.as_slice.ensures.value ∙ (c.in_ok-events.ensures ∙ c.events-events.ensures.events) in
+    let mine : c.as_slice-2.result.now ≡ part by events = c.as_slice-2.ensures.value ∙ (c.in_ok-mine.ensures ∙ ap (part by) kept) in
+    let past : history c.as_slice-2.result.now ≡ part by (history events) = ap (λ (l : List Event). history l) mine ∙ history-part by events in
+    let may = subst (λ (k : Config). Allowed k by (history c.as_slice-2.result.now) c.args.verb.now) c.config-2.ensures (c.allows.ensures.0 allowed) in
     subst (λ (l : List Event). Allowed config by l c.args.verb.now) past may

@@ -1,6 +1,8 @@
 use Rattle.std.proofs.Common.{List, sym, subst, arith}
 use Rattle.mu_model.specs.Allowed.{Allowed}
 use Rattle.mu_model.specs.Histories.{history, part}
+use Rattle.mu_model.specs.Packing.{FitsJournal}
+use Rattle.mu_model.proofs.Unpacking.{answered_fits}
 use Rattle.mu_model.specs.declared.event.Event.{Event}
 use Rattle.mu_regions.proofs.Range.{in_range}
 use Rattle.mu_port.specs.Keeping.{Kept}
@@ -8,12 +10,22 @@ use Rattle.list_fabric.specs.Kept.{IsListKept}
 use Rattle.list_fabric.proofs.Going.{has_room, kept_next}
 use Rattle.list_fabric.proofs.fabric.ListFabricMemory.step.Goals as goal
 
-pub push-requires : goal.push-requires
-push-requires c =
+pub push-requires-clause-room : goal.push-requires-clause-room
+push-requires-clause-room c =
     let fabric = c.self.inside in
     let may = subst (λ (k : Kept). Allowed k.config c.args.by (part c.args.by (history k.events)) c.args.verb) (sym c.self.view_is) c.requires in
     let room = has_room fabric.config fabric.kept.events fabric.kept.room fabric.regions c.args.by c.args.verb c.self.invariant may in
     omega (arith, room, c.self.invariant.room_left)
+
+pub push-requires-clause-fits : goal.push-requires-clause-fits
+push-requires-clause-fits c =
+    let fabric = c.self.inside in
+    let past = history fabric.kept.events in
+    let r = c.args.by in
+    let verb = c.args.verb in
+    let may = subst (λ (k : Kept). Allowed k.config r (part r (history k.events)) verb) (sym c.self.view_is) c.requires in
+    let answer = c.answer-answer.ensures fabric.config past (in_range fabric.config r (part r past) verb may) c.self.invariant.stands in
+    subst (λ a. FitsJournal (record { by = r; verb = verb; answer = a })) (sym answer) (answered_fits fabric.config r past verb)
 
 pub invariant_of-self : goal.invariant_of-self
 invariant_of-self c =

@@ -19,7 +19,7 @@ printed-printed-requires-clause-room c =
     let job = c.args.job in
     let order = c.args.order in
     let lists = c.filled-lists.result in
-    let held = subst (λ l. HoldsLists (is_eager c.args._kind) job.config job.script l job.config.replicas lists) c.as_slice.ensures c.filled-lists.ensures in
+    let held = c.filled-lists.ensures in
     printed_fit (is_eager c.args._kind) job job.script order.events lists _ c.requires.good c.requires.legal c.requires.spelled held c.requires.room.printed
 
 pub returns-clause-run : goal.returns-clause-run
@@ -29,7 +29,7 @@ returns-clause-run c =
     let order = c.args.order in
     let lists = c.filled-lists.result in
     let legal : IsLegal k order.events = c.requires.legal in
-    let held = subst (λ l. HoldsLists (is_eager c.args._kind) k job.script l k.replicas lists) c.as_slice.ensures c.filled-lists.ensures in
+    let held = c.filled-lists.ensures in
     let played = c.requires.played.1 in
     let o : Outcome = record { job = job; logs = c.from_vec.result; commits = c.from_vec-2.result; replies = c.printed-printed.result; own_replies = c.from_vec-3.result; ends = c.from_vec-4.result; order = Some order; gathered = None } in
     run_of (is_eager c.args._kind) o order lists c.args.seats.items c.requires.played.0 refl legal c.from_vec.ensures c.from_vec-2.ensures c.from_vec-3.ensures c.from_vec-4.ensures held played c.requires.ended c.requires.spelled
@@ -41,7 +41,7 @@ returns-clause-diligent c =
     let k = job.config in
     let order = c.args.order in
     let lists = c.filled-lists.result in
-    let held = subst (λ l. HoldsLists (is_eager c.args._kind) k job.script l k.replicas lists) c.as_slice.ensures c.filled-lists.ensures in
+    let held = c.filled-lists.ensures in
     let o : Outcome = record { job = job; logs = c.from_vec.result; commits = c.from_vec-2.result; replies = c.printed-printed.result; own_replies = c.from_vec-3.result; ends = c.from_vec-4.result; order = Some order; gathered = None } in
     diligent_of (is_eager c.args._kind) o order.events lists (order_parts o order refl c.requires.played.1.own) held
 
@@ -59,7 +59,7 @@ returns-clause-names c =
     let order = c.args.order in
     let lists = c.filled-lists.result in
     let legal : IsLegal k order.events = c.requires.legal in
-    let held = subst (λ l. HoldsLists (is_eager c.args._kind) k job.script l k.replicas lists) c.as_slice.ensures c.filled-lists.ensures in
+    let held = c.filled-lists.ensures in
     let played = c.requires.played.1 in
     let o : Outcome = record { job = job; logs = c.from_vec.result; commits = c.from_vec-2.result; replies = c.printed-printed.result; own_replies = c.from_vec-3.result; ends = c.from_vec-4.result; order = Some order; gathered = None } in
     let run = run_of (is_eager c.args._kind) o order lists c.args.seats.items c.requires.played.0 refl legal c.from_vec.ensures c.from_vec-2.ensures c.from_vec-3.ensures c.from_vec-4.ensures held played c.requires.ended c.requires.spelled
@@ -73,7 +73,7 @@ returns-clause-none_outrun c =
     let order = c.args.order in
     let lists = c.filled-lists.result in
     let legal : IsLegal k order.events = c.requires.legal in
-    let held = subst (λ l. HoldsLists (is_eager c.args._kind) k job.script l k.replicas lists) c.as_slice.ensures c.filled-lists.ensures in
+    let held = c.filled-lists.ensures in
     let played = c.requires.played.1 in
     let o : Outcome = record { job = job; logs = c.from_vec.result; commits = c.from_vec-2.result; replies = c.printed-printed.result; own_replies = c.from_vec-3.result; ends = c.from_vec-4.result; order = Some order; gathered = None } in
     let run = run_of (is_eager c.args._kind) o order lists c.args.seats.items c.requires.played.0 refl legal c.from_vec.ensures c.from_vec-2.ensures c.from_vec-3.ensures c.from_vec-4.ensures held played c.requires.ended c.requires.spelled
@@ -87,7 +87,7 @@ returns-clause-applies c plain =
     let order = c.args.order in
     let lists = c.filled-lists.result in
     let legal : IsLegal k order.events = c.requires.legal in
-    let held = subst (λ l. HoldsLists (is_eager c.args._kind) k job.script l k.replicas lists) c.as_slice.ensures c.filled-lists.ensures in
+    let held = c.filled-lists.ensures in
     let played = c.requires.played.1 in
     let o : Outcome = record { job = job; logs = c.from_vec.result; commits = c.from_vec-2.result; replies = c.printed-printed.result; own_replies = c.from_vec-3.result; ends = c.from_vec-4.result; order = Some order; gathered = None } in
     let run = run_of (is_eager c.args._kind) o order lists c.args.seats.items c.requires.played.0 refl legal c.from_vec.ensures c.from_vec-2.ensures c.from_vec-3.ensures c.from_vec-4.ensures held played c.requires.ended c.requires.spelled
@@ -103,7 +103,7 @@ returns-clause-finishes c plain =
     let order = c.args.order in
     let lists = c.filled-lists.result in
     let legal : IsLegal k order.events = c.requires.legal in
-    let held = subst (λ l. HoldsLists (is_eager c.args._kind) k job.script l k.replicas lists) c.as_slice.ensures c.filled-lists.ensures in
+    let held = c.filled-lists.ensures in
     let played = c.requires.played.1 in
     let o : Outcome = record { job = job; logs = c.from_vec.result; commits = c.from_vec-2.result; replies = c.printed-printed.result; own_replies = c.from_vec-3.result; ends = c.from_vec-4.result; order = Some order; gathered = None } in
     let run = run_of (is_eager c.args._kind) o order lists c.args.seats.items c.requires.played.0 refl legal c.from_vec.ensures c.from_vec-2.ensures c.from_vec-3.ensures c.from_vec-4.ensures held played c.requires.ended c.requires.spelled
@@ -119,7 +119,7 @@ returns-clause-leads c plain =
     let order = c.args.order in
     let lists = c.filled-lists.result in
     let legal : IsLegal k order.events = c.requires.legal in
-    let held = subst (λ l. HoldsLists (is_eager c.args._kind) k job.script l k.replicas lists) c.as_slice.ensures c.filled-lists.ensures in
+    let held = c.filled-lists.ensures in
     let played = c.requires.played.1 in
     let o : Outcome = record { job = job; logs = c.from_vec.result; commits = c.from_vec-2.result; replies = c.printed-printed.result; own_replies = c.from_vec-3.result; ends = c.from_vec-4.result; order = Some order; gathered = None } in
     let run = run_of (is_eager c.args._kind) o order lists c.args.seats.items c.requires.played.0 refl legal c.from_vec.ensures c.from_vec-2.ensures c.from_vec-3.ensures c.from_vec-4.ensures held played c.requires.ended c.requires.spelled

@@ -19,15 +19,13 @@ exchange-word-requires-clause-rule c =
 can : (c : goal.After-note) → Ready c.words.inside c.self.inside c.args.verb
 can c = seat_is_ready _ _ _ _ _ c.words.view_is c.self.view_is c.words.invariant c.self.invariant c.requires.of c.requires.allowed
 
-made : (c : goal.After-note) → Made c.words.inside c.self.inside c.args.verb (can c) record { seat = c.exchange-word.new.seat; id = c.self.inside.id; journal = c.note.new.journal; found = c.note.new.found } c.exchange-word.result c.expected-expected.result c.note.result
+made : (c : goal.After-note) → Made c.words.inside c.self.inside c.args.verb (can c) record { seat = c.exchange-word.new.seat; id = c.self.inside.id; found = c.note.new.found } c.exchange-word.result c.expected-expected.result c.note.result
 made c = record {
   table = c.exchange-word.ensures.same.0;
   id = refl;
   told = c.exchange-word.ensures.grown;
   expects = exchange_expects_kept _ _ _ (can c) _ c.expected-expected.ensures;
   answer = c.note.ensures.answer;
-  events = c.note.ensures.events;
-  room = c.note.ensures.room;
   found = c.note.ensures.found;
 }
 

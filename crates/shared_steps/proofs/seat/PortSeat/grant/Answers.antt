@@ -18,15 +18,13 @@ swap-word-requires-clause-rule c =
 can : (c : goal.After-note) → Ready c.words.inside c.self.inside c.args.verb
 can c = seat_is_ready _ _ _ _ _ c.words.view_is c.self.view_is c.words.invariant c.self.invariant c.requires.of c.requires.allowed
 
-made : (c : goal.After-note) → Made c.words.inside c.self.inside c.args.verb (can c) record { seat = c.swap-word.new.seat; id = c.self.inside.id; journal = c.note.new.journal; found = c.note.new.found } c.swap-word.result 0 c.note.result
+made : (c : goal.After-note) → Made c.words.inside c.self.inside c.args.verb (can c) record { seat = c.swap-word.new.seat; id = c.self.inside.id; found = c.note.new.found } c.swap-word.result 0 c.note.result
 made c = record {
   table = c.swap-word.ensures.same.0;
   id = refl;
   told = c.swap-word.ensures.grown;
   expects = plain_expects_nothing _ _ _ (can c) (grant_expects c.args.verb c.requires.kind);
   answer = c.note.ensures.answer;
-  events = c.note.ensures.events;
-  room = c.note.ensures.room;
   found = c.note.ensures.found;
 }
 

@@ -17,15 +17,13 @@ store-requires-clause-rule c =
 can : (c : goal.After-note) → Ready c.words.inside c.self.inside c.args.verb
 can c = seat_is_ready _ _ _ _ _ c.words.view_is c.self.view_is c.words.invariant c.self.invariant c.requires.of c.requires.allowed
 
-made : (c : goal.After-note) → Made c.words.inside c.self.inside c.args.verb (can c) record { seat = c.store.new.seat; id = c.self.inside.id; journal = c.note.new.journal; found = c.note.new.found } c.content-word.result 0 c.note.result
+made : (c : goal.After-note) → Made c.words.inside c.self.inside c.args.verb (can c) record { seat = c.store.new.seat; id = c.self.inside.id; found = c.note.new.found } c.content-word.result 0 c.note.result
 made c = record {
   table = c.store.ensures.same.0;
   id = refl;
   told = c.store.ensures.grown;
   expects = plain_expects_nothing _ _ _ (can c) (store_expects c.args.verb c.requires.kind);
   answer = c.note.ensures.answer;
-  events = c.note.ensures.events;
-  room = c.note.ensures.room;
   found = c.note.ensures.found;
 }
 
