@@ -13,7 +13,7 @@ mod running;
 mod silences;
 mod spelling;
 
-pub use mu_gate::Gate;
+pub use mu_gate::{Gate, OpenGate};
 pub use mu_outcome::Outcome;
 pub use playing::{eager_replay, replay, replay_over};
 pub use running::run;
