@@ -62,6 +62,7 @@ counts_paused false r rounds before after responses pauses =
     counts_one before after responses _ pauses.0 (ap (λ t. t.waiting) pauses.1)
     (ap (λ t. t.count) pauses.1)
 
+-- no more are told, and no more still wait, than waited
 told_few : (waiting : List Waiting) (known : List (Option Reply))
     → length (told_of waiting known) ≤ length waiting
 told_few [] known = omega arith
@@ -149,6 +150,7 @@ answers_more first between after (l ∷ answered) [] line responses all next = a
 answers_more first between after (l ∷ answered) (a ∷ answers) line responses all next =
     (all.0, all.1, answers_more all.0 between after answered answers line responses all.2 next)
 
+-- a session begins: nothing was read, answered or written
 pub begins : (first : Moment) → first.talk.count ≡ 0 → first.talk.waiting ≡ []
     → first.incoming.held ≡ [] → first.incoming.room ≡ SESSION_LIMIT + 1
     → first.incoming.is_over ≡ false → UnderWay first first
@@ -175,6 +177,7 @@ begins first count waiting held room going =
 pub follows : (over : Bool) (more : List ℕ) → over ≡ false → MayFollow over more
 follows over more going = subst (λ b. MayFollow b more) (sym going) tt
 
+-- the lines so far and one more
 pub cut_more : (taken next held after more line : List ℕ) (answered : List (List ℕ))
     → lines (taken ++ (next ++ more)) ≡ answered ++ lines (held ++ (next ++ more))
     → lines (held ++ (next ++ more)) ≡ line ∷ lines (after ++ more)
@@ -183,6 +186,7 @@ cut_more taken next held after more line answered so cut =
     ap lines (append_assoc taken next more) ∙ so ∙ ap (λ l. answered ++ l) cut
     ∙ sym (append_assoc answered (line ∷ []) (lines (after ++ more)))
 
+-- and goes on with each line that is answered
 pub goes_on : (first between now : Moment) → UnderWay first between → AnswersNext between now
     → UnderWay first now
 goes_on first between now so step =

@@ -20,7 +20,7 @@ print_responses-requires g c =
       arith,
       size,
       few_told takes.line _ _ _ (c.in-Ok.ensures takes.line takes.front) c.requires.few
-      c.requires.count,
+          c.requires.count,
     )
 
 pub returns-in-Ok-print_responses : goal.returns-in-Ok-print_responses
