@@ -1,5 +1,5 @@
 //! The engine.
-ghost use Rattle.std.specs.Prelude.{IfOk, List, Some, length, map, ◌++◌, ◌<◌, ◌≡◌};
+ghost use Rattle.std.specs.Prelude.{IfOk, List, Some, length, map, ◌+◌, ◌++◌, ◌<◌, ◌≡◌, ◌≤◌};
 ghost use Rattle.std.specs.List.{slice_get};
 ghost use Rattle.mu_model.specs.declared.event.Event.{Event as SomeEvent};
 ghost use Rattle.mu_model.specs.Contents.{IsConfig};
@@ -7,7 +7,7 @@ ghost use Rattle.mu_outcome.specs.LogsAfter.{AgreesNow};
 ghost use Rattle.mu_engine.specs.Live.{after_round, changed_at, first_live, paused, stopped};
 ghost use Rattle.mu_engine.specs.Moments.{GoesOn, IsMoment};
 ghost use Rattle.mu_engine.specs.Rounds.{IsRound};
-ghost use Rattle.mu_engine.specs.Shapes.{HasLimits, first_job as job_at_first};
+ghost use Rattle.mu_engine.specs.Shapes.{HasLimits, first_job as job_at_first, no_script};
 
 use crate::hold::Hold;
 use crate::rounds::play_round;
@@ -177,6 +177,15 @@ impl Engine {
     /// At every moment the replicas agree on what they have applied. It does nothing.
     pub fn agrees_now(&self)
         ensures { AgreesNow self.now.job self.now.events }
+    {
+        let _config = &self.config;
+    }
+
+    /// At every moment no script befalls the replicas, and the commands with those that may come
+    /// are no more than a job has. It does nothing.
+    pub fn is_within_limits(&self)
+        ensures script { self.now.job.script ≡ no_script }
+        ensures few { length self.now.job.commands + self.now.room ≤ 1500 }
     {
         let _config = &self.config;
     }

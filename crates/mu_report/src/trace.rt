@@ -1,28 +1,90 @@
-//! The trace of a replay: its job, and its events in their order.
-ghost use Rattle.std.specs.Prelude.{◌≡◌, ◌+◌, ◌<◌, map};
+//! A trace: a job, and its events in their order.
+ghost use Rattle.std.specs.Prelude.{◌≡◌, ◌*◌, ◌+◌, ◌<◌, ◌≤◌, ◌^◌, length, map, take, IfErr, IfOk, OnErr, OnOk};
+ghost use Rattle.std.specs.Io.KnownBytes.{Appends};
+ghost use Rattle.mu_io.specs.Faults.{Rose};
 ghost use Rattle.mu_outcome.specs.AllEvents.{HasEvents};
-ghost use Rattle.mu_report.specs.Trace.{event_line as event_line_of, batch_lines, setting_lines, client_count, command_lines, commands_lines, client_lines, stop_line, pause_line, has_lines as has_lines_of, script_lines, events_of, trace_lines};
+ghost use Rattle.mu_report.specs.Printing.{ended};
+ghost use Rattle.mu_report.specs.declared.line.TheConstants.{LINE_BYTES};
+ghost use Rattle.mu_report.specs.Trace.{event_line as event_line_of, batch_lines, setting_lines, client_count, command_lines, commands_lines, client_lines, stop_line, pause_line, has_lines as has_lines_of, script_lines, events_of, job_lines, lines_of_parts, trace_lines};
 
 use crate::line::{HasLine, Line, print_each, print_numbered, print_words};
-use crate::printer::Printer;
+use crate::printer::{Printer, SinkPrinter};
 use kv_store::Command;
 use mu_events::push_event;
 use mu_input::op_line;
+use mu_io::{Sink, WriteFault};
 use mu_model::{Config, Journal, Pause, Script, Stop};
 use mu_outcome::{AllEvents, Outcome};
 
-/// Prints the trace. Takes no memory.
+/// Prints the trace of a run. Takes no memory.
 pub fn print_trace<P: Printer>(out: &mut P, outcome: &Outcome)
     requires { HasEvents outcome.now }
     ensures { P.Prints out.old (trace_lines outcome.now) out.new }
 {
-    let commands = outcome.job.commands.as_slice();
-    let count = count_of_clients(commands);
-    print_settings(out, &outcome.job.config);
-    print_clients(out, commands, count);
-    print_script(out, &outcome.job.script);
-    print_words(out, b"end");
+    let job = &outcome.job;
+    print_job(out, &job.config, job.commands.as_slice(), &job.script);
     print_all_events(out, outcome);
+    print_words(out, b"end");
+}
+
+/// Writes the trace of a job, given by its parts, and of its events, in pieces as
+/// [`crate::print`] does, and answers how many bytes it has. Takes no memory.
+///
+/// # Errors
+///
+/// `WriteFault` if the sink counted a fault, with the number of bytes of the trace that it had
+/// taken.
+pub fn write_trace<K: Sink>(
+    sink: &mut K,
+    config: &Config,
+    commands: &[Command],
+    script: &Script,
+    journal: &Journal,
+) -> Result<usize, WriteFault>
+    requires { LINE_BYTES * length
+        (lines_of_parts config.now commands.now script.now journal.now.events) < 2 ^ 64 }
+    ensures whole { OnOk result (Appends (K.written sink.old) (K.written sink.new)
+        (ended (lines_of_parts config.now commands.now script.now journal.now.events))) }
+    ensures count { IfOk result (λ count. count ≡ length
+        (ended (lines_of_parts config.now commands.now script.now journal.now.events))) }
+    ensures same_faults { OnOk result (K.faults sink.new ≡ K.faults sink.old) }
+    ensures part { IfErr result (λ fault. Appends (K.written sink.old) (K.written sink.new)
+        (take fault.taken
+        (ended (lines_of_parts config.now commands.now script.now journal.now.events)))) }
+    ensures short { IfErr result (λ fault. fault.taken < length
+        (ended (lines_of_parts config.now commands.now script.now journal.now.events))) }
+    ensures fault { OnErr result (Rose (K.faults sink.old) (K.faults sink.new)) }
+    ensures never_falls { K.faults sink.old ≤ K.faults sink.new }
+{
+    let mut printer = SinkPrinter::new(sink);
+    print_parts(&mut printer, config, commands, script, journal);
+    printer.finish()
+}
+
+/// Prints the trace of a job, given by its parts, and of its events.
+fn print_parts<P: Printer>(
+    out: &mut P,
+    config: &Config,
+    commands: &[Command],
+    script: &Script,
+    journal: &Journal,
+)
+    ensures { P.Prints out.old
+        (lines_of_parts config.now commands.now script.now journal.now.events) out.new }
+{
+    print_job(out, config, commands, script);
+    print_events(out, journal);
+    print_words(out, b"end");
+}
+
+/// Prints the lines of a job, given by its parts.
+fn print_job<P: Printer>(out: &mut P, config: &Config, commands: &[Command], script: &Script)
+    ensures { P.Prints out.old (job_lines config.now commands.now script.now) out.new }
+{
+    let count = count_of_clients(commands);
+    print_settings(out, config);
+    print_clients(out, commands, count);
+    print_script(out, script);
     print_words(out, b"end");
 }
 
