@@ -31,7 +31,7 @@ static const char REPORT[] =
 static const char TRACE[] = "mu 1\nreplicas 1\nring 8\nbudget 9\nend\n0 ask 0 = done\nend\n";
 static const char BROKEN[] = "mu 1\nreplicas 1\nring 8\nbudget 9\nend\n0 beat = done\n0 grant 0 = done\nend\n";
 static const char USAGE[] =
-    "usage: mu replay, mu eager, mu run, mu check, mu why, mu tell, mu show N, mu attest, mu trace, mu eager trace, mu enough, mu bulk N, mu live K, mu desk, mu book\n";
+    "usage: mu replay, mu eager, mu run, mu check, mu why, mu tell, mu show N, mu attest, mu trace, mu eager trace, mu enough, mu bulk N, mu live K, mu desk, mu book, mu serve N\n";
 
 static void answers(void)
 {

@@ -22,11 +22,14 @@ FIRST_BYTES = 16
 # Two traces, of which the first is legal.
 TWO_TRACES = b"mu 1\nreplicas 3\nring 8\nbudget 100\nend\nend\n\n---\nmu 1\nreplicas 8\n"
 FIRST_LINE = b"legal 0\n"
+# A session of one line, which isn't whole after the first bytes.
+A_LONG_LINE = b"put key a-long-value\n"
 # Each program with words of a run and an input; what it prints if it can't read; and what of its output is written
 # before the first write that fails, if a file takes so many bytes.
 RUNS = [("mu", ["replay"], "put-and-get.job", b"read fault\n", b""),
         ("mu", ["trace"], "put-and-get.job", b"read fault\n", b""),
         ("mu", ["check"], "late-exchange.trace", b"read fault\n", b""),
+        ("mu", ["serve", "3"], A_LONG_LINE, b"read fault\n", b""),
         ("mu_draw", [], "late-exchange.trace", b"read fault\n", b""),
         ("mu_draw", ["0", "3"], "late-exchange.trace", b"read fault\n", b""),
         ("mu_judge", [], TWO_TRACES, b"", FIRST_LINE)]

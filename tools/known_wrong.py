@@ -30,8 +30,10 @@ import pages
 import refused_memory
 import rules
 import second_judge
+import serve_sessions
 import stop_jobs
 import surface
+import talks
 import trying
 from beginning import begin
 from judged_table import judged
@@ -58,6 +60,23 @@ WRONG_REPORTS = [
     ("outrun\n0 0.1 put a 5\n0 0.2 get a", "outrun\n0 1.1 swap a 7"), ("outrun", "stopped"), ("outrun", "asleep"),
     ("entries 1 commits 0 outrun", "entries 1 commits 2 finished"), ("status 0\n", "status 0"),
 ]
+# A session, what is answered to it, and what makes that wrong.
+LINES = ["put a 5", "client 1", "get a", "stop 2", "put a", "stop 2", "del a"]
+ANSWERS = ("0.1 done\nclient 1\n1.1 value 5\nreplica 2 stops\nrefused line 5 cause 6\nrefused line 6 cause 10\n1.2 done\n"
+           "report 2\nlog 0 entries 3 commits 3 finished\n0 0.1 put a 5\n1 1.1 get a\n2 1.2 del a\n"
+           "log 1 entries 3 commits 0 finished\n0 0.1 put a 5\n1 1.1 get a\n2 1.2 del a\n"
+           "log 2 entries 1 commits 0 stopped\n0 0.1 put a 5\nreplies 3\n0.1 done\n1.1 value 5\n1.2 done\nstatus 0\n")
+WRONG_ANSWERS = [
+    ("0.1 done\nclient", "0.1 none\nclient"), ("client 1", "client 0"), ("1.1 value 5\nreplica", "1.1 value 6\nreplica"),
+    ("1.1 value 5\nreplica", "1.1 no reply\n1.1 value 5\nreplica"), ("replica 2 stops", "replica 1 stops"),
+    ("refused line 5", "refused line 6"), ("1.2 done\nreport", "1.3 done\nreport"), ("1.2 done\nreport", "report"),
+    ("log 2 entries 1 commits 0 stopped\n0 0.1 put a 5\n", ""), ("0 0.1 put a 5\nreplies", "0 1.1 get a\nreplies"),
+    ("1 1.1 get a\n2 1.2 del a\n", "1 1.2 del a\n2 1.1 get a\n"), ("2 1.2 del a", "2 1.2 del b"), ("2 1.2 del a\n", ""),
+    ("replies 3\n0.1 done", "replies 3\n0.1 none"), ("status 0", "status 3"), ("report 2", "report 1"),
+]
+# A program that answers each line at once, and one that answers only at the end of its input.
+LINE_ANSWERER = "#!/bin/sh\nwhile read -r line; do echo done; done\necho status 0\n"
+END_ANSWERER = "#!/bin/sh\ncat | sed 's/.*/done/'\necho status 0\n"
 # The least that there is of each kind: a judge that looks at nothing finds nothing.
 LEAST_NAMED, LEAST_JUDGED, LEAST_BOUND, LEAST_VERDICTS = 1000, 200, 300, 150
 LEAST_FIGURES, LEAST_SHOWN, LEAST_CLAUSES, LEAST_REASONS = 100, 100, 200, 50
@@ -69,8 +88,10 @@ GHOST_USES = ("ghost use A.B.{first, is_last, last as final, rest as others};\ng
 # A source that says want of memory as an allocator does, and what would make it up.
 SAYS_NO_MEMORY = ("use mu_model::NoMemory;\nimpl From<AllocError> for End {\n    fn from(_failed: AllocError) -> End {\n"
                   "        End::NoMemory\n    }\n}\n/// Err(AllocError)\nfn told() -> Said\n    ensures { result ≡ NoMemory }\n{\n"
-                  "    match made() {\n        Ok(made) => Said::Made(made),\n        Err(NoMemory) => Said::NoMemory,\n    }\n}\n")
-MADE_UP = [("Err(NoMemory)", "Err(_)"), ("use mu_model::NoMemory;\n", ""), ("_failed: AllocError", "_failed: Failed"),
+                  "    match made() {\n        Ok(made) => Said::Made(made),\n        Err(NoMemory) => Said::NoMemory,\n    }\n}\nfn taken() -> Result<u8, NoMemory> {\n    match given() {\n"
+                  "        Err(Refusal::NoMemory) => Err(NoMemory),\n        taken => taken.row(),\n    }\n}\n")
+MADE_UP = [("Err(NoMemory)", "Err(_)"), ("Err(Refusal::NoMemory)", "Err(Refusal::Full)"), ("taken.row()", "Err(NoMemory)"),
+           ("use mu_model::NoMemory;\n", ""), ("_failed: AllocError", "_failed: Failed"),
            ("Said::Made(made)", "Said::NoMemory"), ("match made()", "match Err(AllocError)"),
            ("use mu_model", "use std::alloc::AllocError as Refused;\nuse mu_model")]
 # A page, what stands in it, and what would be stale.
@@ -217,6 +238,30 @@ def tells_reports():
     yield not accepts(REPORT, 3)
     for old, new in WRONG_REPORTS:
         yield old in REPORT and not accepts(REPORT.replace(old, new, 1), 0)
+
+
+def tells_sessions():
+    """Each line has its answer, the report is of these, and each line is answered before the next is given."""
+    def accepts_session(answers, status=0):
+        try:
+            serve_sessions.check(3, LINES, answers.splitlines(), status)
+        except (serve_sessions.Wrong, KeyError, ValueError, IndexError):
+            return False
+        return True
+
+    yield accepts_session(ANSWERS) and not accepts_session(ANSWERS, 3)
+    for old, new in WRONG_ANSWERS:
+        yield old in ANSWERS and not accepts_session(ANSWERS.replace(old, new, 1))
+    case = trying.Case("a talk", [], b"one\ntwo\n", b"done\ndone\nstatus 0\n", 0)
+    other = trying.Case("another", [], b"one\n", b"no\nstatus 0\n", 0)
+    with tempfile.TemporaryDirectory() as room, mock.patch.object(talks, "MOST_SECONDS", 1):
+        for name, text in (("line", LINE_ANSWERER), ("end", END_ANSWERER)):
+            path = os.path.join(room, name)
+            with open(path, "w", encoding="utf-8") as program:
+                program.write(text)
+            os.chmod(path, 0o755)
+            yield (talks.trouble_of(path, case) is None) == (name == "line")
+            yield talks.trouble_of(path, other) is not None
 
 
 def tells_bounds():
@@ -401,6 +446,9 @@ def tells_refused_memory():
                 (6, b"", False), (0, b"", True), (0, b"other\n", False)):
         yield not is_right(plain, [*right[:9], odd, *right[9:]])
     yield not is_right(plain, [(6, b"no memory\n", False)] * least * 2)
+    session, answered = ["serve", "3"], [(6, b"rep" + refused_memory.SAID, True)]
+    yield is_right(session, [*right[:9], *answered, *right[9:]]) and not is_right(plain, [*right[:9], *answered, *right[9:]])
+    yield not is_right(session, [*right[:9], (6, b"rap" + refused_memory.SAID, True), *right[9:]])
     yield not is_right(plain, [alone, alone])
 
 
@@ -433,7 +481,7 @@ def tells_unfair_runs():
 
 JUDGES = [
     tells_failures, tells_answers, tells_sums, tells_parts, tells_tables, tells_stops, tells_edits, tells_faults,
-    tells_missing_answers, tells_statuses, tells_reports, tells_bounds, tells_other_words,
+    tells_missing_answers, tells_statuses, tells_reports, tells_sessions, tells_bounds, tells_other_words,
     tells_own_traces, tells_pages, tells_clauses, tells_figures, tells_uncited_lemmas, tells_idle_imports, tells_made_up,
     tells_stored_inputs, tells_rules, tells_breaks, tells_refused_memory, tells_finishers, tells_costs,
     tells_silent_definitions, tells_hangs, tells_unfair_runs]

@@ -55,7 +55,7 @@ MOST_WORDS = {
 }
 COUNTED_BARE = {"README.md"}
 # The most words of all pages together, as `wc -w README.md docs/*.md` counts them.
-MOST_IN_SUM = 42_000
+MOST_IN_SUM = 42_500
 
 
 def files():

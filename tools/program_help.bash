@@ -22,6 +22,8 @@ A trace, as examples/put-and-get.trace, is read by
     tell       reports what a legal list comes to
     show N     what holds after its first N events
     attest     judges it with lines of what clients saw: `got J`, `R told J = REPLY`
+Lines are read one by one, and answered, by
+    serve N    N replicas that run live (N from 1 to 7): `put a 5`, `client 1`, `stop 0`, `pause 1 300`
 Nothing is read by
     bulk N     runs a stated job of N commands, and sums up
 

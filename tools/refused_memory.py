@@ -5,7 +5,8 @@
 
 Want of memory is the one answer that the proofs leave free, so nothing may hide behind it. A run of each
 command over a short input is repeated with its first allocation refused, then with its second, up to one
-beyond its last. Each has to end with status 6 and `no memory`, and the last as it does by itself. The first
+beyond its last. Each has to end with status 6 and `no memory`, a session after the answers to its first lines, and
+the last as it does by itself. The first
 allocations are those of the words of the command line: without them nothing is printed. Commands with
 threads may answer as usual if the memory of a thread was refused: then they go on without it.
 
@@ -31,12 +32,15 @@ COMMANDS = [
     ("mu", ["why"], "late-exchange.trace"), ("mu", ["why"], "grant-before-drain.trace"),
     ("mu", ["tell"], "late-exchange.trace"), ("mu", ["attest"], "attested.list"), ("mu", ["show", "20"], "late-exchange.trace"), ("mu", ["bulk", "3"], None),
     ("mu", ["live", "2"], "put-and-get.job"), ("mu", ["desk"], "put-and-get.job"), ("mu", ["book"], "order-book.job"),
+    ("mu", ["serve", "3"], "leader-stops.lines"),
     ("mu_draw", [], "late-exchange.trace"), ("mu_draw", [], "grant-before-drain.trace"),
     ("mu_draw", ["brief"], "late-exchange.trace"),
 ]
 # No command makes fewer allocations, but for one that runs nothing: with none refused nothing would be tested.
 LEAST_REFUSED, LEAST_OF_FEW = 50, 8
 MAKES_FEW = ["enough"]
+# The command that answers lines before all memory is had.
+SESSION = "serve"
 
 
 def runs_of(trials, words, given):
@@ -50,13 +54,19 @@ def runs_of(trials, words, given):
         yield status, text, refused
 
 
+def is_said(words, due, text):
+    """Whether a text says that there was no memory: nothing but that, but for the first answers of a session."""
+    first = text[:-len(SAID)]
+    return text.endswith(SAID) and (first == b"" or (words[0] == SESSION and due.may_begin(first)))
+
+
 def is_right(words, due, run, is_silent):
     """Whether a run is right, if `due` is the answer without a refusal. `is_silent` tells whether the words of
     the command line weren't there so far."""
     status, text, refused = run
     if status != NO_MEMORY:
         return due.permits(status, text) and (not refused or words[:1] in run_hostile.THREADED)
-    return refused and (text == SAID or (text == b"" and is_silent))
+    return refused and (is_said(words, due, text) or (text == b"" and is_silent))
 
 
 def trouble(words, given, runs):

@@ -14,10 +14,10 @@ name is idle if a source imports it and doesn't have each of its words or signs 
 
 Want of memory may come in place of any answer, and no contract can say that it comes only if an allocation
 failed, since the error of an allocator is a value that anybody can write. So nobody may: outside of contracts
-`AllocError`, `AllocFailed` and `NoMemory` stand only as types and in patterns, and a variant `X::NoMemory` is
-made only by a function that is given such an error (`fn from(_failed: AllocError)`), or in the arm of a match
-on want of memory (`Err(NoMemory) => Said::NoMemory`), or in the functions of MADE_UP. What is made elsewhere
-is made up. Tests say what they expect, so the crates `worked_` aren't looked at.
+`AllocError`, `AllocFailed` and `NoMemory` stand only as types, in patterns, and in the arm of a match on want of
+memory (`Err(NoMemory) => Said::NoMemory`, `Err(Refusal::NoMemory) => Err(NoMemory)`), and a variant
+`X::NoMemory` is also made by a function that is given such an error (`fn from(_failed: AllocError)`), or by the
+functions of MADE_UP. What is made elsewhere is made up. Tests say what they expect, so the crates `worked_` aren't looked at.
 
 The status is 1 if something is unused, hidden, uncited, idle or made up, but for what LEFT names; it is 1 too if LEFT
 names what isn't there any more.
@@ -42,12 +42,8 @@ NAMES = re.compile(r"\b(\w+)::(\{[^}]*\}|\w+)")
 # Functions that say want of memory for another reason: no memory has as many bytes as were asked for; the
 # system says that the words of the command line can't be had, but not as an allocator does.
 MADE_UP = {("mu_io", "read_all"), ("mu_drawing", "unread"), ("mu_top", "end_without_words")}
-# What is left as it is until its crate is proved anew for another reason, or until the draft of sessions uses it
-# (drafts/sessions.md).
-LEFT = {
-    "crates/mu_input/proofs/ManyWords.antt",
-    "crates/mu_input/proofs/ManyWords.antt: operation-take is cited nowhere",
-}
+# What is left as it is until its crate is proved anew for another reason.
+LEFT = set()
 # What is no code: comments, texts, ghost items, and imports; and where a clause begins.
 NO_CODE = re.compile(r'//[^\n]*|b?"(?:[^"\\]|\\.)*"|\bghost use [^;]*;|\b(?:pub )?use [^;]*;')
 CLAUSE = re.compile(r"\b(?:(?:requires|ensures)\*?(?: \w+)? \{|ghost [\w ]+(?: =|:) \{)")
@@ -186,7 +182,7 @@ def made_up_in(text):
             # Without the import it would be a variable, which takes any error.
             if found[1] or found[2] in known:
                 continue
-        elif found[1] and (GIVEN.search(header[-1][0]) or IN_ARM.search(before)):
+        elif IN_ARM.search(before) or (found[1] and GIVEN.search(header[-1][0])):
             continue
         yield re.match(r"(?:fn (\w+))?", header[-1][0])[1] or header[-1][0].strip()
 

@@ -9,6 +9,7 @@ pub mod Prints
 pub mod Promises
 pub mod Reasons
 pub mod Report
+pub mod Responses
 pub mod Said
 pub mod Sentences
 pub mod Statuses

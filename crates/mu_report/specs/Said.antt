@@ -23,7 +23,8 @@ abbrev pub lines_of : Said → List (List ℕ)
 lines_of Usage =
     (codes
     "usage: mu replay, mu eager, mu run, mu check, mu why, mu tell, mu show N, mu attest, "
-    ++ codes "mu trace, mu eager trace, mu enough, mu bulk N, mu live K, mu desk, mu book")
+    ++ codes "mu trace, mu eager trace, mu enough, mu bulk N, mu live K, mu desk, mu book, "
+    ++ codes "mu serve N")
     ∷ []
 lines_of (Refused line cause) = refusal_words line cause ∷ []
 lines_of (Ran o) = report_lines o

@@ -15,6 +15,7 @@ mod printer;
 mod promises;
 mod reasons;
 mod report;
+mod responses;
 mod said;
 mod sentence;
 mod statuses;
@@ -24,6 +25,7 @@ mod words;
 
 pub use reasons::fault_line;
 pub use report::status;
+pub use responses::{Response, print_responses};
 pub use said::{Said, print, print_counted};
 pub use statuses::status_for;
 pub use trace::write_trace;

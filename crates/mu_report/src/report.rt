@@ -192,7 +192,7 @@ fn entry_line(position: usize, command: &Command) -> Line
 }
 
 /// A command, and the reply to it.
-fn answer_line(command: &Command, reply: &Reply) -> Line
+pub fn answer_line(command: &Command, reply: &Reply) -> Line
     ensures bytes { result ≡ answer_line_of command.now reply.now }
     ensures room { length result < LINE_BYTES }
 {

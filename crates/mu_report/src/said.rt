@@ -32,7 +32,7 @@ use snap_reads::Lived;
 /// How the program is called.
 const USAGE: &[u8] =
     b"usage: mu replay, mu eager, mu run, mu check, mu why, mu tell, mu show N, mu attest, \
-    mu trace, mu eager trace, mu enough, mu bulk N, mu live K, mu desk, mu book";
+    mu trace, mu eager trace, mu enough, mu bulk N, mu live K, mu desk, mu book, mu serve N";
 
 /// What the program says at its end.
 pub enum Said {

@@ -13,4 +13,4 @@ mod straying;
 pub use account::account_of;
 pub use replies::replies_over;
 pub use showing::moment_of;
-pub use straying::strays_of;
+pub use straying::{steps_of, strays_of};

@@ -35,7 +35,7 @@ fn count_with(count: usize, event: &Event, replica: u8) -> usize
 }
 
 /// How many steps a replica made.
-fn steps_of(replica: u8, events: &[Event]) -> usize
+pub fn steps_of(replica: u8, events: &[Event]) -> usize
     ensures { result ≡ length (part replica (history events.now)) }
 {
     let mut count = 0;

@@ -8,6 +8,7 @@ use Rattle.mu_outcome.specs.declared.status.Status.{Status}
 use Rattle.mu_report.specs.declared.said.Said.{Said}
 use Rattle.mu_report.specs.Said.{text}
 use Rattle.mu_report.specs.Statuses.{status_for}
+use Rattle.mu_serve.specs.Serving.{IsServed}
 use Rattle.mu_shell.specs.Written.{Wrote}
 use Rattle.mu_top.specs.Commands.{Books, Lives, Replays, ReplaysEagerly, Runs, Sums, Traces, TracesEagerly}
 use Rattle.mu_top.specs.Desks.{Desks}
@@ -72,6 +73,14 @@ pub record Ends (asked : Option Asked) (left left_now : Option (List ℕ)) (read
   pub taken : ℕ
   pub tells : Tells asked left left_now read read_now said
   pub writes : Wrote written written_now wrote wrote_now (text said) (status_for said) status taken
+
+-- the lines of a session are answered, if the words ask for one; else what they ask for
+abbrev pub EndsAs : Option ℕ → Option Asked → Option (List ℕ) → Option (List ℕ) → ℕ → ℕ
+    → Option (List ℕ) → Option (List ℕ) → ℕ → ℕ → ℕ → Type 0
+EndsAs None asked left left_now read read_now written written_now wrote wrote_now status =
+    Ends asked left left_now read read_now written written_now wrote wrote_now status
+EndsAs (Some replicas) asked left left_now read read_now written written_now wrote wrote_now status =
+    IsServed replicas left left_now read read_now written written_now wrote wrote_now status
 
 -- the usage is written, and the program ends with this status
 pub record WritesUsage (written now : Option (List ℕ)) (before after status : ℕ) : Type 0 where

@@ -1,10 +1,10 @@
--- asked: what the words of the command line ask for.
+-- asked, session: what the words of the command line ask for.
 use Rattle.std.specs.Prelude.{ℕ, ◌≤◌, ◌&&◌, List, [], ◌∷◌, codes, string_bytes, None, Some, if◌then◌else◌, ⊤}
 use Rattle.std.specs.declared.option.Option.{Option}
 use Rattle.std.specs.declared.string.String.{String}
 use Rattle.std.specs.declared.alloc.Global.{Global}
 use Rattle.std.specs.Str.{bytes_eq}
-use Rattle.mu_input.specs.declared.TheConstants.{MOST_COMMANDS, TRACE_LIMIT}
+use Rattle.mu_input.specs.declared.TheConstants.{MOST_COMMANDS, MOST_REPLICAS, TRACE_LIMIT}
 use Rattle.snap_reads.specs.declared.TheConstants.{MOST_READERS}
 use Rattle.mu_text.specs.Numbers.{number_of, within}
 use Rattle.mu_top.specs.declared.asking.Task.{Task}
@@ -64,6 +64,23 @@ asked_of [] = None
 asked_of (word ∷ []) = with_input (task_named (string_bytes word))
 asked_of (word ∷ other ∷ []) = asked_of_two (string_bytes word) (string_bytes other)
 asked_of (word ∷ other ∷ more ∷ words) = None
+
+-- the number of replicas, if two words ask for a session: `serve` with a number from 1 to the most
+-- replicas
+abbrev pub session_of_two : List ℕ → List ℕ → Option ℕ
+session_of_two word other =
+    if bytes_eq word (codes "serve") then within 1 MOST_REPLICAS (number_of other) else None
+
+-- the number of replicas, if the words ask for a session
+abbrev pub session_of : List (String Global) → Option ℕ
+session_of [] = None
+session_of (word ∷ []) = None
+session_of (word ∷ other ∷ []) = session_of_two (string_bytes word) (string_bytes other)
+session_of (word ∷ other ∷ more ∷ words) = None
+
+-- as many replicas as a session may have
+abbrev pub HasReplicas : ℕ → Type 0
+HasReplicas replicas = (1 ≤ replicas) × (replicas ≤ MOST_REPLICAS)
 
 -- no more readers than there may be, and one at least
 abbrev pub HasReaders : Task → Type 0

@@ -2,9 +2,9 @@
 ghost use Rattle.std.specs.Prelude.{◌≡◌, IfSome, None, Some};
 ghost use Rattle.mu_input.specs.declared.TheConstants.{TRACE_LIMIT};
 ghost use Rattle.snap_reads.specs.declared.TheConstants.{MOST_READERS};
-ghost use Rattle.mu_top.specs.Words.{task_named, asked_of as asked_of_words, asked_of_two, limit_of, IsInReach};
+ghost use Rattle.mu_top.specs.Words.{task_named, asked_of as asked_of_words, asked_of_two, limit_of, session_of, session_of_two, HasReplicas, IsInReach};
 
-use mu_input::{MOST_COMMANDS, TRACE_LIMIT};
+use mu_input::{MOST_COMMANDS, MOST_REPLICAS, TRACE_LIMIT};
 use mu_text::limited;
 use snap_reads::MOST_READERS;
 
@@ -86,6 +86,32 @@ impl Task {
             Task::Book => INPUT_LIMIT,
             Task::Live(_) => INPUT_LIMIT,
         }
+    }
+}
+
+/// The number of replicas, if the words ask for a session: `serve` and a number from 1 to 7.
+pub fn session_asked(words: &[String]) -> Option<u8>
+    ensures exact { result ≡ session_of words.now }
+    ensures reach { IfSome result HasReplicas }
+{
+    match words {
+        [word, other] => replicas_asked(word.as_bytes(), other.as_bytes()),
+        _ => None,
+    }
+}
+
+/// The number of replicas, if the first word is `serve` and the second spells one from 1 to 7.
+fn replicas_asked(word: &[u8], other: &[u8]) -> Option<u8>
+    ensures exact { result ≡ session_of_two word.now other.now }
+    ensures reach { IfSome result HasReplicas }
+{
+    if word == b"serve".as_slice() {
+        match limited(other, 1, u32::from(MOST_REPLICAS)) {
+            Some(replicas) => Some(replicas as u8),
+            None => None,
+        }
+    } else {
+        None
     }
 }
 

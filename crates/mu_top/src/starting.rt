@@ -4,14 +4,16 @@ ghost use Rattle.std.specs.declared.io.ErrorKind.TheVariants.{InvalidData};
 ghost use Rattle.std.specs.Process.{exit_status};
 ghost use Rattle.mu_outcome.specs.declared.status.Status.{Status as SomeStatus};
 ghost use Rattle.mu_outcome.specs.Statuses.{code_of};
-ghost use Rattle.mu_top.specs.Answers.{Ends, WritesUsage};
-ghost use Rattle.mu_top.specs.Words.{asked_of as asked_of_words};
+ghost use Rattle.mu_top.specs.Answers.{Ends, EndsAs, WritesUsage};
+ghost use Rattle.mu_top.specs.Words.{asked_of as asked_of_words, session_of};
 
+use crate::asking::session_asked;
 use crate::top::{answer, mu};
 use mu_cluster::Gate;
 use mu_io::{Sink, Source};
 use mu_outcome::Status;
 use mu_report::Said;
+use mu_serve::serve;
 use std::alloc::Global;
 use std::io::ErrorKind;
 use std::process::ExitCode;
@@ -19,7 +21,8 @@ use std::sync::Wait;
 use std::thread::Threads;
 use std::time::Clock;
 
-/// Does what the words ask for, as [`mu`] does, and ends with its status. If one of them is no text
+/// Answers the lines of a session if the words are `serve` and a number of replicas, else does what
+/// they ask for, as [`mu`] does, and ends with the status. If one of them is no text
 /// (`InvalidData`), the usage is told, since no command has such a word. If there was no memory for
 /// them, nothing is read or written, and the status is 6.
 pub fn mu_from_words<R: Threads + Wait + Clock + Sync, S: Source, K: Sink, G: Gate + Sync>(
@@ -30,7 +33,8 @@ pub fn mu_from_words<R: Threads + Wait + Clock + Sync, S: Source, K: Sink, G: Ga
     sink: &mut K,
     gate: &G,
 ) -> ExitCode
-    ensures answers { IfOk words (λ words. Ends (asked_of_words words.items)
+    ensures answers { IfOk words (λ words. EndsAs (session_of words.items)
+        (asked_of_words words.items)
         (S.left source.old) (S.left source.new) (S.faults source.old) (S.faults source.new)
         (K.written sink.old) (K.written sink.new) (K.faults sink.old) (K.faults sink.new)
         (exit_status result)) }
@@ -44,8 +48,28 @@ pub fn mu_from_words<R: Threads + Wait + Clock + Sync, S: Source, K: Sink, G: Ga
     ensures silent { IfErr words (λ kind. kind ≢ InvalidData → sink.new ≡ sink.old) }
 {
     match words {
-        Ok(words) => mu(rt, alloc, words.as_slice(), source, sink, gate).into_exit_code(),
+        Ok(words) => end_of_words(rt, alloc, words.as_slice(), source, sink, gate),
         Err(kind) => end_without_words(kind, sink),
+    }
+}
+
+/// Does what the words ask for, and ends the program.
+fn end_of_words<R: Threads + Wait + Clock + Sync, S: Source, K: Sink, G: Gate + Sync>(
+    rt: &R,
+    alloc: Global,
+    words: &[String],
+    source: &mut S,
+    sink: &mut K,
+    gate: &G,
+) -> ExitCode
+    ensures { EndsAs (session_of words.now) (asked_of_words words.now)
+        (S.left source.old) (S.left source.new) (S.faults source.old) (S.faults source.new)
+        (K.written sink.old) (K.written sink.new) (K.faults sink.old) (K.faults sink.new)
+        (exit_status result) }
+{
+    match session_asked(words) {
+        Some(replicas) => ExitCode::from(serve(alloc, replicas, source, sink)),
+        None => mu(rt, alloc, words, source, sink, gate).into_exit_code(),
     }
 }
 

@@ -28,7 +28,7 @@ status 0
 
 /// What is said if the words ask for nothing.
 const USAGE: &str = "usage: mu replay, mu eager, mu run, mu check, mu why, mu tell, mu show N, \
-        mu attest, mu trace, mu eager trace, mu enough, mu bulk N, mu live K, mu desk, mu book\n";
+        mu attest, mu trace, mu eager trace, mu enough, mu bulk N, mu live K, mu desk, mu book, mu serve N\n";
 
 /// The job of the lists of events below.
 const ONE_PUT: &str = "mu 1\nreplicas 3\nring 8\nbudget 100\nclient 0\nput a 5\nend\n";

@@ -21,7 +21,7 @@ const JOB: &str = "mu 1\nreplicas 1\nring 8\nbudget 9\nend\n";
 
 /// What is said if nothing is asked.
 const USAGE: &str = "usage: mu replay, mu eager, mu run, mu check, mu why, mu tell, mu show N, \
-    mu attest, mu trace, mu eager trace, mu enough, mu bulk N, mu live K, mu desk, mu book\n";
+    mu attest, mu trace, mu eager trace, mu enough, mu bulk N, mu live K, mu desk, mu book, mu serve N\n";
 
 /// What the ask comes to.
 const TOLD: &str = "report 1\nlog 0 entries 0 commits 0 finished\nreplies 0\nstatus 0\n";

@@ -45,7 +45,7 @@ status 0
 
 /// What is said if the words ask for nothing.
 const USAGE: &str = "usage: mu replay, mu eager, mu run, mu check, mu why, mu tell, mu show N, \
-        mu attest, mu trace, mu eager trace, mu enough, mu bulk N, mu live K, mu desk, mu book\n";
+        mu attest, mu trace, mu eager trace, mu enough, mu bulk N, mu live K, mu desk, mu book, mu serve N\n";
 
 /// The words of a call, its status, and what is said.
 const LIVES: [(&[&str], u8, &str); 4] = [

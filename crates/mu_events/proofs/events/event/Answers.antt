@@ -3,4 +3,4 @@ use Rattle.mu_text.specs.Lines.{words}
 use Rattle.mu_events.proofs.events.event.Goals as goal
 
 pub returns : goal.returns
-returns c = event-is c.args.replicas (words c.args.line.now) _ _ _ (c.in_ok-verb.verb, c.in_ok-verb.answer) (rw c.in_ok-rest.was at c.split_first.ensures) c.in_ok-by.ensures c.in_ok-verb.ensures
+returns c = event-is c.args.replicas (words c.args.line.now) _ _ _ (c.in_ok-verb.verb, c.in_ok-verb.answer) (rw c.in_ok-rest.was at c.split_first.ensures) c.in_ok-by.ensures.is c.in_ok-verb.ensures

@@ -1,0 +1,6 @@
+mod FirstWords
+mod Going
+mod LinesSoFar
+mod Served
+mod Stops
+mod Talking

@@ -1,0 +1,7 @@
+pub mod Closing
+pub mod Incoming
+pub mod NextLines
+pub mod Serving
+pub mod SessionLines
+pub mod Sessions
+pub mod UnderWay
