@@ -1,5 +1,5 @@
 //! The trace of a live engine in memory.
-ghost use Rattle.std.specs.Prelude.{◌×◌, ◌≡◌, ◌⊎◌};
+ghost use Rattle.std.specs.Prelude.{◌≡◌, ◌⊎◌};
 ghost use Rattle.mu_input.specs.JobLines.{lines_of_trace};
 ghost use Rattle.mu_library.specs.Calls.{PutsSaid};
 ghost use Rattle.mu_library.specs.Engines.{Traces, stand_by_client};
