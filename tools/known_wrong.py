@@ -88,11 +88,11 @@ GHOST_USES = ("ghost use A.B.{first, is_last, last as final, rest as others};\ng
 # A source that says want of memory as an allocator does, and what would make it up.
 SAYS_NO_MEMORY = ("use mu_model::NoMemory;\nimpl From<AllocError> for End {\n    fn from(_failed: AllocError) -> End {\n"
                   "        End::NoMemory\n    }\n}\n/// Err(AllocError)\nfn told() -> Said\n    ensures { result ≡ NoMemory }\n{\n"
-                  "    match made() {\n        Ok(made) => Said::Made(made),\n        Err(NoMemory) => Said::NoMemory,\n    }\n}\nfn taken() -> Result<u8, NoMemory> {\n    match given() {\n"
-                  "        Err(Refusal::NoMemory) => Err(NoMemory),\n        taken => taken.row(),\n    }\n}\n")
-MADE_UP = [("Err(NoMemory)", "Err(_)"), ("Err(Refusal::NoMemory)", "Err(Refusal::Full)"), ("taken.row()", "Err(NoMemory)"),
-           ("use mu_model::NoMemory;\n", ""), ("_failed: AllocError", "_failed: Failed"),
-           ("Said::Made(made)", "Said::NoMemory"), ("match made()", "match Err(AllocError)"),
+                  "    match made() {\n        Ok(made) => Said::Made(made),\n        Err(NoMemory) => Said::NoMemory,\n    }\n}\n"
+                  "fn taken() -> Result<u16, NoMemory>\n{\n    match submitted() {\n        Ok(row) => Ok(row),\n"
+                  "        Err(Refusal::Full) => Ok(0),\n        Err(Refusal::NoMemory) => Err(NoMemory),\n    }\n}\n")
+MADE_UP = [("Err(NoMemory)", "Err(_)"), ("use mu_model::NoMemory;\n", ""), ("_failed: AllocError", "_failed: Failed"),
+           ("Said::Made(made)", "Said::NoMemory"), ("match made()", "match Err(AllocError)"), ("Ok(0)", "Err(NoMemory)"),
            ("use mu_model", "use std::alloc::AllocError as Refused;\nuse mu_model")]
 # A page, what stands in it, and what would be stale.
 WRONG_FIGURES = [

@@ -9,7 +9,10 @@ ghost use Rattle.mu_library.specs.Calls.{asked_after, asked_at, Answers, CanTake
 ghost use Rattle.mu_library.specs.Engines.{Asks, HoldsBy, IsUntold, OfHandle, OpensEngine, PlaysRound, Replies, Submits, Traces};
 
 use mu_handle::Handle;
-use mu_library::{answer, draw, let_go, open_engine, open_judge, pause_replica, play_round, reply_told, show, stop_replica, submit_line, take_line, told_by, trace_told};
+use mu_library::{
+    answer, draw, let_go, open_engine, open_judge, pause_replica, play_round, reply_told, show,
+    stop_replica, submit_line, take_line, told_by, trace_told,
+};
 use std::alloc::Global;
 
 /// What the program says of an input, and the status that it ends with. The first bytes of the text

@@ -79,7 +79,11 @@ fn shape_of(replicas: u32, ring: u32, budget: u32, room: u32) -> Option<Shape>
         budget,
         room: room as u16,
     };
-    if shape.is_allowed() { Some(shape) } else { None }
+    if shape.is_allowed() {
+        Some(shape)
+    } else {
+        None
+    }
 }
 
 /// Starts an engine of this shape.

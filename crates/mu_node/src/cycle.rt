@@ -99,7 +99,8 @@ impl Node {
         }
     }
 
-    /// What is due at the place.
+    /// What is due at the place. Inlined, since half of all turns ask for it.
+    #[inline(always)]
     fn due_at(&self, place: u8) -> Option<Verb>
         requires config { IsConfig self.now.follow.config }
         ensures due { (c : Config) → (r : ℕ) → (mine : List SomeEvent) → IsPossible c r mine

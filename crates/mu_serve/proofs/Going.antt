@@ -1,13 +1,15 @@
 -- A session goes on, line by line.
-use Rattle.std.proofs.Common.{◌≡◌, ◌⊎◌, ℕ, zero, suc, ◌+◌, ◌<◌, ◌≤◌, ◌==◌, Bool, true, false, List, [], ◌∷◌, ◌++◌, length, inl, inr, refl, sym, ap, subst, ◌∙◌, append_assoc, append-nil, arith, length-append}
+use Rattle.std.proofs.Common.{◌≡◌, ◌⊎◌, ℕ, ◌+◌, ◌<◌, ◌≤◌, ◌^◌, ◌==◌, Bool, true, false, List, [], ◌∷◌, ◌++◌, length, None, Some, inl, inr, refl, sym, ap, subst, ◌∙◌, append_assoc, arith, length-append}
 use Rattle.std.proofs.lemmas.Bool.{true≢false}
 use Rattle.std.proofs.lemmas.List.{flat_map_more}
 use Rattle.std.proofs.KnownBytes.{Appends-nil, Appends-trans, Consumes-nil, Consumes-trans}
 use Rattle.std.specs.declared.option.Option.{Option}
-use Rattle.std.specs.Io.KnownBytes.{Appends, Consumes, IsAtEnd}
-use Rattle.std.specs.List.{flat_map, slice_get}
+use Rattle.std.specs.Io.KnownBytes.{Appends}
+use Rattle.std.specs.List.{slice_get}
 use Rattle.kv_store.specs.declared.command.Op.{Op}
+use Rattle.kv_store.specs.declared.store.Reply.{Reply}
 use Rattle.mu_input.specs.Readings.{Line, Says, Wrong}
+use Rattle.mu_input.specs.declared.cause.TheConstants.{SCRIPT, TOO_MANY}
 use Rattle.mu_report.specs.Responses.{responses_text}
 use Rattle.mu_report.specs.declared.responses.Response.{Response}
 use Rattle.mu_text.specs.Lines.{lines}
@@ -16,41 +18,125 @@ use Rattle.mu_serve.specs.Incoming.{FindsNone, MayFollow}
 use Rattle.mu_serve.specs.NextLines.{AnswersNext, Moment}
 use Rattle.mu_serve.specs.UnderWay.{UnderWay}
 use Rattle.mu_serve.specs.SessionLines.{said_of}
-use Rattle.mu_serve.specs.Sessions.{Answers, AnswersAll, AnswersSaid, PausesGoing, Refuses, ServesIfRoom, StopsOnce, Talk, first_talk, is_stopped}
+use Rattle.mu_serve.specs.Sessions.{Answers, AnswersAll, AnswersSaid, PausesGoing, Refuses, Serves, ServesIfRoom, StopsOnce, Talk, is_stopped, next_waiting, own_response, own_waiting, still_of, told_of, with_submitted}
+use Rattle.mu_serve.specs.declared.incoming.Incoming.{Incoming}
 use Rattle.mu_serve.specs.declared.TheConstants.{SESSION_LIMIT}
 use Rattle.mu_serve.specs.declared.session_lines.SessionLine.{SessionLine}
 use Rattle.mu_serve.specs.declared.session_lines.SessionLine.TheVariants.{Client, Operation, Stop, Pause}
+use Rattle.mu_serve.specs.declared.waiting.Waiting.{Waiting}
 
--- each answer counts its line
-count_refused : (cause : ℕ) (before after : Talk) (responses : List Response)
-    → Refuses cause before responses after → after.count ≡ before.count + 1
-count_refused cause before after responses refuses = ap (λ t. t.count) refuses.1
+-- an answer counts its line; of the commands that wait it adds one at most, and it tells of each of
+-- them and of its own at most
+record Counts (before after : Talk) (responses : List Response) : Type 0 where
+  pub counted : after.count ≡ before.count + 1
+  pub few : length after.waiting ≤ length before.waiting + 1
+  pub told : length responses ≤ length before.waiting + 1
 
-count_stopped : (b : Bool) (r : ℕ) (before after : Talk) (responses : List Response)
-    → StopsOnce b r before responses after → after.count ≡ before.count + 1
-count_stopped true r before after responses refuses = ap (λ t. t.count) refuses.1
-count_stopped false r before after responses stops = ap (λ t. t.count) stops.1
+-- one response, and nothing waits but what waited
+counts_one : (before after : Talk) (responses : List Response) (one : Response)
+    → responses ≡ one ∷ [] → after.waiting ≡ before.waiting → after.count ≡ before.count + 1
+    → Counts before after responses
+counts_one before after responses one tells same counted =
+    let told = ap length tells in let kept = ap length same in
+    record { counted = counted; few = omega (arith, kept); told = omega (arith, told) }
 
-count_paused : (b : Bool) (r rounds : ℕ) (before after : Talk) (responses : List Response)
-    → PausesGoing b r rounds before responses after → after.count ≡ before.count + 1
-count_paused true r rounds before after responses refuses = ap (λ t. t.count) refuses.1
-count_paused false r rounds before after responses pauses = ap (λ t. t.count) pauses.1
+counts_refused : (cause : ℕ) (before after : Talk) (responses : List Response)
+    → Refuses cause before responses after → Counts before after responses
+counts_refused cause before after responses refuses =
+    counts_one before after responses _ refuses.0 (ap (λ t. t.waiting) refuses.1)
+    (ap (λ t. t.count) refuses.1)
 
-count_served : (b : Bool) (op : Op) (before after : Talk) (responses : List Response)
-    → ServesIfRoom b op before responses after → after.count ≡ before.count + 1
-count_served true op before after responses refuses = ap (λ t. t.count) refuses.1
-count_served false op before after responses serves = serves.count
+counts_stopped : (b : Bool) (r : ℕ) (before after : Talk) (responses : List Response)
+    → StopsOnce b r before responses after → Counts before after responses
+counts_stopped true r before after responses refuses =
+    counts_refused SCRIPT before after responses refuses
+counts_stopped false r before after responses stops =
+    counts_one before after responses _ stops.0 (ap (λ t. t.waiting) stops.1)
+    (ap (λ t. t.count) stops.1)
 
-count_said : (said : Line SessionLine) (before after : Talk) (responses : List Response)
-    → AnswersSaid said before responses after → after.count ≡ before.count + 1
-count_said (Wrong cause) before after responses refuses = ap (λ t. t.count) refuses.1
-count_said (Says (Client client)) before after responses turns = ap (λ t. t.count) turns.1
-count_said (Says (Operation op)) before after responses serves =
-    count_served (before.live.room == 0) op before after responses serves
-count_said (Says (Stop r)) before after responses stops =
-    count_stopped (is_stopped (slice_get before.live.holds r)) r before after responses stops
-count_said (Says (Pause r rounds)) before after responses pauses =
-    count_paused (is_stopped (slice_get before.live.holds r)) r rounds before after responses pauses
+counts_paused : (b : Bool) (r rounds : ℕ) (before after : Talk) (responses : List Response)
+    → PausesGoing b r rounds before responses after → Counts before after responses
+counts_paused true r rounds before after responses refuses =
+    counts_refused SCRIPT before after responses refuses
+counts_paused false r rounds before after responses pauses =
+    counts_one before after responses _ pauses.0 (ap (λ t. t.waiting) pauses.1)
+    (ap (λ t. t.count) pauses.1)
+
+-- no more are told, and no more still wait, than waited
+told_few : (waiting : List Waiting) (known : List (Option Reply))
+    → length (told_of waiting known) ≤ length waiting
+told_few [] known = omega arith
+told_few (w ∷ ws) [] = omega arith
+told_few (w ∷ ws) (None ∷ known) = omega (arith, told_few ws known)
+told_few (w ∷ ws) (Some reply ∷ known) = omega (arith, told_few ws known)
+
+still_few : (waiting : List Waiting) (known : List (Option Reply))
+    → length (still_of waiting known) ≤ length waiting
+still_few [] known = omega arith
+still_few (w ∷ ws) [] = omega arith
+still_few (w ∷ ws) (None ∷ known) = omega (arith, still_few ws known)
+still_few (w ∷ ws) (Some reply ∷ known) = omega (arith, still_few ws known)
+
+own_few : (own : Waiting) (reply : Option Reply) → length (own_waiting own reply) ≤ 1
+own_few own None = omega arith
+own_few own (Some reply) = omega arith
+
+counts_served : (before after : Talk) (own : Waiting) (responses : List Response)
+    → Serves before own responses after → Counts before after responses
+counts_served before after own responses serves =
+    let told = ap length serves.tells in let still = ap length serves.still in
+    let rest = still_of before.waiting serves.known in
+    record {
+      counted = serves.count;
+      few = omega (
+        arith,
+        still,
+        length-append rest (own_waiting own serves.reply),
+        still_few before.waiting serves.known,
+        own_few own serves.reply,
+      );
+      told = omega (
+        arith,
+        told,
+        length-append (told_of before.waiting serves.known) (own_response own serves.reply ∷ []),
+        told_few before.waiting serves.known,
+      );
+    }
+
+counts_asked : (b : Bool) (op : Op) (before after : Talk) (responses : List Response)
+    → ServesIfRoom b op before responses after → Counts before after responses
+counts_asked true op before after responses refuses =
+    counts_refused TOO_MANY before after responses refuses
+counts_asked false op before after responses serves =
+    let counts =
+    counts_served (with_submitted before op) after (next_waiting before op) responses serves in
+    record { counted = counts.counted; few = counts.few; told = counts.told }
+
+counts_said : (said : Line SessionLine) (before after : Talk) (responses : List Response)
+    → AnswersSaid said before responses after → Counts before after responses
+counts_said (Wrong cause) before after responses refuses =
+    counts_refused cause before after responses refuses
+counts_said (Says (Client client)) before after responses turns =
+    counts_one before after responses _ turns.0 (ap (λ t. t.waiting) turns.1)
+    (ap (λ t. t.count) turns.1)
+counts_said (Says (Operation op)) before after responses serves =
+    counts_asked (before.live.room == 0) op before after responses serves
+counts_said (Says (Stop r)) before after responses stops =
+    counts_stopped (is_stopped (slice_get before.live.holds r)) r before after responses stops
+counts_said (Says (Pause r rounds)) before after responses pauses =
+    counts_paused (is_stopped (slice_get before.live.holds r)) r rounds before after responses pauses
+
+counts : (line : List ℕ) (before after : Talk) (responses : List Response)
+    → Answers before line responses after → Counts before after responses
+counts line before after responses answers =
+    counts_said (said_of before.live.job.config.replicas line) before after responses answers
+
+-- the responses to a line can be counted
+pub few_told : (line : List ℕ) (before after : Talk) (responses : List Response)
+    → Answers before line responses after → length before.waiting ≤ before.count
+    → before.count + 1 < 2 ^ 32 → length responses < 2 ^ 32
+few_told line before after responses answers few count =
+    let told = (counts line before after responses answers).told in omega (arith, told, few, count)
 
 -- one more line answered
 pub answers_more : (first between after : Talk) (answered : List (List ℕ))
@@ -64,29 +150,34 @@ answers_more first between after (l ∷ answered) [] line responses all next = a
 answers_more first between after (l ∷ answered) (a ∷ answers) line responses all next =
     (all.0, all.1, answers_more all.0 between after answered answers line responses all.2 next)
 
-pub begins : (replicas : ℕ) (first : Moment) → first.talk ≡ first_talk replicas
+-- a session begins: nothing was read, answered or written
+pub begins : (first : Moment) → first.talk.count ≡ 0 → first.talk.waiting ≡ []
     → first.incoming.held ≡ [] → first.incoming.room ≡ SESSION_LIMIT + 1
-    → first.incoming.is_over ≡ false → UnderWay replicas first first
-begins replicas first talk held room going = record {
-  answered = [];
-  answers = [];
-  session = talk;
-  taken = [];
-  consumed = Consumes-nil first.left;
-  counted = omega (arith, room);
-  some = omega (arith, room);
-  cut = λ more _. ap (λ h. lines (h ++ more)) (sym held);
-  last = λ over. absurd (true≢false (sym over ∙ going));
-  same_read = refl;
-  written = Appends-nil first.written;
-  same_wrote = refl;
-  count = (let none = ap length held in let zero_count = ap (λ t. t.count) talk in omega (arith, none, room, zero_count));
-}
+    → first.incoming.is_over ≡ false → UnderWay first first
+begins first count waiting held room going =
+    let none = ap length held in let waits = ap length waiting in
+    record {
+      answered = [];
+      answers = [];
+      session = refl;
+      taken = [];
+      consumed = Consumes-nil first.left;
+      counted = omega (arith, room);
+      some = omega (arith, room);
+      cut = λ more _. ap (λ h. lines (h ++ more)) (sym held);
+      last = λ over. absurd (true≢false (sym over ∙ going));
+      same_read = refl;
+      written = Appends-nil first.written;
+      same_wrote = refl;
+      count = omega (arith, none, room, count);
+      few = omega (arith, waits);
+    }
 
 -- all that may follow a line that was read in full
 pub follows : (over : Bool) (more : List ℕ) → over ≡ false → MayFollow over more
 follows over more going = subst (λ b. MayFollow b more) (sym going) tt
 
+-- the lines so far and one more
 pub cut_more : (taken next held after more line : List ℕ) (answered : List (List ℕ))
     → lines (taken ++ (next ++ more)) ≡ answered ++ lines (held ++ (next ++ more))
     → lines (held ++ (next ++ more)) ≡ line ∷ lines (after ++ more)
@@ -95,17 +186,16 @@ cut_more taken next held after more line answered so cut =
     ap lines (append_assoc taken next more) ∙ so ∙ ap (λ l. answered ++ l) cut
     ∙ sym (append_assoc answered (line ∷ []) (lines (after ++ more)))
 
-pub goes_on : (replicas : ℕ) (first between now : Moment) → UnderWay replicas first between
-    → AnswersNext between now → UnderWay replicas first now
-goes_on replicas first between now so step =
+-- and goes on with each line that is answered
+pub goes_on : (first between now : Moment) → UnderWay first between → AnswersNext between now
+    → UnderWay first now
+goes_on first between now so step =
     let next = step.next in let takes = next.takes in
-    let counts =
-    count_said (said_of between.talk.live.job.config.replicas takes.line) between.talk now.talk
-    step.responses next.answers in
+    let counted = counts takes.line between.talk now.talk step.responses next.answers in
     record {
       answered = so.answered ++ takes.line ∷ [];
       answers = so.answers ++ step.responses ∷ [];
-      session = answers_more (first_talk replicas) between.talk now.talk so.answered so.answers
+      session = answers_more first.talk between.talk now.talk so.answered so.answers
           takes.line step.responses so.session next.answers;
       taken = so.taken ++ takes.taken;
       consumed = Consumes-trans first.left between.left now.left so.taken takes.taken so.consumed
@@ -126,14 +216,18 @@ goes_on replicas first between now so step =
           (flat_map_more responses_text [] so.answers step.responses)
           (Appends-trans first.written between.written now.written _ _ so.written step.written);
       same_wrote = step.same_wrote ∙ so.same_wrote;
-      count = omega (arith, so.count, counts, takes.fewer);
+      count = omega (arith, so.count, counted.counted, takes.fewer);
+      few = omega (arith, so.few, counted.counted, counted.few);
     }
 
 -- no line is left: because the last was taken, or nothing came
-pub end_found : (before after : Moment) (over : Bool) → before.incoming.is_over ≡ over
-    → (before.incoming.is_over ≡ true → after.left ≡ before.left)
-    → (before.incoming.is_over ≡ false → FindsNone before.left after.left before.incoming)
-    → ((before.incoming.is_over ≡ true) × (after.left ≡ before.left))
-    ⊎ FindsNone before.left after.left before.incoming
-end_found before after true is same none = inl (is, same is)
-end_found before after false is same none = inr (none is)
+pub end_found : (left now : Option (List ℕ)) (incoming : Incoming)
+    → (incoming.is_over ≡ true → now ≡ left)
+    → (incoming.is_over ≡ false → FindsNone left now incoming)
+    → ((incoming.is_over ≡ true) × (now ≡ left)) ⊎ FindsNone left now incoming
+end_found left now incoming same none = go incoming.is_over refl
+  where
+    go : (over : Bool) → incoming.is_over ≡ over
+        → ((incoming.is_over ≡ true) × (now ≡ left)) ⊎ FindsNone left now incoming
+    go true is = inl (is, same is)
+    go false is = inr (none is)

@@ -1,5 +1,5 @@
 -- How a session ends: at the end of its input, or because it can't go on.
-use Rattle.std.proofs.Common.{◌≡◌, ℕ, ◌+◌, ◌<◌, ◌≤◌, ◌==◌, Bool, true, false, List, [], ◌∷◌, ◌++◌, length, take, None, Some, IfSome, inl, inr, refl, sym, ap, subst, ◌∙◌, append_assoc, append-nil, arith, length-append}
+use Rattle.std.proofs.Common.{◌≡◌, ℕ, ◌+◌, ◌<◌, ◌≤◌, ◌==◌, Bool, true, false, List, [], ◌∷◌, ◌++◌, length, take, None, Some, IfSome, inl, inr, refl, sym, ap, subst, ◌∙◌, append-nil, arith, length-append}
 use Rattle.std.proofs.KnownBytes.{Appends-trans, Consumes-nil, Consumes-trans}
 use Rattle.std.proofs.Math.Seq.{take-append-add}
 use Rattle.std.proofs.lemmas.List.{flat_map_more}
@@ -15,7 +15,6 @@ use Rattle.mu_outcome.specs.declared.status.Status.{Status}
 use Rattle.mu_report.specs.Responses.{responses_text}
 use Rattle.mu_report.specs.Said.{said_of_read, text}
 use Rattle.mu_report.specs.Statuses.{status_for}
-use Rattle.mu_report.specs.declared.responses.Response.{Response}
 use Rattle.mu_report.specs.declared.said.Said.{Said}
 use Rattle.mu_shell.specs.Written.{IsCut, IsWhole, Wrote}
 use Rattle.mu_text.specs.Lines.{lines}
@@ -25,8 +24,8 @@ use Rattle.mu_serve.specs.Closing.{Closes, Reports}
 use Rattle.mu_serve.specs.Incoming.{GaveAll, IsStop, MayFollow, StopsReading}
 use Rattle.mu_serve.specs.NextLines.{FailsToWrite, FindsEnd, Halts, LeavesNext, Moment, WritesNothing}
 use Rattle.mu_serve.specs.Serving.{Ends, IsServed, ReadsAll, ReadsSome}
-use Rattle.mu_serve.specs.Sessions.{first_talk}
-use Rattle.mu_serve.specs.UnderWay.{Finishes, Tells, TellsReport, UnderWay}
+use Rattle.mu_serve.specs.Sessions.{AnswersAll, first_talk}
+use Rattle.mu_serve.specs.UnderWay.{Finishes, Tells, UnderWay}
 use Rattle.mu_serve.specs.declared.TheConstants.{SESSION_LIMIT}
 use Rattle.mu_serve.specs.declared.answering.Halt.{Halt}
 
@@ -64,11 +63,11 @@ wrote_after first mid now faults faults_mid faults_now before after wanted statu
     wanted status taken part wrote)
 
 -- the lines that were answered, if more was read than they
-some_lines : (replicas : ℕ) (first between : Moment) (now : Option (List ℕ)) (next : List ℕ)
-    → (so : UnderWay replicas first between) → between.incoming.is_over ≡ false
+some_lines : (first between : Moment) (now : Option (List ℕ)) (next : List ℕ)
+    → (so : UnderWay first between) → between.incoming.is_over ≡ false
     → Consumes between.left now next → length next ≤ between.incoming.room
     → ReadsSome first.left now so.answered
-some_lines replicas first between now next so going consumed few = (
+some_lines first between now next so going consumed few = (
   between.incoming.held ++ next,
   record {
     taken = so.taken ++ next;
@@ -79,17 +78,18 @@ some_lines replicas first between now next so going consumed few = (
 )
 
 -- the end of a session under way, once something is said
-pub closes_with : (replicas : ℕ) (first between : Moment) (left now : Option (List ℕ))
-    (read written_faults status : ℕ) (said : Said) → (so : UnderWay replicas first between)
+closes_with : (replicas : ℕ) (first between : Moment) (left now : Option (List ℕ))
+    (read written_faults status : ℕ) (said : Said) → first.talk ≡ first_talk replicas
+    → (so : UnderWay first between)
     → Ends first.left left first.read read so.answered between.talk (Some said)
     → Tells between.written now between.wrote written_faults said status
     → IsServed replicas first.left left first.read read first.written now first.wrote
     written_faults status
-closes_with replicas first between left now read written_faults status said so ends closed = record {
+closes_with replicas first between left now read written_faults status said begun so ends closed = record {
   answered = so.answered;
   answers = so.answers;
   talk = between.talk;
-  session = so.session;
+  session = subst (λ t. AnswersAll t so.answered so.answers between.talk) begun so.session;
   said = Some said;
   ends = ends;
   taken = length (flat_map responses_text so.answers) + closed.taken;
@@ -107,14 +107,14 @@ more_than n (Some all) (Some rest) bytes consumed more =
     let size = ap length consumed in omega (arith, size, more, length-append bytes rest)
 
 -- reading stopped: why, and what was read
-pub unread_ends : (replicas : ℕ) (first between now : Moment) (end : ReadEnd)
-    → (so : UnderWay replicas first between)
+unread_ends : (first between now : Moment) (end : ReadEnd)
+    → (so : UnderWay first between)
     → StopsReading between.left now.left between.read now.read between.incoming end
     → Ends first.left now.left first.read now.read so.answered between.talk (Some (said_of_read end))
-unread_ends replicas first between now end so stops = go end stops.why
+unread_ends first between now end so stops = go end stops.why
   where
     reads : length stops.taken ≤ between.incoming.room → ReadsSome first.left now.left so.answered
-    reads few = some_lines replicas first between now.left stops.taken so stops.going stops.consumed few
+    reads few = some_lines first between now.left stops.taken so stops.going stops.consumed few
 
     go : (end : ReadEnd) → IsStop end between.incoming.room (length stops.taken) between.read now.read
         → Ends first.left now.left first.read now.read so.answered between.talk (Some (said_of_read end))
@@ -131,12 +131,12 @@ unread_ends replicas first between now end so stops = go end stops.why
     go ReadEnd.NoMemory why = absurd why
 
 -- the next line was taken, and there was no memory to answer it
-pub left_ends : (replicas : ℕ) (first between now : Moment) → (so : UnderWay replicas first between)
+left_ends : (first between now : Moment) → (so : UnderWay first between)
     → LeavesNext between now
     → Ends first.left now.left first.read now.read so.answered between.talk (Some Said.NoMemory)
-left_ends replicas first between now so leaves = (
+left_ends first between now so leaves = (
   leaves.same_read ∙ so.same_read,
-  some_lines replicas first between now.left leaves.takes.taken so leaves.takes.going
+  some_lines first between now.left leaves.takes.taken so leaves.takes.going
       leaves.takes.reads.consumed (omega (arith, leaves.takes.reads.room)),
 )
 
@@ -147,11 +147,11 @@ all_within n None bytes gave few = tt
 all_within n (Some all) bytes gave few = let size = ap length gave in omega (arith, size, few)
 
 -- no byte is held, and the source gave all: all lines were answered
-all_lines : (replicas : ℕ) (first between : Moment) (now : Option (List ℕ))
-    → (so : UnderWay replicas first between) → between.incoming.held ≡ []
+all_lines : (first between : Moment) (now : Option (List ℕ))
+    → (so : UnderWay first between) → between.incoming.held ≡ []
     → MayFollow between.incoming.is_over [] → Consumes between.left now []
     → GaveAll first.left so.taken → ReadsAll first.left now so.answered
-all_lines replicas first between now so none may same gave =
+all_lines first between now so none may same gave =
     let consumed =
     subst (Consumes first.left now) (append-nil so.taken)
     (Consumes-trans first.left between.left now so.taken [] so.consumed same) in
@@ -173,17 +173,17 @@ nothing_follows true = refl
 nothing_follows false = tt
 
 -- no line is left: all were answered
-pub end_reads : (replicas : ℕ) (first between now : Moment)
-    → (so : UnderWay replicas first between) → FindsEnd between now
+end_reads : (first between now : Moment)
+    → (so : UnderWay first between) → FindsEnd between now
     → ReadsAll first.left now.left so.answered
-end_reads replicas first between now so found = elim found.none [
+end_reads first between now so found = elim found.none [
   | inl over ↦
-      all_lines replicas first between now.left so (so.last over.0).0
+      all_lines first between now.left so (so.last over.0).0
       (nothing_follows between.incoming.is_over)
       (subst (λ l. Consumes between.left l []) (sym over.1) (Consumes-nil between.left))
       (so.last over.0).1
   | inr none ↦
-      all_lines replicas first between now.left so none.none
+      all_lines first between now.left so none.none
       (nothing_follows between.incoming.is_over) none.same
       (subst (GaveAll first.left) (append-nil so.taken)
       (gave_after first.left between.left so.taken [] so.consumed
@@ -191,27 +191,27 @@ end_reads replicas first between now so found = elim found.none [
 ]
 
 -- the end of the input, and the report
-pub end_ends : (replicas : ℕ) (first between now : Moment) (account : Account)
-    → (so : UnderWay replicas first between) → FindsEnd between now
+end_ends : (first between now : Moment) (account : Account)
+    → (so : UnderWay first between) → FindsEnd between now
     → Closes between.talk account
     → Ends first.left now.left first.read now.read so.answered between.talk
     (Some (Said.Told account))
-end_ends replicas first between now account so found closes =
-    (found.same_read ∙ so.same_read, end_reads replicas first between now so found, closes)
+end_ends first between now account so found closes =
+    (found.same_read ∙ so.same_read, end_reads first between now so found, closes)
 
 -- the end of the input, and no memory for the report
-pub end_starves : (replicas : ℕ) (first between now : Moment)
-    → (so : UnderWay replicas first between) → FindsEnd between now
+end_starves : (first between now : Moment)
+    → (so : UnderWay first between) → FindsEnd between now
     → Ends first.left now.left first.read now.read so.answered between.talk (Some Said.NoMemory)
-end_starves replicas first between now so found =
-    (found.same_read ∙ so.same_read, ([], (end_reads replicas first between now so found).reads))
+end_starves first between now so found =
+    (found.same_read ∙ so.same_read, ([], (end_reads first between now so found).reads))
 
 -- writing failed after some bytes of the text of the last answer
-pub served_in_part : (replicas : ℕ) (first between now : Moment)
-    → UnderWay replicas first between → FailsToWrite between now
+served_in_part : (replicas : ℕ) (first between now : Moment) → first.talk ≡ first_talk replicas
+    → UnderWay first between → FailsToWrite between now
     → IsServed replicas first.left now.left first.read now.read first.written now.written
     first.wrote now.wrote (code_of Status.WriteFault)
-served_in_part replicas first between now so fails =
+served_in_part replicas first between now begun so fails =
     let next = fails.next in let takes = next.takes in
     let all = flat_map responses_text so.answers in
     let last = responses_text fails.responses in
@@ -222,7 +222,9 @@ served_in_part replicas first between now so fails =
       answers = so.answers ++ fails.responses ∷ [];
       talk = now.talk;
       session = answers_more (first_talk replicas) between.talk now.talk so.answered so.answers
-          takes.line fails.responses so.session next.answers;
+          takes.line fails.responses
+          (subst (λ t. AnswersAll t so.answered so.answers between.talk) begun so.session)
+          next.answers;
       said = None;
       ends = (
         next.same_read ∙ so.same_read,
@@ -290,41 +292,43 @@ tells_from between now after faults status said nothing tells =
     (subst (λ b. Tells b after now.wrote faults said status) nothing.same_written tells)
 
 reported : (replicas : ℕ) (first between now : Moment) (after : Option (List ℕ))
-    (faults status : ℕ) (said : Said) → UnderWay replicas first between → FindsEnd between now
+    (faults status : ℕ) (said : Said) → first.talk ≡ first_talk replicas
+    → UnderWay first between → FindsEnd between now
     → Reports between.talk said → Tells between.written after between.wrote faults said status
     → IsServed replicas first.left now.left first.read now.read first.written after first.wrote
     faults status
-reported replicas first between now after faults status (Said.Told account) so found closes tells =
-    closes_with replicas first between now.left after now.read faults status (Said.Told account) so
-    (end_ends replicas first between now account so found closes) tells
-reported replicas first between now after faults status Said.NoMemory so found closes tells =
-    closes_with replicas first between now.left after now.read faults status Said.NoMemory so
-    (end_starves replicas first between now so found) tells
-reported replicas first between now after faults status _ so found closes tells = absurd closes
+reported replicas first between now after faults status (Said.Told account) begun so found closes tells =
+    closes_with replicas first between now.left after now.read faults status (Said.Told account) begun so
+    (end_ends first between now account so found closes) tells
+reported replicas first between now after faults status Said.NoMemory begun so found closes tells =
+    closes_with replicas first between now.left after now.read faults status Said.NoMemory begun so
+    (end_starves first between now so found) tells
+reported replicas first between now after faults status _ begun so found closes tells = absurd closes
 
 -- a session that was under way is served, whyever it ended
 pub served : (replicas : ℕ) (first between now : Moment) (after : Option (List ℕ))
-    (faults status : ℕ) (halt : Halt) → UnderWay replicas first between → Halts between now halt
+    (faults status : ℕ) (halt : Halt) → first.talk ≡ first_talk replicas
+    → UnderWay first between → Halts between now halt
     → Finishes halt now.talk now.written after now.wrote faults status
     → IsServed replicas first.left now.left first.read now.read first.written after first.wrote
     faults status
-served replicas first between now after faults status Halt.EndOfInput so found finishes =
-    reported replicas first between now after faults status finishes.said so found
+served replicas first between now after faults status Halt.EndOfInput begun so found finishes =
+    reported replicas first between now after faults status finishes.said begun so found
     (subst (λ t. Reports t finishes.said) found.same_talk finishes.reports)
     (tells_from between now after faults status finishes.said found.nothing finishes.tells)
-served replicas first between now after faults status (Halt.Unread end) so halts finishes =
-    closes_with replicas first between now.left after now.read faults status (said_of_read end) so
-    (unread_ends replicas first between now end so halts.0)
+served replicas first between now after faults status (Halt.Unread end) begun so halts finishes =
+    closes_with replicas first between now.left after now.read faults status (said_of_read end) begun so
+    (unread_ends first between now end so halts.0)
     (tells_from between now after faults status (said_of_read end) halts.1 finishes)
-served replicas first between now after faults status Halt.NoMemory so leaves finishes =
-    closes_with replicas first between now.left after now.read faults status Said.NoMemory so
-    (left_ends replicas first between now so leaves)
+served replicas first between now after faults status Halt.NoMemory begun so leaves finishes =
+    closes_with replicas first between now.left after now.read faults status Said.NoMemory begun so
+    (left_ends first between now so leaves)
     (tells_from between now after faults status Said.NoMemory leaves.nothing finishes)
-served replicas first between now after faults status Halt.Unwritten so fails finishes =
+served replicas first between now after faults status Halt.Unwritten begun so fails finishes =
     subst (λ s. IsServed replicas first.left now.left first.read now.read first.written after
     first.wrote faults s) (sym finishes.2)
     (subst (λ f. IsServed replicas first.left now.left first.read now.read first.written after
     first.wrote f (code_of Status.WriteFault)) (sym finishes.1)
     (subst (λ a. IsServed replicas first.left now.left first.read now.read first.written a
     first.wrote now.wrote (code_of Status.WriteFault)) (sym finishes.0)
-    (served_in_part replicas first between now so fails)))
+    (served_in_part replicas first between now begun so fails)))

@@ -1,5 +1,5 @@
--- answers the next, halts: what becomes of the next line of a session, and why none is answered.
-use Rattle.std.specs.Prelude.{Bool, List, length, take, true, ℕ, ◌<◌, ◌≡◌, ◌⊎◌}
+-- answers the next, halts, fares: what becomes of the next line of a session, and why none is answered.
+use Rattle.std.specs.Prelude.{List, None, Some, length, take, true, ℕ, ◌<◌, ◌≡◌, ◌⊎◌}
 use Rattle.std.specs.declared.option.Option.{Option}
 use Rattle.std.specs.Io.KnownBytes.{Appends}
 use Rattle.mu_io.specs.Faults.{Rose}
@@ -71,3 +71,8 @@ Halts before after (Halt.Unread end) =
     × WritesNothing before after
 Halts before after Halt.NoMemory = LeavesNext before after
 Halts before after Halt.Unwritten = FailsToWrite before after
+
+-- the next line was answered, or this is why it wasn't
+abbrev pub Fares : Moment → Moment → Option Halt → Type 0
+Fares before after None = AnswersNext before after
+Fares before after (Some halt) = Halts before after halt

@@ -1,6 +1,6 @@
 -- under way, finishes: what a session has read, answered and written so far; what is written at its
 -- end.
-use Rattle.std.specs.Prelude.{List, Some, [], length, true, ℕ, ◌++◌, ◌+◌, ◌<◌, ◌≡◌, ◌≤◌}
+use Rattle.std.specs.Prelude.{List, [], length, true, ℕ, ◌++◌, ◌+◌, ◌<◌, ◌≡◌, ◌≤◌}
 use Rattle.std.specs.declared.option.Option.{Option}
 use Rattle.std.specs.Io.KnownBytes.{Appends, Consumes}
 use Rattle.std.specs.List.{flat_map}
@@ -16,15 +16,15 @@ use Rattle.mu_text.specs.Lines.{lines}
 use Rattle.mu_serve.specs.Closing.{Reports}
 use Rattle.mu_serve.specs.Incoming.{GaveAll, MayFollow}
 use Rattle.mu_serve.specs.NextLines.{Moment}
-use Rattle.mu_serve.specs.Sessions.{AnswersAll, Talk, first_talk}
+use Rattle.mu_serve.specs.Sessions.{AnswersAll, Talk}
 use Rattle.mu_serve.specs.declared.TheConstants.{SESSION_LIMIT}
 use Rattle.mu_serve.specs.declared.answering.Halt.{Halt}
 
 -- what was read, answered and written since the first moment
-pub record UnderWay (replicas : ℕ) (first now : Moment) : Type 0 where
+pub record UnderWay (first now : Moment) : Type 0 where
   pub answered : List (List ℕ)
   pub answers : List (List Response)
-  pub session : AnswersAll (first_talk replicas) answered answers now.talk
+  pub session : AnswersAll first.talk answered answers now.talk
   pub taken : List ℕ
   pub consumed : Consumes first.left now.left taken
   pub counted : now.incoming.room + length taken ≡ SESSION_LIMIT + 1
@@ -39,6 +39,7 @@ pub record UnderWay (replicas : ℕ) (first now : Moment) : Type 0 where
   pub same_wrote : now.wrote ≡ first.wrote
   pub count :
       now.talk.count + (now.incoming.room + length now.incoming.held) ≤ SESSION_LIMIT + 1
+  pub few : length now.talk.waiting ≤ now.talk.count
 
 -- the text of what is said was written, whole or in part
 pub record Tells (before now : Option (List ℕ)) (faults faults_now : ℕ) (said : Said)

@@ -1,10 +1,11 @@
 //! The answer to the next line of a session.
-ghost use Rattle.std.specs.Prelude.{None, IfSome, ◌+◌, ◌<◌, ◌^◌, ◌≡◌};
-ghost use Rattle.mu_serve.specs.NextLines.{AnswersNext, Halts};
+ghost use Rattle.std.specs.Prelude.{length, ◌+◌, ◌<◌, ◌^◌, ◌≤◌};
+ghost use Rattle.mu_serve.specs.NextLines.{Fares};
 
 use crate::incoming::Incoming;
 use crate::session::Session;
 use mu_io::{ReadEnd, Sink, Source};
+use mu_model::NoMemory;
 use mu_report::print_responses;
 
 /// Why no further line is answered.
@@ -32,7 +33,8 @@ pub fn halt_at_next<S: Source, K: Sink>(
 ) -> Option<Halt>
     requires room { 0 < incoming.old.room }
     requires count { session.old.count + 1 < 2 ^ 32 }
-    ensures answers { result ≡ None → AnswersNext
+    requires few { length session.old.waiting ≤ session.old.count }
+    ensures { Fares
         (record {
           left = S.left source.old;
           read = S.faults source.old;
@@ -48,32 +50,17 @@ pub fn halt_at_next<S: Source, K: Sink>(
           wrote = K.faults sink.new;
           incoming = incoming.new;
           talk = session.new;
-        }) }
-    ensures halts { IfSome result (Halts
-        (record {
-          left = S.left source.old;
-          read = S.faults source.old;
-          written = K.written sink.old;
-          wrote = K.faults sink.old;
-          incoming = incoming.old;
-          talk = session.old;
         })
-        (record {
-          left = S.left source.new;
-          read = S.faults source.new;
-          written = K.written sink.new;
-          wrote = K.faults sink.new;
-          incoming = incoming.new;
-          talk = session.new;
-        })) }
+        result }
 {
     let line = match incoming.next_line(source) {
         Ok(Some(line)) => line,
         Ok(None) => return Some(Halt::EndOfInput),
         Err(end) => return Some(Halt::Unread(end)),
     };
-    let Ok(responses) = session.responses(&line) else {
-        return Some(Halt::NoMemory);
+    let responses = match session.responses(&line) {
+        Ok(responses) => responses,
+        Err(NoMemory) => return Some(Halt::NoMemory),
     };
     match print_responses(sink, responses.as_slice()) {
         Ok(_) => None,

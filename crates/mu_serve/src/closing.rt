@@ -1,13 +1,14 @@
 //! The report at the end of a session.
 ghost use Rattle.std.specs.Prelude.{IfOk, ◌≡◌};
+ghost use Rattle.mu_engine.specs.Moments.{IsMoment};
 ghost use Rattle.mu_outcome.specs.Outcomes.{IsWithinJob};
 ghost use Rattle.mu_serve.specs.Closing.{ClosesLive, ComesTo, stops_so_far as stops_of_live};
 ghost use Rattle.mu_serve.specs.Sessions.{IsAfter};
 ghost use Rattle.mu_serve.specs.declared.closing.TheConstants.{CLOSING_ROUNDS as LAST_ROUNDS};
 
-use mu_engine::{Engine, Session};
+use mu_engine::Engine;
 use mu_input::Job;
-use mu_model::{NoMemory, Script, Sequence, Stop};
+use mu_model::{Event, NoMemory, Script, Sequence, Stop};
 use mu_outcome::Account;
 use mu_telling::{account_of, steps_of};
 use std::alloc::Global;
@@ -44,13 +45,13 @@ fn account_of_engine(alloc: Global, engine: Engine) -> Result<Account, NoMemory>
     ensures comes_to { IfOk result (ComesTo engine) }
     ensures within { IfOk result (λ account. IsWithinJob account.outcome) }
 {
-    let stops = stops_so_far(alloc, &engine)?;
-    let Session { job, events } = engine.into_session();
+    let events = engine.events().to_vec(alloc)?;
+    let stops = stops_so_far(alloc, &engine, events.as_slice())?;
     let Job {
         config,
         commands,
         script: _,
-    } = job;
+    } = engine.into_session().job;
     let job = Job {
         config,
         commands,
@@ -63,7 +64,9 @@ fn account_of_engine(alloc: Global, engine: Engine) -> Result<Account, NoMemory>
 }
 
 /// The stops so far, in order of id.
-fn stops_so_far(alloc: Global, engine: &Engine) -> Result<Vec<Stop>, NoMemory>
+fn stops_so_far(alloc: Global, engine: &Engine, events: &[Event]) -> Result<Vec<Stop>, NoMemory>
+    requires moment { IsMoment engine.now.job events.now }
+    requires all { events.now ≡ engine.now.events }
     ensures { IfOk result (λ stops. stops.items ≡ stops_of_live engine.now) }
 {
     let mut stops = Vec::new(alloc);
@@ -71,7 +74,7 @@ fn stops_so_far(alloc: Global, engine: &Engine) -> Result<Vec<Stop>, NoMemory>
         if engine.hold_of(replica).stopped {
             stops.push(Stop {
                 replica,
-                steps: steps_of(replica, engine.events()) as u32,
+                steps: steps_of(replica, events) as u32,
             })?;
         }
     }

@@ -1,9 +1,8 @@
 //! A session from its first line to its last one.
-ghost use Rattle.std.specs.Prelude.{[], false, ℕ, ◌+◌, ◌≡◌, ◌≤◌};
+ghost use Rattle.std.specs.Prelude.{[], false, ◌+◌, ◌≡◌, ◌≤◌};
 ghost use Rattle.mu_report.specs.Said.{IsShort};
 ghost use Rattle.mu_serve.specs.NextLines.{Halts, Moment};
 ghost use Rattle.mu_serve.specs.Serving.{IsServed};
-ghost use Rattle.mu_serve.specs.Sessions.{first_talk};
 ghost use Rattle.mu_serve.specs.UnderWay.{Finishes, Tells, UnderWay};
 ghost use Rattle.mu_serve.specs.declared.TheConstants.{SESSION_LIMIT};
 
@@ -11,6 +10,7 @@ use crate::answering::{Halt, halt_at_next};
 use crate::incoming::Incoming;
 use crate::session::Session;
 use mu_io::{Sink, Source};
+use mu_model::NoMemory;
 use mu_outcome::Status;
 use mu_report::{Said, print_counted, status_for};
 use std::alloc::Global;
@@ -26,8 +26,9 @@ pub fn serve<S: Source, K: Sink>(alloc: Global, replicas: u8, source: &mut S, si
         (S.faults source.new) (K.written sink.old) (K.written sink.new) (K.faults sink.old)
         (K.faults sink.new) result }
 {
-    let Ok(mut session) = Session::start(alloc, replicas) else {
-        return status_of_end(sink, Said::NoMemory);
+    let mut session = match Session::start(alloc, replicas) {
+        Ok(session) => session,
+        Err(NoMemory) => return status_of_end(Said::NoMemory, sink),
     };
     let mut incoming = Incoming::new();
     let halt = last_halt(&mut session, &mut incoming, source, sink);
@@ -41,12 +42,12 @@ fn last_halt<S: Source, K: Sink>(
     source: &mut S,
     sink: &mut K,
 ) -> Halt
-    ghost replicas: { ℕ }
-    requires talk { session.old ≡ first_talk replicas }
+    requires count { session.old.count ≡ 0 }
+    requires waiting { session.old.waiting ≡ [] }
     requires held { incoming.old.held ≡ [] }
     requires room { incoming.old.room ≡ SESSION_LIMIT + 1 }
     requires going { incoming.old.is_over ≡ false }
-    ensures { (between : Moment) × UnderWay replicas
+    ensures { (between : Moment) × UnderWay
         (record {
           left = S.left source.old;
           read = S.faults source.old;
@@ -78,15 +79,15 @@ fn status_after<K: Sink>(session: Session, halt: Halt, sink: &mut K) -> u8
         (K.faults sink.old) (K.faults sink.new) result }
 {
     match halt {
-        Halt::EndOfInput => status_of_end(sink, session.report()),
-        Halt::Unread(end) => status_of_end(sink, Said::from(end)),
-        Halt::NoMemory => status_of_end(sink, Said::NoMemory),
+        Halt::EndOfInput => status_of_end(session.report(), sink),
+        Halt::Unread(end) => status_of_end(Said::from(end), sink),
+        Halt::NoMemory => status_of_end(Said::NoMemory, sink),
         Halt::Unwritten => Status::WriteFault.code(),
     }
 }
 
 /// Writes what is said at the end, and answers the status.
-fn status_of_end<K: Sink>(sink: &mut K, said: Said) -> u8
+fn status_of_end<K: Sink>(said: Said, sink: &mut K) -> u8
     requires { IsShort said }
     ensures { Tells (K.written sink.old) (K.written sink.new) (K.faults sink.old)
         (K.faults sink.new) said result }

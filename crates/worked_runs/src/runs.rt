@@ -1,7 +1,7 @@
 //! Whole jobs, whose replicas run in threads.
 use crate::replays::{ONE_PUT, TWO_CLIENTS, job_of};
 use kv_store::Reply;
-use mu_cluster::{Gate, Outcome, rows_spell_commands, run};
+use mu_cluster::{Gate, OpenGate, Outcome, rows_spell_commands, run};
 use mu_model::End;
 use mu_outcome::Log;
 use std::alloc::Global;
@@ -274,5 +274,13 @@ fn one_replica_runs(rt: HostRuntime) -> Result<(), Fail> {
     assert!(rt; is_right && gate.failures.load(Ordering::SeqCst) == 0);
     // Ninety-three steps, and the turn that finds the end.
     assert_eq!(rt; gate.passings.load(Ordering::SeqCst), 94);
+    Ok(())
+}
+
+#[test]
+fn open_gate_does_nothing(rt: HostRuntime) -> Result<(), Fail> {
+    let outcome = ran(&rt, rt.alloc(), ONE_PUT, &OpenGate)?;
+    let is_right = is_of_one_put(&outcome);
+    assert!(rt; is_right);
     Ok(())
 }

@@ -8,4 +8,4 @@ use Rattle.mu_serve.proofs.closing.stops_so_far.Given as goal
 
 abbrev pub invariant-loop-replica : goal.invariant-loop-replica
 invariant-loop-replica l =
-    l.stops.items ≡ given_below l.replica (λ r. stop_if (is_stopped (slice_get l.engine.holds r)) r l.engine.events)
+    l.stops.items ≡ given_below l.replica (λ r. stop_if (is_stopped (slice_get l.engine.holds r)) r l.events)
