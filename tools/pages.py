@@ -39,14 +39,14 @@ MOST_WORDS = {
     "README.md": 1_150,
     "docs/AGREEMENT.md": 1_300,
     "docs/ALIVE.md": 2_900,
-    "docs/DECISIONS.md": 2_240,
-    "docs/ENGINE.md": 900,
+    "docs/DECISIONS.md": 2_280,
+    "docs/ENGINE.md": 1_150,
     "docs/FORMATS.md": 3_860,
     "docs/MEASURED.md": 1_800,
     "docs/PACE.md": 1_750,
     "docs/PAPER.md": 950,
     "docs/PROTOCOL.md": 3_000,
-    "docs/PROVED.md": 4_760,
+    "docs/PROVED.md": 4_820,
     "docs/READING.md": 850,
     "docs/SCENES.md": 1_820,
     "docs/THREADS.md": 1_800,
@@ -55,7 +55,7 @@ MOST_WORDS = {
 }
 COUNTED_BARE = {"README.md"}
 # The most words of all pages together, as `wc -w README.md docs/*.md` counts them.
-MOST_IN_SUM = 42_500
+MOST_IN_SUM = 42_850
 
 
 def files():

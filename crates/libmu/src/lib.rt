@@ -2,7 +2,7 @@
 //! they are in C, and what a caller owes.
 #![tactic(auto)]
 
-ghost use Rattle.std.specs.Prelude.{◌×◌, ◌≡◌, ⊤, None};
+ghost use Rattle.std.specs.Prelude.{◌≡◌, ⊤, None};
 ghost use Rattle.mu_drawing.specs.Words.{asked_steps};
 ghost use Rattle.mu_engine.specs.Live.{paused, stopped};
 ghost use Rattle.mu_library.specs.Calls.{asked_after, asked_at, Answers, CanTake, Draws, OpensJudge, SaysOfJudge, TakesLine};

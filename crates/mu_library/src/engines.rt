@@ -1,5 +1,5 @@
 //! A live engine in the hands of a C program: what changes it.
-ghost use Rattle.std.specs.Prelude.{IfOk, Some, ⊤, ◌×◌, ◌≡◌, ◌≤◌, ◌⊎◌};
+ghost use Rattle.std.specs.Prelude.{IfOk, Some, ⊤, ◌≡◌, ◌≤◌, ◌⊎◌};
 ghost use Rattle.std.specs.Option.{MatchOption};
 ghost use Rattle.kv_store.specs.Commands.{HasShortTexts};
 ghost use Rattle.mu_engine.specs.Live.{first_live, paused, stopped};

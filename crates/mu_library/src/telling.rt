@@ -1,6 +1,6 @@
 //! What a live engine tells a C program: a reply, or its trace. The engine stays as it is.
 ghost use Rattle.mu_library.specs.Engines.{Asks, IsUntold, OfHandle, OfHeld, Replies, Traces};
-ghost use Rattle.std.specs.Prelude.{◌×◌, ◌≡◌};
+ghost use Rattle.std.specs.Prelude.{◌≡◌};
 
 use crate::answering::Answered;
 use crate::handles::taken_out;

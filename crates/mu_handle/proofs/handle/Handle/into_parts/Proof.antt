@@ -5,8 +5,7 @@ use mathlib.Core.List.{List, [], ◌∷◌, ◌++◌}
 use seplogic.Ra.Ura.{Ura}
 use mir.Raw.{raw as bare}
 use mir.Val.{Val, vstruct, vcons, vnil, of_list}
-use base.Fraction.{full_share}
-use base.Logic.{SProp, ent, emp, guard, via, snd∗, guard_i, id⊢}
+use base.Logic.{SProp, ent, emp, guard, guard_i, id⊢}
 use base.Fml.{ftrue, fsep}
 use prog.Memory.{Memory}
 use prog.Routine.{Routine}
@@ -21,9 +20,8 @@ use types.Part.{whole, sub, agg}
 use types.Run.{stop, fld, lit, bin, no_more, and_then, of_opd, first, branches, exec, returns, enter}
 use types.ByLocal.{alloc_all, pass_all, free_all, look_at, get, get_in, sets, sets_last, env}
 use denote.Exit.{yes}
-use denote.Memory.{lone}
 use denote.RattleType.{RattleType}
-use denote.RawPtr.{Ptr, Testable, block_ptr, lies_at, null_ptr, ptr_val, tests_null}
+use denote.RawPtr.{Ptr, Testable, block_ptr, null_ptr, ptr_val, tests_null}
 use denote.Signature.{type_at}
 use denote.Steps.{nothing}
 use denote.Triple.Spec.{triple_of}
@@ -34,8 +32,7 @@ use Rattle.core.proofs.alloc.Shapes.{after}
 use Rattle.core.proofs.option.Made.{Some-of, none_of}
 use Rattle.std.specs.Global.{Global}
 use Rattle.std.proofs.GlobalToken.{dealloc_token-Testable}
-use Rattle.std_alloc.specs.Box.Ownership.{box_owns}
-use Rattle.std_alloc.proofs.BoxSteps.Form.{D, R, B, word, box_typed}
+use Rattle.std_alloc.proofs.BoxSteps.Form.{D, B, τ, word, box_typed}
 use Rattle.std_alloc.proofs.BoxSteps.Steps.{box_out, box_in}
 use Rattle.std_alloc.proofs.ResultValues.{and_tt}
 use Rattle.std_heap.specs.contracts.Global as Heap
@@ -65,12 +62,10 @@ module _ {M : Type 1} {𝓤 : Ura M} (𝓛 : Logic 𝓤) (at_mem : Memory → SP
   open 𝓛 use {H}
 
   -- the right to free a block tells that its pointer may be compared with null
-  tested : (a : Global) (p : Ptr) (x : Held) → ent 𝓤 (sem 𝓛 (box_owns (ghosts.dealloc_token a) held.the_row p x)) (guard 𝓤 (Testable p) (sem 𝓛 (box_owns (ghosts.dealloc_token a) held.the_row p x)))
-  tested a p x =
-      let owned = sem 𝓛 (box_owns (ghosts.dealloc_token a) held.the_row p x) in
-      fact_use 𝓤 (Testable p) (via 𝓤 _ (snd∗ 𝓤 (sem 𝓛 (lies_at held.the_row full_share p x)) (sem 𝓛 (ghosts.dealloc_token a (bare (lone held.the_row.mir)) p))) (dealloc_token-Testable 𝓛 a (bare (lone held.the_row.mir)) p)) (guard_i 𝓤 (Testable p) owned)
+  tested : (a : Global) (p : Ptr) → ent 𝓤 (sem 𝓛 (token E.al a (bare (τ E)) p)) (guard 𝓤 (Testable p) (sem 𝓛 (token E.al a (bare (τ E)) p)))
+  tested a p = fact_use 𝓤 (Testable p) (dealloc_token-Testable 𝓛 a (bare (τ E)) p) (guard_i 𝓤 (Testable p) (sem 𝓛 (token E.al a (bare (τ E)) p)))
 
-  abbrev Ghost : Type 1
+  abbrev Ghost : Type 0
   Ghost = (walk_of 𝓛 F.ended stayed (F.clauses 𝓛 at_mem run)).Ghost
 
   abbrev Walks : Ghost → Type 1
@@ -89,7 +84,7 @@ module _ {M : Type 1} {𝓤 : Ura M} (𝓛 : Logic 𝓤) (at_mem : Memory → SP
       let words : z.0.4.0 ≡ w ∷ [] = eu ∙ (λ j. vstruct (of_list ((ep ∙ ap (λ (p : Ptr). ptr_val p ∷ []) en) j ++ (eh j ++ []))) ∷ []) in
       let u : Val = live 0 vnil in
       let Γ : List (Item 𝓤) = ‵ ftrue ∷ [] in
-      nothing ! $
+      move ! (1 ∷ []) $ drop ! $
       by ! (subst (λ (us : List Val). ent 𝓤 (types.Kit.⋆ 𝓛 Γ) (WpFn 𝓤 H 𝓣.C 𝓣.Λ code.function (us ++ []) Post)) (sym words)
       (qed 𝓛 Γ ∵ enter ! 𝓣.C 𝓣.Λ code.function (w ∷ []) _ $ alloc_all ! (λ ls. pass_all ! refl ((and_tt _ fw.0, (record { fits = lit< tt }, (fw.1, tt))), tt) $
       let Ev = env code.function.locals ls in
@@ -97,10 +92,10 @@ module _ {M : Type 1} {𝓤 : Ura M} (𝓛 : Logic 𝓤) (at_mem : Memory → SP
       sets ! (bin ! (get ! refl) (lit ! tt) tt) refl (tt, tt) $ first ! $ branches ! (get ! refl)
       (λ _. sets_last ! (agg ! (and_then ! (lit ! tt) (no_more !))) refl (tt, (record { fits = lit< tt }, tt)) $ exec ! 𝓣.C 𝓣.Λ Ev (after 4 code.function.body) (at_ret Ev Post) $
       sets ! (of_opd ! (get ! refl)) refl (tt, (record { fits = lit< tt }, tt)) $
-      use0 𝓛 (‵ (Out.own_val None (u ∷ []))) (none_of 𝓛 To) $ returns ! (look_at ! 0 refl) $ free_all ! refl $
+      use0 𝓛 (‵ (Out.own_val None (u ∷ []))) (none_of 𝓛 To) $ move ! (1 ∷ []) $ drop ! $ returns ! (look_at ! 0 refl) $ free_all ! refl $
       suffices ! _ (ends_at 𝓛 F.ended stayed (F.clauses 𝓛 at_mem run) z u None (tt, tt) (tt, tt)) $ says ! is $
       nothing ! $ nothing ! $ fjoin ! $ join ! $ nothing ! $ join ! $ done !)
-      (λ wrong. absurd wrong))))))))
+      (λ wrong. absurd wrong)))))))))
 
   -- something is held
   at_some : (z : Ghost) (x : Held) → z.0.3.0.held ≡ Some x → Walks z
@@ -113,7 +108,8 @@ module _ {M : Type 1} {𝓤 : Ura M} (𝓛 : Logic 𝓤) (at_mem : Memory → SP
       qed 𝓛 ((‵ ftrue ⊛ ‵ (fsep (Handle.the_row.own_val h z.0.4.0) ftrue)) ∷ raw (emp 𝓤) ∷ []) ∵ split ! $ drop ! $ fsplit ! $
       rewrite ! 0 (λ (held : Option Held). ‵ (Handle.the_row.own_val (record { at = h.at; alloc = h.alloc; held = held }) z.0.4.0)) is refl $ use1 𝓛 (‵ ((B E).own_val v z.0.4.0)) (id⊢ 𝓤 _) $
       box_out E ! v z.0.4.0 (λ b o hv e ws fa.
-      use1 𝓛 (given (Testable (block_ptr b o)) (‵ (box_owns (token E.al h.alloc) (R E) (block_ptr b o) x))) (tested h.alloc (block_ptr b o) x) $ learn ! (λ t.
+      -- [the value; the right to free; the handle]
+      move ! (1 ∷ []) $ use1 𝓛 (given (Testable (block_ptr b o)) (‵ (token E.al h.alloc (bare (τ E)) (block_ptr b o)))) (tested h.alloc (block_ptr b o)) $ learn ! (λ t. move ! (1 ∷ []) $
       box_in E ! v b o x e refl $ use1 𝓛 (‵ (To.own_val made (word E hv b o ∷ []))) (id⊢ 𝓤 _) $ move ! (1 ∷ 2 ∷ []) $ drop ! $ drop ! $
       let w = word E hv b o in
       let u : Val = live 1 (vcons w vnil) in
