@@ -1,3 +1,4 @@
+use Rattle.std.proofs.Common.{rules}
 use Rattle.mu_serve.proofs.serving.status_of_end.Goals as goal
 
 pub returns : goal.returns
@@ -10,3 +11,6 @@ returns g c = record {
         faults = c.in-Err.ensures.fault;
       });
 }
+
+pub returns-in-Ok : goal.returns-in-Ok
+returns-in-Ok g c = record { taken = c.in-Ok.field-0; writes = search rules }
