@@ -63,6 +63,11 @@ def at_limits():
     yield refused("the form is judged before the count", pauses + b"pause 0 109 1\nend\n", 106, 10)
     yield refused("a million empty lines", b"\n" * MOST_BYTES, 1, 1)
     yield trying.Case("a byte too many", ["replay"], b"\n" * (MOST_BYTES + 1), b"too long\n", TOO_LONG)
+    line = b"put a 5\n"
+    session = line + b"x" * (MOST_BYTES - len(line))
+    yield trying.BeginningCase("the longest session", ["serve", "1"], session,
+                               b"0.1 done\nrefused line 2 cause 17\nreport 2\n", 0)
+    yield trying.Case("a byte too many in a session", ["serve", "1"], session + b"x", b"0.1 done\ntoo long\n", TOO_LONG)
 
 
 class StopsCase(trying.Case):
@@ -99,6 +104,13 @@ def stops():
     return [StopsCase(stopped, steps) for stopped in ([0], [1], [2], [0, 1]) for steps in range(MOST_STEPS + 1)]
 
 
+def fullest_session():
+    """A session with a command too many: each other one is answered, and that one is refused."""
+    replies = b"".join(b"0.%d none\n" % number for number in range(1, MOST_COMMANDS + 1))
+    return trying.BeginningCase("a command too many in a session", ["serve", "1"], b"get a\n" * (MOST_COMMANDS + 1),
+                                replies + b"refused line %d cause 9\nreport 2\n" % (MOST_COMMANDS + 1), 0)
+
+
 class LargestCase(trying.Case):
     """The trace of the largest job: how many steps each replica made."""
 
@@ -115,12 +127,12 @@ class LargestCase(trying.Case):
 
 
 def made_cases():
-    """All but the largest job, which takes a minute without the proved program."""
+    """All but the largest job and the fullest session, which take a minute each without the proved program."""
     return [*prefixes(), *at_limits(), *stops()]
 
 
 def main():
-    return trying.run_or_write(sys.argv[1:], [*made_cases(), LargestCase()], "made")
+    return trying.run_or_write(sys.argv[1:], [*made_cases(), fullest_session(), LargestCase()], "made")
 
 
 if __name__ == "__main__":

@@ -16,7 +16,7 @@ ghost use Rattle.mu_cluster.specs.Resting.{IsNap, yields_for};
 ghost use Rattle.mu_cluster.specs.Silences.{silence as silence_of};
 
 use crate::idling::Idling;
-use crate::pauses::{next_pause, pause_after, rounds_at};
+use crate::pauses::{go_on, next_pause, rounds_at};
 use crate::resting::{Rested, rest};
 use crate::silences::Silences;
 use mu_gate::{Gate, Passed, change_at_once};
@@ -88,7 +88,7 @@ fn drive<R: Wait + Clock, G: Gate>(rt: &R, branch: &mut Branch, script: &Script,
                 let newest = port.newest();
                 silences.take(newest);
                 idling.take(newest);
-                next = pause_after(next, pauses, node.id(), node.steps());
+                go_on(&mut next, pauses, node.id(), node.steps());
             }
             Turn::Ended(_) => break,
         }

@@ -40,19 +40,15 @@ pub(crate) fn next_pause(pauses: &[Pause], replica: u8, taken: u32) -> Option<Pa
     next
 }
 
-/// The same one step later. The pauses are gone over only if the last one is past.
-pub(crate) fn pause_after(
-    next: Option<Pause>,
-    pauses: &[Pause],
-    replica: u8,
-    taken: u32,
-) -> Option<Pause>
-    ensures { (before : ℕ) → taken ≡ before + 1 → IsNextPause pauses.now replica before next
-        → IsNextPause pauses.now replica taken result }
+/// Goes on to the next pause, one step later. The pauses are gone over only if the last one is past:
+/// mostly it isn't, and stays as it is.
+pub(crate) fn go_on(next: &mut Option<Pause>, pauses: &[Pause], replica: u8, taken: u32)
+    ensures { (before : ℕ) → taken ≡ before + 1 → IsNextPause pauses.now replica before next.old
+        → IsNextPause pauses.now replica taken next.new }
 {
-    match next {
-        Some(pause) if pause.steps < taken => next_pause(pauses, replica, taken),
-        _ => next,
+    match *next {
+        Some(pause) if pause.steps < taken => *next = next_pause(pauses, replica, taken),
+        _ => {}
     }
 }
 

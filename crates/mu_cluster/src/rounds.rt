@@ -12,7 +12,7 @@ ghost use Rattle.mu_node.specs.Turns.{IsResult, TellsEnd};
 ghost use Rattle.mu_cluster.specs.declared.rounds.Seat.{Seat};
 ghost use Rattle.mu_cluster.specs.Rounds.{PlayedBy, Plays, Sits, all_left, left_of, one_if_going, part_of};
 
-use crate::pauses::{next_pause, pause_after, rounds_at};
+use crate::pauses::{go_on, next_pause, rounds_at};
 use mu_input::Job;
 use mu_model::{NoMemory, Pause};
 use mu_node::{Node, NodeResult, Turn, Zeal};
@@ -103,7 +103,7 @@ impl Seat {
         match self.node.turn(port) {
             Turn::Took(_) => {
                 self.waited = 0;
-                self.next = pause_after(self.next, pauses, id, self.node.steps());
+                go_on(&mut self.next, pauses, id, self.node.steps());
             }
             Turn::Ended(_) => self.ended = true,
         }

@@ -38,8 +38,8 @@ loop-preserved g c =
     let count = c.steps.ensures q.config q.id q.part now in
     let id = c.id-in-Took.ensures ∙ now.beside.id ∙ c.turn_rested.ensures.same.id in
     let before = subst (λ l. IsNextPause l c.id-in-Took.result (length p.part) c.loop.next) (sym c.as_slice-pauses.ensures) (subst (λ i. IsNextPause script.pauses i (length p.part) c.loop.next) (sym id) c.loop.invariant.6) in
-    let after = c.pause_after-next.ensures (length p.part) (count ∙ (ap length took.1.part ∙ omega arith)) before in
-    let later = subst (λ n. IsNextPause script.pauses q.id n c.pause_after-next.result) count (subst (λ i. IsNextPause script.pauses i c.steps.result c.pause_after-next.result) (c.id-in-Took.ensures ∙ now.beside.id) (subst (λ l. IsNextPause l c.id-in-Took.result c.steps.result c.pause_after-next.result) c.as_slice-pauses.ensures after)) in
+    let after = c.go_on.ensures (length p.part) (count ∙ (ap length took.1.part ∙ omega arith)) before in
+    let later = subst (λ n. IsNextPause script.pauses q.id n c.go_on.new.next) count (subst (λ i. IsNextPause script.pauses i c.steps.result c.go_on.new.next) (c.id-in-Took.ensures ∙ now.beside.id) (subst (λ l. IsNextPause l c.id-in-Took.result c.steps.result c.go_on.new.next) c.as_slice-pauses.ensures after)) in
     let few = subst (λ k. IsConfig k) (sym c.turn_rested.ensures.same.config) was.config in (
       tt,
       tt,
