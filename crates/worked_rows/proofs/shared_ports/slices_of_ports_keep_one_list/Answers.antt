@@ -1,4 +1,4 @@
-use Rattle.std.proofs.Common.{sym, subst, List}
+use Rattle.std.proofs.Common.{◌∙◌, sym, subst, List}
 use Rattle.shared_fabric.specs.Gathering.{ArePorts, PortValue}
 use Rattle.shared_fabric.proofs.Gathers.{staying_is_enough_law}
 use Rattle.worked_rows.proofs.shared_ports.slices_of_ports_keep_one_list.Goals as goal
@@ -6,12 +6,14 @@ use Rattle.worked_rows.proofs.shared_ports.slices_of_ports_keep_one_list.Goals a
 pub of_ports-requires : goal.of_ports-requires
 of_ports-requires g c =
     let all = c.into_ports.ensures.all in
-    let are = subst (λ (l : List PortValue). ArePorts all.table all.config l) (sym c.into_ports.ensures.ports) all.are in
-    record { table = all.table; config = all.config; are = staying_is_enough_law all.table all.config _ _ are c.acted-ports.ensures }
+    let are = subst (λ (l : List PortValue). ArePorts all.table all.config l) (sym (c.in_ok-kept.ensures ∙ c.into_ports.ensures.ports)) all.are in
+    let now = staying_is_enough_law all.table all.config _ _ are c.acted-ports.ensures in
+    record { table = all.table; config = all.config; are = subst (λ (l : List PortValue). ArePorts all.table all.config l) (sym c.in_ok-bare.ensures) now }
 
-pub gather-gathered-requires-clause-ports : goal.gather-gathered-requires-clause-ports
-gather-gathered-requires-clause-ports g c =
+pub gather-requires : goal.gather-requires
+gather-requires g c =
     let table = c.ports.new.self.table in
     let config = c.ports.new.self.config in
-    let are = subst (λ (l : List PortValue). ArePorts table config l) (sym c.into_ports.ensures.ports) c.in_ok-ports.ensures.are in
-    subst (λ (l : List PortValue). ArePorts table config l) (sym c.of_ports.ensures) (staying_is_enough_law table config _ _ are c.acted-ports.ensures)
+    let are = subst (λ (l : List PortValue). ArePorts table config l) (sym (c.in_ok-kept.ensures ∙ c.into_ports.ensures.ports)) c.in_ok-ports.ensures.are in
+    let now = staying_is_enough_law table config _ _ are c.acted-ports.ensures in
+    subst (λ (l : List PortValue). ArePorts table config l) (sym (c.of_ports.ensures ∙ c.in_ok-bare.ensures)) now
