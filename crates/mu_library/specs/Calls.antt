@@ -1,5 +1,5 @@
 -- asked at, asked after, answers, draws, opens judge, takes line: what the number of a task asks
--- for; what each call on texts or a judge puts into the room, and with which status.
+-- for; what each call of the library for C puts into the room, and with which status.
 use Rattle.std.specs.Prelude.{ℕ, ◌≡◌, ◌<◌, ◌≤◌, ◌==◌, ◌⊎◌, List, ◌++◌, length, None, Some, if◌then◌else◌, nat_le, ⊤}
 use Rattle.std.specs.declared.option.Option.{Option}
 use Rattle.mu_drawing.specs.Answers.{text_of}
@@ -11,7 +11,6 @@ use Rattle.mu_input.specs.Grammar.{job}
 use Rattle.mu_input.specs.Readings.{Leaves}
 use Rattle.mu_input.specs.declared.TheConstants.{MOST_COMMANDS}
 use Rattle.mu_judging.specs.LineJudges.{event_in, said_by, status_with, HasTaken, Opens}
-use Rattle.mu_handle.specs.declared.holding.Held.{Held}
 use Rattle.mu_judging.specs.declared.line_judge.LineJudge.{LineJudge}
 use Rattle.mu_library.specs.Front.{Puts}
 use Rattle.mu_library.specs.declared.tasks.Work.{Work}
@@ -104,23 +103,22 @@ pub record SaysWhyNot (bytes before after : List ℕ) (status taken : ℕ) : Typ
   pub puts : PutsSaid said before after status taken
 
 -- there is a judge of the job that the bytes spell, that has taken no event
-abbrev pub HasNew : List ℕ → Option Held → Type 0
-HasNew bytes (Some (Held.Judge judge)) = Opens bytes judge
-HasNew bytes (Some (Held.Engine engine)) = ⊥
+abbrev pub HasNew : List ℕ → Option LineJudge → Type 0
 HasNew bytes None = ⊥
+HasNew bytes (Some judge) = Opens bytes judge
 
 -- a new judge is there and nothing is said, with status 0; or the handle is as it was, and it is
 -- said why
-abbrev pub OpensJudge : List ℕ → Option Held → Option Held → List ℕ → List ℕ → ℕ → ℕ → Type 0
+abbrev pub OpensJudge :
+    List ℕ → Option LineJudge → Option LineJudge → List ℕ → List ℕ → ℕ → ℕ → Type 0
 OpensJudge bytes old new before after status taken =
     ((status ≡ 0) × HasNew bytes new × (taken ≡ 0) × (after ≡ before))
     ⊎ ((new ≡ old) × SaysWhyNot bytes before after status taken)
 
 -- there is a judge, of a job that the grammar allows
-abbrev pub CanTake : Option Held → Type 0
-CanTake (Some (Held.Judge judge)) = IsConfig judge.config
-CanTake (Some (Held.Engine engine)) = ⊥
+abbrev pub CanTake : Option LineJudge → Type 0
 CanTake None = ⊥
+CanTake (Some judge) = IsConfig judge.config
 
 -- what a judge knows after a line, of whatever it knew before, and the status that is told
 pub record TakesNext (old : LineJudge) (line : List ℕ) (new : LineJudge)
@@ -134,23 +132,20 @@ pub record TakesNext (old : LineJudge) (line : List ℕ) (new : LineJudge)
       → status ≡ code_of (status_with (event_of c.replicas (words line)) new.broken)
 
 -- the judge took the line
-abbrev pub TakesLine : Option Held → List ℕ → Option Held → ℕ → Type 0
-TakesLine (Some (Held.Judge old)) line (Some (Held.Judge new)) status = TakesNext old line new status
-TakesLine _ line _ status = ⊥
-
--- this is said of the lines that a judge took
-abbrev pub SaysBy : Held → Said → Type 0
-SaysBy (Held.Judge judge) said =
-    (c : Config) (start : ℕ) (past : List Event) → HasTaken c start past judge
-    → said ≡ said_by judge
-SaysBy (Held.Engine engine) said = ⊥
+abbrev pub TakesLine : Option LineJudge → List ℕ → Option LineJudge → ℕ → Type 0
+TakesLine (Some old) line (Some new) status = TakesNext old line new status
+TakesLine (Some old) line None status = ⊥
+TakesLine None line new status = ⊥
 
 -- what is said of the lines that a judge took is put
-pub record SaysSoFar (held : Held) (before after : List ℕ) (status taken : ℕ) : Type 0 where
+pub record SaysSoFar (judge : LineJudge) (before after : List ℕ) (status taken : ℕ) : Type 0 where
   pub said : Said
-  pub says : (said ≡ Said.NoMemory) ⊎ SaysBy held said
+  pub says :
+      (said ≡ Said.NoMemory)
+      ⊎ ((c : Config) (start : ℕ) (past : List Event) → HasTaken c start past judge
+      → said ≡ said_by judge)
   pub puts : PutsSaid said before after status taken
 
-abbrev pub SaysOfJudge : Option Held → List ℕ → List ℕ → ℕ → ℕ → Type 0
+abbrev pub SaysOfJudge : Option LineJudge → List ℕ → List ℕ → ℕ → ℕ → Type 0
 SaysOfJudge None before after status taken = ⊥
-SaysOfJudge (Some held) before after status taken = SaysSoFar held before after status taken
+SaysOfJudge (Some judge) before after status taken = SaysSoFar judge before after status taken

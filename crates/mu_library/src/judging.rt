@@ -1,21 +1,19 @@
 //! A judge in the hands of a C program.
-ghost use Rattle.std.specs.Prelude.{◌≡◌, ◌⊎◌, Some};
-ghost use Rattle.mu_handle.specs.declared.holding.Held.TheVariants.{Judge};
-ghost use Rattle.mu_library.specs.Calls.{CanTake, OpensJudge, PutsSaid, SaysBy, SaysOfJudge, TakesLine};
-ghost use Rattle.mu_report.specs.Said.{IsShort};
+ghost use Rattle.std.specs.Prelude.{◌≡◌, ◌⊎◌, None, Some};
+ghost use Rattle.mu_library.specs.Calls.{CanTake, OpensJudge, PutsSaid, SaysOfJudge, TakesLine};
 ghost use Rattle.mu_report.specs.declared.said.Said.TheVariants.{NoMemory as NoMemorySaid};
 
 use crate::answering::{Answered, no_memory, say};
-use crate::handles::taken_out;
-use mu_handle::{Handle, Held};
+use mu_handle::Handle;
 use mu_judging::LineJudge;
 use mu_model::NoMemory;
 use mu_report::Said;
 use mu_top::INPUT_LIMIT;
 use std::alloc::Global;
+use std::mem::replace;
 
 /// Makes a judge of the job that the bytes spell. With status 0 the handle has it, and nothing is
-/// said; else the handle is as it was, and it is said why. What the handle had is lost.
+/// said; else the handle is as it was, and it is said why. A judge that the handle had is lost.
 pub fn open_judge(alloc: Global, handle: &mut Handle, job: &[u8], out: &mut [u8]) -> Answered
     ensures opens { OpensJudge job.now handle.old.held handle.new.held out.old out.new
         result.status result.taken }
@@ -32,14 +30,14 @@ pub fn open_judge(alloc: Global, handle: &mut Handle, job: &[u8], out: &mut [u8]
 
 /// Keeps the judge in the handle, or says that there was no memory for it.
 fn keep(alloc: Global, handle: &mut Handle, judge: LineJudge, out: &mut [u8]) -> Answered
-    ensures { ((result.status ≡ 0) × (handle.new.held ≡ Some (Judge judge))
-        × (result.taken ≡ 0) × (out.new ≡ out.old))
+    ensures { ((result.status ≡ 0) × (handle.new.held ≡ Some judge) × (result.taken ≡ 0)
+        × (out.new ≡ out.old))
         ⊎ ((handle.new.held ≡ handle.old.held)
         × PutsSaid NoMemorySaid out.old out.new result.status result.taken) }
 {
-    match Box::new(alloc, Held::Judge(judge)) {
-        Ok(held) => {
-            *handle = Handle::of(held);
+    match Box::new(alloc, judge) {
+        Ok(judge) => {
+            *handle = Handle::of(judge);
             Answered {
                 status: 0,
                 taken: 0,
@@ -56,25 +54,10 @@ pub fn take_line(alloc: Global, handle: &mut Handle, line: &[u8]) -> u8
     ensures takes { TakesLine handle.old.held line.now handle.new.held result }
     ensures ready { CanTake handle.new.held }
 {
-    match taken_out(alloc, handle) {
-        Some(mut held) => {
-            let status = taken_by(&mut held, line);
-            *handle = Handle::of(held);
-            status
-        }
-        None => unreachable!(),
-    }
-}
-
-/// Has the judge that is held take a line.
-fn taken_by(held: &mut Held, line: &[u8]) -> u8
-    requires { CanTake (Some held.old) }
-    ensures takes { TakesLine (Some held.old) line.now (Some held.new) result }
-{
-    match held {
-        Held::Judge(judge) => judge.take(line).code(),
-        Held::Engine(_) => unreachable!(),
-    }
+    let mut judge = replace(handle, Handle::none(alloc)).into_box();
+    let status = judge.take(line);
+    *handle = Handle::of(judge);
+    status.code()
 }
 
 /// What is said of the lines so far, and its status. The handle keeps its judge.
@@ -83,24 +66,16 @@ pub fn told_by(alloc: Global, handle: &mut Handle, out: &mut [u8]) -> Answered
     ensures says { SaysOfJudge handle.old.held out.old out.new result.status result.taken }
     ensures kept { handle.new.held ≡ handle.old.held }
 {
-    match taken_out(alloc, handle) {
-        Some(held) => {
-            let said = said_of(&held);
-            *handle = Handle::of(held);
-            say(alloc, said, out)
-        }
-        None => unreachable!(),
-    }
+    let judge = replace(handle, Handle::none(alloc)).into_box();
+    let said = judge.said();
+    *handle = Handle::of(judge);
+    say(alloc, said, out)
 }
 
-/// What the judge that is held says.
-fn said_of(held: &Held) -> Said
-    requires { CanTake (Some held.now) }
-    ensures says { SaysBy held.now result }
-    ensures short { IsShort result }
+/// Lets the judge go, and its memory. The handle has none then.
+pub fn let_go(alloc: Global, handle: &mut Handle)
+    requires { CanTake handle.old.held }
+    ensures { handle.new.held ≡ None }
 {
-    match held {
-        Held::Judge(judge) => judge.said(),
-        Held::Engine(_) => unreachable!(),
-    }
+    drop(replace(handle, Handle::none(alloc)).into_box());
 }
