@@ -1,5 +1,5 @@
 use Rattle.std.proofs.Common.{◌∙◌, sym, subst, List}
-use Rattle.shared_fabric.specs.Gathering.{ArePorts, PortValue}
+use Rattle.shared_fabric.specs.Gathering.{ArePorts, Fabric, PortValue}
 use Rattle.shared_fabric.proofs.Gathers.{staying_is_enough_law}
 use Rattle.worked_rows.proofs.shared_ports.slices_of_ports_keep_one_list.Goals as goal
 
@@ -16,4 +16,5 @@ gather-requires g c =
     let config = c.ports.new.self.config in
     let are = subst (λ (l : List PortValue). ArePorts table config l) (sym (c.in_ok-kept.ensures ∙ c.into_ports.ensures.ports)) c.in_ok-ports.ensures.are in
     let now = staying_is_enough_law table config _ _ are c.acted-ports.ensures in
-    subst (λ (l : List PortValue). ArePorts table config l) (sym (c.of_ports.ensures ∙ c.in_ok-bare.ensures)) now
+    let given = subst (λ (l : List PortValue). ArePorts table config l) (sym (c.of_ports.ensures ∙ c.in_ok-bare.ensures)) now in
+    subst (λ (f : Fabric). ArePorts f.table f.config c.of_ports.result) (sym c.shared.view_is) given
