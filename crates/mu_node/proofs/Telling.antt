@@ -10,7 +10,7 @@ use Rattle.kv_store.specs.declared.store.Reply.{Reply}
 use Rattle.mu_rows.proofs.RowsOnce.{length-from}
 use Rattle.mu_model.specs.declared.config.Config.{Config}
 use Rattle.mu_model.specs.Contents.{includes, is_batch, rest_of, rows_from, rows_in, rows_of}
-use Rattle.mu_model.proofs.Basics.{same_number}
+use Rattle.mu_model.proofs.Basics.{none_of_or, same_number}
 use Rattle.mu_model.proofs.Scans.{rows_in-append}
 use Rattle.mu_follow.specs.Groups.{group_size}
 use Rattle.mu_follow.proofs.Full.{includes_both}
@@ -42,6 +42,15 @@ beside_first x (row ∷ before) after (reply ∷ told) lacks = go (row == x) lac
 -- beside one that is there stands what is in its place
 pub beside_place : (x : ℕ) (rows : List ℕ) (told : List Reply) (at : ℕ) → IsFirstAt x rows at → beside x rows told ≡ slice_get told at
 beside_place x rows told at first = ap (λ l. beside x l told) first.whole ∙ (beside_first x first.before first.after told first.lacks ∙ ap (λ n. slice_get told n) first.count)
+
+-- a row that isn't among those of entries isn't among those of the first of them
+pub lacked_first : (c : Config) (n row : ℕ) (entries : List ℕ) → includes row (rows_in c entries) ≡ false → includes row (rows_in c (take n entries)) ≡ false
+lacked_first c n row entries lacks =
+    let first : List ℕ = rows_in c (take n entries) in
+    let rest : List ℕ = rows_in c (drop n entries) in
+    let whole = ap (λ l. includes row (rows_in c l)) (take-append-drop n entries) in
+    let parts = ap (includes row) (rows_in-append c (take n entries) (drop n entries)) ∙ includes_both row first rest in
+    none_of_or (includes row first) (includes row rest) (sym parts ∙ (whole ∙ lacks))
 
 -- its place after others that aren't it
 first_after : (x : ℕ) (xs ys zs : List ℕ) (at : ℕ) → includes x xs ≡ false → IsFirstAt x ys at → IsFirstAt x (xs ++ (ys ++ zs)) (length xs + at)

@@ -38,7 +38,8 @@ impl Node {
         self.answers.replies()
     }
 
-    /// The reply to the command of a row, once an entry that holds the row is handed on.
+    /// The reply to the command of a row, once an entry that holds the row is handed on. Goes over
+    /// the entries only if an applied one holds the row.
     pub fn reply_to(&self, row: u16) -> Option<Reply>
         ensures { (c : Config) → (r : ℕ) → (mine : List SomeEvent) → (commands : List Request)
             → IsConfig c → IsPossible c r mine → AreSpelled c commands
@@ -47,6 +48,9 @@ impl Node {
             ≡ beside row (rows_in c (take (handed_before c r mine) (applied c r mine)))
             (replies (groups_of c commands (take (handed_before c r mine) (applied c r mine)))) }
     {
+        if !self.follow.has_applied(row) {
+            return None;
+        }
         match place_in(self.follow.config(), self.handed_on(), row) {
             Some(at) => self.answers.reply(at),
             None => None,

@@ -1,14 +1,21 @@
-use Rattle.std.proofs.Common.{◌∙◌, ap, arith, subst, sym, take}
+use Rattle.std.proofs.Common.{rules, ◌≡◌, ◌∙◌, ap, arith, false, subst, sym, take}
 use Rattle.std.specs.List.{slice_get}
 use Rattle.kv_store.specs.Tables.{replies}
-use Rattle.mu_model.specs.Contents.{rows_in}
+use Rattle.mu_model.specs.Contents.{includes, rows_in}
 use Rattle.mu_model.specs.Knowledge.{applied}
 use Rattle.mu_follow.specs.Groups.{groups_of}
 use Rattle.mu_node.specs.Cycle.{handed_before}
 use Rattle.mu_node.specs.Telling.{TellsPlace}
 use Rattle.mu_node.proofs.FewRows.{few_rows_first}
-use Rattle.mu_node.proofs.Telling.{beside_none, beside_place, told_of}
+use Rattle.mu_node.proofs.Telling.{beside_none, beside_place, lacked_first, told_of}
 use Rattle.mu_node.proofs.node.Node.reply_to.Goals as goal
+
+pub returns-then-not-has_applied : goal.returns-then-not-has_applied
+returns-then-not-has_applied c k r mine commands good possible are held =
+    let n = handed_before k r mine in
+    let told = replies (groups_of k commands (take n (applied k r mine))) in
+    let none : includes c.args.row (rows_in k (applied k r mine)) ≡ false = sym (c.has_applied.ensures k r mine good held.beside.follow) ∙ search rules in
+    sym (beside_none c.args.row (rows_in k (take n (applied k r mine))) told (lacked_first k n c.args.row (applied k r mine) none))
 
 pub returns-in-Some : goal.returns-in-Some
 returns-in-Some c k r mine commands good possible are held =
