@@ -47,7 +47,7 @@ entry_below c v j good above = go (is_batch c v) refl
     go true batch = let within = batch_within c good (rest_of c (v % 4096)) (v % 4096) (row_within c v batch) refl in from_below (rest_of c (v % 4096) + 1) (v % 4096) j (omega (arith, within, above))
     go false batch = refl
 
-entries_below : (c : Config) (values : List ℕ) (j : ℕ) → IsConfig c → row_count c ≤ j → includes j (rows_in c values) ≡ false
+pub entries_below : (c : Config) (values : List ℕ) (j : ℕ) → IsConfig c → row_count c ≤ j → includes j (rows_in c values) ≡ false
 entries_below c [] j good above = refl
 entries_below c (v ∷ values) j good above = includes_both j (rows_of c v) (rows_in c values) ∙ (ap (λ t. t || includes j (rows_in c values)) (entry_below c v j good above) ∙ entries_below c values j good above)
 

@@ -3,7 +3,7 @@ ghost use Rattle.std.specs.Prelude.{Bool, IfOk, List, None, Some, [], if◌then�
 ghost use Rattle.mu_model.specs.Growing.{with_more};
 ghost use Rattle.mu_model.specs.declared.config.Config.{Config};
 ghost use Rattle.mu_model.specs.declared.config.Row.{Row as SomeRow};
-ghost use Rattle.mu_model.specs.Contents.{IsConfig, includes, row_count, rows_of};
+ghost use Rattle.mu_model.specs.Contents.{IsConfig, includes, row_count, rows_in, rows_of};
 ghost use Rattle.mu_model.specs.Histories.{all_below};
 ghost use Rattle.mu_follow.specs.Completion.{AreEntries, HasRoomForMark, HoldsCompletion, IsFirstMissing, MarksRows, full_of};
 
@@ -159,6 +159,17 @@ impl Completion {
     {
         while self.counted < applied && self.counted < values.len() && self.counted < 65_536 {
             self.count(config, values[self.counted]);
+        }
+    }
+
+    /// Whether one of the counted entries holds the row. None holds a row beyond those of the job.
+    pub fn holds(&self, row: u16) -> bool
+        ensures { (c : Config) → (values : List ℕ) → IsConfig c → HoldsCompletion c values self.now
+            → result ≡ includes row (rows_in c values) }
+    {
+        match self.held.get(usize::from(row)) {
+            None => false,
+            Some(is_held) => *is_held,
         }
     }
 

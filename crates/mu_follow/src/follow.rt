@@ -4,7 +4,7 @@ ghost use Rattle.std.specs.List.{slice_get};
 ghost use Rattle.mu_model.specs.declared.config.Config.{Config};
 ghost use Rattle.mu_model.specs.declared.event.Event.{Event};
 ghost use Rattle.mu_model.specs.Allowed.{Allowed};
-ghost use Rattle.mu_model.specs.Contents.{IsConfig, row_count};
+ghost use Rattle.mu_model.specs.Contents.{IsConfig, includes, row_count, rows_in};
 ghost use Rattle.mu_model.specs.Ends.{full_length, is_full, outrun};
 ghost use Rattle.mu_model.specs.Knowledge.{applied, commits, has_row, known};
 ghost use Rattle.mu_model.specs.Parts.{IsPossible};
@@ -227,6 +227,15 @@ impl Follow {
             → result ≡ (if is_full c r mine then Some (full_length c r mine) else None) }
     {
         self.completion.full()
+    }
+
+    /// Whether an applied entry holds the row. Looks at one mark.
+    pub fn has_applied(&self, row: u16) -> bool
+        ensures { (c : Config) → (r : ℕ) → (mine : List Event) → IsConfig c
+            → StandsForFollow c r mine self.now
+            → result ≡ includes row (rows_in c (applied c r mine)) }
+    {
+        self.completion.holds(row)
     }
 
     /// The replica's own head.

@@ -1,5 +1,5 @@
 //! The entry that is to be applied next, and the commands that it stands for.
-ghost use Rattle.std.specs.Prelude.{IfSome, List, None, Some, MatchOption, take, ℕ, ◌+◌, ◌<◌, ◌≡◌};
+ghost use Rattle.std.specs.Prelude.{IfSome, List, None, Some, MatchOption, drop, length, take, ℕ, ◌+◌, ◌<◌, ◌≡◌, ◌≤◌};
 ghost use Rattle.std.specs.List.{slice_get};
 ghost use Rattle.kv_store.specs.Commands.{Request};
 ghost use Rattle.mu_model.specs.declared.config.Config.{Config};
@@ -36,6 +36,13 @@ pub fn group_size(config: &Config, v: u16) -> u16
     }
 }
 
+/// The values after the first ones, or none if there are no more.
+fn values_after(values: &[u16], count: usize) -> &[u16]
+    ensures { count ≤ length values.now → result.now ≡ drop count values.now }
+{
+    &values[count.min(values.len())..]
+}
+
 impl Follow {
     /// The entry that is to be applied next: the first that was not applied yet, if all its rows
     /// are written or read. Takes no memory.
@@ -66,6 +73,15 @@ impl Follow {
             → result.now ≡ take self.now.progress.handed (applied c r mine) }
     {
         first_values(self.known(), self.progress.handed)
+    }
+
+    /// The entries that are applied and were not handed on yet, in order.
+    pub fn to_hand_on(&self) -> &[u16]
+        ensures { (c : Config) → (r : ℕ) → (mine : List Event) → StandsForFollow c r mine self.now
+            → result.now ≡ drop self.now.progress.handed (applied c r mine) }
+    {
+        let applied = first_values(self.known(), self.rows.applied_length());
+        values_after(applied, self.progress.handed)
     }
 
     /// The command that a row spells, by its twelve words as the replica wrote or read them, and

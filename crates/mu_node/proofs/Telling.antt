@@ -10,7 +10,7 @@ use Rattle.kv_store.specs.declared.store.Reply.{Reply}
 use Rattle.mu_rows.proofs.RowsOnce.{length-from}
 use Rattle.mu_model.specs.declared.config.Config.{Config}
 use Rattle.mu_model.specs.Contents.{includes, is_batch, rest_of, rows_from, rows_in, rows_of}
-use Rattle.mu_model.proofs.Basics.{same_number}
+use Rattle.mu_model.proofs.Basics.{none_of_or, or_true, same_number, true_or}
 use Rattle.mu_model.proofs.Scans.{rows_in-append}
 use Rattle.mu_follow.specs.Groups.{group_size}
 use Rattle.mu_follow.proofs.Full.{includes_both}
@@ -42,6 +42,15 @@ beside_first x (row ∷ before) after (reply ∷ told) lacks = go (row == x) lac
 -- beside one that is there stands what is in its place
 pub beside_place : (x : ℕ) (rows : List ℕ) (told : List Reply) (at : ℕ) → IsFirstAt x rows at → beside x rows told ≡ slice_get told at
 beside_place x rows told at first = ap (λ l. beside x l told) first.whole ∙ (beside_first x first.before first.after told first.lacks ∙ ap (λ n. slice_get told n) first.count)
+
+-- a row that isn't among those of entries isn't among those of the first of them
+pub lacked_first : (c : Config) (n row : ℕ) (entries : List ℕ) → includes row (rows_in c entries) ≡ false → includes row (rows_in c (take n entries)) ≡ false
+lacked_first c n row entries lacks =
+    let first : List ℕ = rows_in c (take n entries) in
+    let rest : List ℕ = rows_in c (drop n entries) in
+    let whole = ap (λ l. includes row (rows_in c l)) (take-append-drop n entries) in
+    let parts = ap (includes row) (rows_in-append c (take n entries) (drop n entries)) ∙ includes_both row first rest in
+    none_of_or (includes row first) (includes row rest) (sym parts ∙ (whole ∙ lacks))
 
 -- its place after others that aren't it
 first_after : (x : ℕ) (xs ys zs : List ℕ) (at : ℕ) → includes x xs ≡ false → IsFirstAt x ys at → IsFirstAt x (xs ++ (ys ++ zs)) (length xs + at)
@@ -108,6 +117,24 @@ rows_split c entries i v at =
     ∙ (ap (λ l. rows_in c l ++ rest) (take_more i entries v at)
     ∙ (ap (λ l. l ++ rest) (rows_in-append c (take i entries) (v ∷ []) ∙ ap (λ l. rows_in c (take i entries) ++ l) (append-nil (rows_of c v))) ∙ append_assoc (rows_in c (take i entries)) (rows_of c v) rest)))
 
+-- a row that is among those of one of the entries
+pub row_here : (c : Config) (entries : List ℕ) (row i v at : ℕ) → slice_get entries i ≡ Some v → IsFirstAt row (rows_of c v) at → includes row (rows_in c entries) ≡ true
+row_here c entries row i v at there first =
+    let before : List ℕ = rows_in c (take i entries) in
+    let rest : List ℕ = rows_in c (drop (i + 1) entries) in
+    let own = ap (includes row) first.whole ∙ (includes_both row first.before (row ∷ first.after) ∙ or_true (includes row first.before) (includes row (row ∷ first.after)) (ap (λ t. if t then true else includes row first.after) (same_number row))) in
+    let later = includes_both row (rows_of c v) rest ∙ true_or (includes row (rows_of c v)) (includes row rest) own in
+    ap (includes row) (rows_split c entries i v there) ∙ (includes_both row before (rows_of c v ++ rest) ∙ or_true (includes row before) (includes row (rows_of c v ++ rest)) later)
+
+-- the rows of one entry more
+rows_more : (c : Config) (entries : List ℕ) (i v : ℕ) → slice_get entries i ≡ Some v → rows_in c (take (i + 1) entries) ≡ rows_in c (take i entries) ++ rows_of c v
+rows_more c entries i v at = ap (rows_in c) (take_more i entries v at) ∙ (rows_in-append c (take i entries) (v ∷ []) ∙ ap (λ l. rows_in c (take i entries) ++ l) (append-nil (rows_of c v)))
+
+-- a row that isn't among those of the first entries, nor of the next one
+pub lacked_next : (c : Config) (entries : List ℕ) (row i v : ℕ) → slice_get entries i ≡ Some v → includes row (rows_in c (take i entries)) ≡ false → includes row (rows_of c v) ≡ false → includes row (rows_in c (take (i + 1) entries)) ≡ false
+lacked_next c entries row i v at first lacks =
+    ap (includes row) (rows_more c entries i v at) ∙ (includes_both row (rows_in c (take i entries)) (rows_of c v) ∙ (ap (λ t. t || includes row (rows_of c v)) first ∙ lacks))
+
 -- the row isn't among those of the first entries, which have so many rows
 pub record Passed (c : Config) (entries : List ℕ) (row i before : ℕ) : Type 0 where
   pub count : before ≡ length (rows_in c (take i entries))
@@ -118,10 +145,10 @@ none_passed c entries row = record { count = refl; lacks = refl }
 
 pub passed_next : (c : Config) (entries : List ℕ) (row i v before after : ℕ) → slice_get entries i ≡ Some v → Passed c entries row i before → includes row (rows_of c v) ≡ false → after ≡ before + group_size c v → Passed c entries row (i + 1) after
 passed_next c entries row i v before after at passed lacks is =
-    let more = ap (rows_in c) (take_more i entries v at) ∙ (rows_in-append c (take i entries) (v ∷ []) ∙ ap (λ l. rows_in c (take i entries) ++ l) (append-nil (rows_of c v))) in
+    let more = rows_more c entries i v at in
     record {
       count = (let long = ap length more in let both = length-append (rows_in c (take i entries)) (rows_of c v) in let one = group_long c v in let was = passed.count in omega (arith, long, both, one, was, is));
-      lacks = ap (includes row) more ∙ (includes_both row (rows_in c (take i entries)) (rows_of c v) ∙ (ap (λ t. t || includes row (rows_of c v)) passed.lacks ∙ lacks));
+      lacks = lacked_next c entries row i v at passed.lacks lacks;
     }
 
 -- what was passed and the next entry are not more than all

@@ -5,7 +5,7 @@ ghost use Rattle.kv_store.specs.Commands.{Request};
 ghost use Rattle.kv_store.specs.Tables.{replies};
 ghost use Rattle.mu_model.specs.declared.config.Config.{Config};
 ghost use Rattle.mu_model.specs.declared.event.Event.{Event as SomeEvent};
-ghost use Rattle.mu_model.specs.Contents.{IsConfig, rows_in, rows_of};
+ghost use Rattle.mu_model.specs.Contents.{IsConfig, includes, rows_in, rows_of};
 ghost use Rattle.mu_model.specs.Knowledge.{applied};
 ghost use Rattle.mu_model.specs.Parts.{IsPossible};
 ghost use Rattle.mu_follow.specs.Groups.{AreSpelled, groups_of};
@@ -38,7 +38,8 @@ impl Node {
         self.answers.replies()
     }
 
-    /// The reply to the command of a row, once an entry that holds the row is handed on.
+    /// The reply to the command of a row, once an entry that holds the row is handed on. Before that
+    /// it looks at one mark, and at the few entries that are applied and still to hand on.
     pub fn reply_to(&self, row: u16) -> Option<Reply>
         ensures { (c : Config) → (r : ℕ) → (mine : List SomeEvent) → (commands : List Request)
             → IsConfig c → IsPossible c r mine → AreSpelled c commands
@@ -47,6 +48,12 @@ impl Node {
             ≡ beside row (rows_in c (take (handed_before c r mine) (applied c r mine)))
             (replies (groups_of c commands (take (handed_before c r mine) (applied c r mine)))) }
     {
+        if !self.follow.has_applied(row) {
+            return None;
+        }
+        if is_among(self.follow.config(), self.follow.to_hand_on(), row) {
+            return None;
+        }
         match place_in(self.follow.config(), self.handed_on(), row) {
             Some(at) => self.answers.reply(at),
             None => None,
@@ -68,6 +75,19 @@ fn place_in_entry(config: &Config, v: u16, row: u16) -> Option<usize>
     } else {
         None
     }
+}
+
+/// Whether the row is one of those of the entries.
+fn is_among(config: &Config, entries: &[u16], row: u16) -> bool
+    ensures { result ≡ includes row (rows_in config.now entries.now) }
+{
+    for i in 0..entries.len() {
+        let v = entries[i];
+        if let Some(_at) = place_in_entry(config, v, row) {
+            return true;
+        }
+    }
+    false
 }
 
 /// Where the row stands for the first time among those of the entries.
