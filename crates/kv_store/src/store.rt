@@ -111,7 +111,8 @@ fn look_up(texts: &Texts, key: &Key) -> Option<Text>
     texts.get(key).copied()
 }
 
-/// Sets a text, and answers the one before.
+/// Sets a text, and answers the one before. Inlined, since a `Put` has no use for that.
+#[inline(always)]
 fn set(texts: &mut Texts, key: Key, text: Text) -> Option<Text>
     requires { 0 < spare texts.old }
     ensures before { result ≡ map.get (table_of texts.old) key }

@@ -51,6 +51,7 @@ fn of_kind(kind: OpKind, key: &[u8], texts: &[&[u8]]) -> Result<Op, u8>
     }
 }
 
+#[inline(always)]
 fn with_text(kind: OpKind, key: &[u8], text: &[u8]) -> Result<Op, u8>
     ensures reading { Tells result (judged kind key.now (Some (Arguments.Text text.now))) }
     ensures short { IfOk result HasShortTexts }
