@@ -19,7 +19,7 @@ use mu_model::{Config, Journal, NoMemory, Script, Sequence};
 use mu_port::Memory;
 use std::alloc::Global;
 use std::marker::Model;
-use word_fabric::{WordFabric, WordPort};
+use word_fabric::{GrowingFabric, GrowingPort};
 
 /// The version of the protocol that an engine runs.
 const VERSION: u8 = 2;
@@ -35,7 +35,7 @@ pub struct Engine {
     pub(crate) config: Config,
     pub(crate) commands: Vec<Command>,
     pub(crate) room: u16,
-    pub(crate) port: WordPort,
+    pub(crate) port: GrowingPort,
     pub(crate) seats: Vec<Seat>,
 }
 
@@ -88,7 +88,7 @@ impl Engine {
         let job = first_job(alloc, shape);
         let commands = Vec::with_capacity(alloc, usize::from(shape.room))?;
         let seats = seats(alloc, &job)?;
-        let memory = WordFabric::start_with_room(alloc, &job.config, shape.room)?;
+        let memory = GrowingFabric::start(alloc, &job.config, shape.room)?;
         let Job {
             config,
             commands: _,

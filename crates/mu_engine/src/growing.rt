@@ -9,7 +9,7 @@ ghost use Rattle.mu_engine.specs.Seats.{AreSeated, hold_of};
 use crate::seat::Seat;
 use mu_model::{Config, NoMemory, Row, Sequence};
 use std::alloc::Global;
-use word_fabric::WordPort;
+use word_fabric::GrowingPort;
 
 /// The configuration with one row more, for all that keep a copy of it.
 #[derive(Drop)]
@@ -79,7 +79,7 @@ impl Copies {
 }
 
 /// Makes room for one row more in each replica. Takes memory; without it all stands as it did.
-pub(crate) fn make_room(seats: &mut [Seat], _port: &WordPort) -> Result<(), NoMemory>
+pub(crate) fn make_room(seats: &mut [Seat], _port: &GrowingPort) -> Result<(), NoMemory>
     requires config { IsConfig _port.now.config }
     requires seated { AreSeated _port.now.config _port.now.events seats.old }
     ensures seated { AreSeated _port.now.config _port.now.events seats.new }
@@ -96,7 +96,7 @@ pub(crate) fn make_room(seats: &mut [Seat], _port: &WordPort) -> Result<(), NoMe
 /// no memory.
 pub(crate) fn grow(
     seats: &mut [Seat],
-    port: &WordPort,
+    port: &GrowingPort,
     row: &Row,
     mut copies: Vec<(Config, Config)>,
 )

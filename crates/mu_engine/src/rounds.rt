@@ -8,10 +8,10 @@ ghost use Rattle.mu_engine.specs.Rounds.{IsRound};
 ghost use Rattle.mu_engine.specs.Seats.{AreSeated, hold_of};
 
 use crate::seat::Seat;
-use word_fabric::WordPort;
+use word_fabric::GrowingPort;
 
 /// One round.
-pub(crate) fn play_round(port: &mut WordPort, seats: &mut [Seat])
+pub(crate) fn play_round(port: &mut GrowingPort, seats: &mut [Seat])
     requires config { IsConfig port.old.config }
     requires seated { AreSeated port.old.config port.old.events seats.old }
     ensures config { port.new.config ≡ port.old.config }

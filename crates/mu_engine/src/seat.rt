@@ -14,7 +14,7 @@ use mu_input::Job;
 use mu_model::{Config, NoMemory, Row};
 use mu_node::{Node, Zeal};
 use std::alloc::Global;
-use word_fabric::WordPort;
+use word_fabric::GrowingPort;
 
 /// A replica, and what keeps it from its turns.
 #[derive(Drop)]
@@ -25,7 +25,7 @@ pub(crate) struct Seat {
 
 impl Seat {
     /// Its turn in a round, if nothing keeps it from that: the memory is passed to it.
-    pub(crate) fn play(&mut self, port: &mut WordPort)
+    pub(crate) fn play(&mut self, port: &mut GrowingPort)
         requires config { IsConfig port.old.config }
         requires inside { self.old.node.id < port.old.config.replicas }
         requires sits { Sits port.old.config self.old.node.id port.old.events self.old }
@@ -47,7 +47,7 @@ impl Seat {
 
     /// Goes over to a configuration with one row more, before the memory does. Takes no memory. The
     /// memory and the row are only for the clauses.
-    pub(crate) fn grow(&mut self, _port: &WordPort, _row: &Row, config: Config, copy: Config)
+    pub(crate) fn grow(&mut self, _port: &GrowingPort, _row: &Row, config: Config, copy: Config)
         ghost growth: { Growth }
         requires is { growth ≡ growth_of _port.now.config _row.now self.old.node.id
             _port.now.events }

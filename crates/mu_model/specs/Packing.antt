@@ -161,7 +161,8 @@ first_word f answer by =
 -- the fields of a verb in a first word
 abbrev pub fields_in : ℕ → VerbFields
 fields_in word =
-    fields (word % 32) (word / 131072 % 256) (word / 33554432 % 65536) (word / 2199023255552 % 65536)
+    fields (word % 32) (word / 131072 % 256) (word / 33554432 % 65536)
+    (word / 2199023255552 % 65536)
 
 -- the two words of an event
 abbrev pub packed_of : Event → EventWords

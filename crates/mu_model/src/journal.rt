@@ -58,6 +58,7 @@ impl Journal {
     }
 
     /// The event at this place, which is there.
+    #[inline(always)]
     pub fn at(&self, place: usize) -> Event
         requires { place < length self.now.events }
         ensures { slice_get self.now.events place ≡ Some result }

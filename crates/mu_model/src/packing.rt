@@ -90,6 +90,7 @@ fn target_place(target: Target) -> u16
 }
 
 /// The target of this kind and place.
+#[inline(always)]
 fn target_in(kind: u16, place: u16) -> Target
     ensures { result ≡ target_of kind place }
 {
@@ -157,6 +158,7 @@ fn own_word(verb: Verb) -> Option<u64>
 }
 
 /// The verb of these fields and this second word.
+#[inline(always)]
 fn verb_in(fields: VerbFields, word: u64) -> Verb
     ensures { result ≡ verb_of_fields fields word }
 {
@@ -227,6 +229,7 @@ fn fence_word(fence: Fence) -> u64
 }
 
 /// The fence of a word.
+#[inline(always)]
 fn fence_in(word: u64) -> Fence
     ensures { result ≡ fence_in_word word }
 {
@@ -278,6 +281,7 @@ fn answer_word(answer: Answer) -> u64
 }
 
 /// The answer of this number and this second word.
+#[inline(always)]
 fn answer_in(number: u8, word: u64) -> Answer
     ensures { result ≡ answer_in_word number word }
 {
@@ -311,6 +315,7 @@ fn first_word(fields: VerbFields, answer: u8, by: u8) -> u64
 }
 
 /// The fields of a verb in a first word.
+#[inline(always)]
 fn fields_in(word: u64) -> VerbFields
     ensures { result ≡ fields_in_word word }
 {
@@ -336,6 +341,7 @@ pub(crate) fn packed(event: Event) -> EventWords
 }
 
 /// The event of two words.
+#[inline(always)]
 pub(crate) fn unpacked(words: EventWords) -> Event
     ensures { result ≡ unpacked_of words }
 {

@@ -23,7 +23,8 @@ events_of (Some journal) = journal.events
 abbrev pub job_lines : Config → List Request → Script → List (List ℕ)
 job_lines config commands script =
     setting_lines config
-    ++ (client_lines commands 0 (client_count 0 commands) ++ (script_lines script ++ codes "end" ∷ []))
+    ++ (client_lines commands 0 (client_count 0 commands)
+    ++ (script_lines script ++ codes "end" ∷ []))
 
 -- the trace of a job, given by its parts
 abbrev pub lines_of_parts : Config → List Request → Script → List Event → List (List ℕ)

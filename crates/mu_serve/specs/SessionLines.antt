@@ -81,4 +81,5 @@ abbrev pub IsInReach : ℕ → SessionLine → Type 0
 IsInReach replicas (Client client) = client < MOST_CLIENTS
 IsInReach replicas (Operation op) = HasShortTexts op
 IsInReach replicas (Stop replica) = replica < replicas
-IsInReach replicas (Pause replica rounds) = (replica < replicas) × (1 ≤ rounds) × (rounds ≤ MOST_ROUNDS)
+IsInReach replicas (Pause replica rounds) =
+    (replica < replicas) × (1 ≤ rounds) × (rounds ≤ MOST_ROUNDS)

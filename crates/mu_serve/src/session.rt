@@ -160,7 +160,8 @@ impl Session {
         requires count { self.old.count + 1 < 2 ^ 32 }
         requires there { replica < self.old.live.job.config.replicas }
         ensures { IfOk result (λ responses.
-            AnswersSaid (SaysLine (saying.Pause replica rounds)) self.old responses.items self.new) }
+            AnswersSaid (SaysLine (saying.Pause replica rounds)) self.old responses.items
+            self.new) }
     {
         let _config = self.engine.config();
         if self.engine.hold_of(replica).stopped {

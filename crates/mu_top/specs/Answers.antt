@@ -65,8 +65,8 @@ Tells (Some (Asked.Input task)) left now before after said =
 Tells (Some (Asked.Bulk count)) left now before after said =
     Sums count said × (now ≡ left) × (after ≡ before)
 
--- what the words ask for is answered, the text of the answer is written, and the program ends with this
--- status
+-- what the words ask for is answered, the text of the answer is written, and the program ends with
+-- this status
 pub record Ends (asked : Option Asked) (left left_now : Option (List ℕ)) (read read_now : ℕ)
     (written written_now : Option (List ℕ)) (wrote wrote_now status : ℕ) : Type 0 where
   pub said : Said
@@ -79,7 +79,8 @@ abbrev pub EndsAs : Option ℕ → Option Asked → Option (List ℕ) → Option
     → Option (List ℕ) → Option (List ℕ) → ℕ → ℕ → ℕ → Type 0
 EndsAs None asked left left_now read read_now written written_now wrote wrote_now status =
     Ends asked left left_now read read_now written written_now wrote wrote_now status
-EndsAs (Some replicas) asked left left_now read read_now written written_now wrote wrote_now status =
+EndsAs (Some replicas) asked left left_now read read_now written written_now wrote wrote_now
+    status =
     IsServed replicas left left_now read read_now written written_now wrote wrote_now status
 
 -- the usage is written, and the program ends with this status

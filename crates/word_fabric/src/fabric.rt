@@ -3,7 +3,7 @@ ghost use Rattle.std.specs.Prelude.{◌≡◌, [], IfOk};
 
 use crate::making::make_step;
 use mu_model::{Answer, Config, Event, Journal, NoMemory, Verb};
-use mu_port::{Memory, MemoryPort};
+use mu_port::Memory;
 use mu_words::{Found, Layout};
 use std::alloc::Global;
 use std::marker::Model;
@@ -59,7 +59,7 @@ impl WordFabric {
     /// word, what it expects, answers and leaves, and what is noted. Looking at the verb for each of
     /// these took a fifth of a replay.
     #[inline(always)]
-    fn make(&mut self, by: u8, verb: Verb) -> Answer
+    pub(crate) fn make(&mut self, by: u8, verb: Verb) -> Answer
         requires { Allowed self.old.config by (part by (history self.old.events)) verb }
         ensures answer { result ≡ answer_of self.old.config by (history self.old.events) verb }
         ensures events { self.new.events
@@ -133,6 +133,3 @@ impl Memory for WordFabric {
         kept
     }
 }
-
-/// The access of one replica to a fabric of words.
-pub type WordPort = MemoryPort<WordFabric>;

@@ -8,4 +8,5 @@ mod adding;
 mod fabric;
 mod making;
 
-pub use fabric::{WordFabric, WordPort};
+pub use adding::{GrowingFabric, GrowingPort};
+pub use fabric::WordFabric;

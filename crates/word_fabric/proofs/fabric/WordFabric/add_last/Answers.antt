@@ -3,7 +3,7 @@ use Rattle.mu_model.specs.Contents.{row_count}
 use Rattle.mu_port.specs.Growing.{IsGrown}
 use Rattle.mu_port.specs.Keeping.{Kept}
 use Rattle.word_fabric.proofs.Growing.{kept_grown}
-use Rattle.word_fabric.proofs.adding.WordFabricGrowingMemory.add_last.Goals as goal
+use Rattle.word_fabric.proofs.fabric.WordFabric.add_last.Goals as goal
 
 pub invariant_of-self : goal.invariant_of-self
 invariant_of-self c =
