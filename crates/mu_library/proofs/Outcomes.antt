@@ -7,7 +7,7 @@ use Rattle.mu_input.specs.declared.job.InputEnd.{InputEnd}
 use Rattle.mu_handle.specs.declared.holding.Held.{Held}
 use Rattle.mu_judging.specs.LineJudges.{said_by, HasTaken, IsEndOfJob, Opens}
 use Rattle.mu_judging.specs.declared.line_judge.LineJudge.{LineJudge}
-use Rattle.mu_library.specs.Calls.{Answers, CanTake, Draws, EndsJob, HasNew, OpensJudge, PutsSaid, PutsTold, SaysSoFar, TakesHeld}
+use Rattle.mu_library.specs.Calls.{Answers, CanTake, Draws, EndsJob, HasNew, OpensJudge, PutsSaid, PutsTold, SaysSoFar}
 use Rattle.mu_model.specs.Contents.{IsConfig}
 use Rattle.mu_model.specs.declared.config.Config.{Config}
 use Rattle.mu_outcome.specs.Statuses.{code_of}
@@ -66,9 +66,3 @@ ready bytes old new before after status taken (inr (same, why)) zero_is = absurd
     by_said Said.TooLong ends is = let clash : 8 ≡ 0 = is in omega (arith, clash)
     by_said Said.NoMemory ends is = let clash : 6 ≡ 0 = is in omega (arith, clash)
     by_said said ends is = absurd ends
-
--- what is held can take another line after one
-pub still_ready : (old new : Held) (line : List ℕ) (status : ℕ) → CanTake (Some old) → TakesHeld old line new status → CanTake (Some new)
-still_ready (Held.Judge old) (Held.Judge new) line status can takes = subst (λ k. IsConfig k) (sym takes.config) can
-still_ready (Held.Judge old) (Held.Engine new) line status can takes = tt
-still_ready (Held.Engine old) new line status can takes = subst (λ held. CanTake (Some held)) (sym takes.1) tt
