@@ -1,5 +1,5 @@
 -- What a line says decides what becomes of it.
-use Rattle.std.proofs.Common.{◌≡◌, ◌<◌, ◌≤◌, ℕ, List, inl, inr, subst, sym}
+use Rattle.std.proofs.Common.{◌≡◌, ◌≤◌, ℕ, List, inl, subst, sym}
 use Rattle.kv_store.specs.declared.command.Op.{Op}
 use Rattle.mu_engine.specs.Live.{Live}
 use Rattle.mu_input.specs.Operations.{operation_of}

@@ -63,7 +63,10 @@ fn an_engine_replies_after_its_leader_stopped(rt: HostRuntime) -> Result<(), Fai
     let mut handle = Handle::none(alloc);
     assert_eq!(rt; opened(alloc, &mut handle), 0);
     assert_eq!(rt; is_replied(alloc, &mut handle, (0, "put a 5", 1, "")), true);
-    assert_eq!(rt; is_replied(alloc, &mut handle, (1, "swap a 6", 2, "5")), true);
+    assert_eq!(rt;
+        is_replied(alloc, &mut handle, (1, "swap a 6", 2, "5")),
+        true
+    );
     assert_eq!(rt; disturbed(alloc, &mut handle), (0, 0));
     assert_eq!(rt; is_replied(alloc, &mut handle, (2, "get a", 2, "6")), true);
     assert_eq!(rt; one_more(alloc, &mut handle), 9);
