@@ -1,26 +1,26 @@
-/* mu.h: the proved judge, and what the program `mu` says, in your own process.
+/* mu.h: the proved judge, a live engine, and what the program `mu` says, in your own process.
  *
  * `./library` builds out/libmu.a and out/libmu.so. A C program uses them as
  *
  *     cc -std=c11 -Ic yours.c out/libmu.a -o yours
  *
- * The calls print nothing, make no thread, and keep nothing between calls but the judges that they
- * hand out. Want of memory is an answer, MU_NO_MEMORY.
+ * The calls print nothing, make no thread, and keep nothing between calls but the judges and engines
+ * that they hand out. Want of memory is an answer, MU_NO_MEMORY.
  *
  * A text goes to the room that you give: its first `room` bytes stand in `out`, and `*taken` is how
  * many bytes the whole text has. If that is more than `room`, give more room and call again. No text
  * ends with a zero byte. `room` may be 0.
  *
  * What you owe, and nobody checks:
- * - No pointer is null, not even beside a length of 0. `input`, `job` and `line` have `length` bytes,
- *   `out` has `room` bytes, and nothing that a call writes overlaps with anything else that it got.
- * - A `mu_judge` is MU_NO_JUDGE, or as the last call left it. It isn't copied. mu_judge_take,
- *   mu_judge_why and mu_judge_free get one that mu_judge_new made with MU_DONE and that wasn't freed
- *   since; mu_judge_new gets one without a judge, since a judge that it had would be lost, with its
- *   memory: free that first.
- * - One call at a time uses a judge. It may go from thread to thread, if a lock, a thread's start or
- *   join, or a sequentially consistent atomic orders the calls. Calls on other judges, and mu_answer
- *   and mu_draw_answer, may go on beside it.
+ * - No pointer that a call gets is null, not even beside a length of 0. `input`, `job` and `line` have
+ *   `length` bytes, `out` has `room` bytes, and nothing that a call writes overlaps with anything else
+ *   that it got.
+ * - A `mu_judge` is MU_NO_JUDGE and a `mu_engine` MU_NO_ENGINE, or as the last call left it. Neither is
+ *   copied. mu_judge_new and mu_engine_new get one that has nothing, since what it had would be lost,
+ *   with its memory: free that first.
+ * - One call at a time uses a judge or an engine. It may go from thread to thread, if a lock, a
+ *   thread's start or join, or a sequentially consistent atomic orders the calls. Calls on others, and
+ *   mu_answer and mu_draw_answer, may go on beside it.
  * - malloc, realloc and free are those of one allocator, and give blocks that are aligned to 16
  *   bytes, or to the largest power of two that divides their size. No call is made in a signal
  *   handler, or in the child of a process that had threads. */
@@ -34,15 +34,18 @@
 extern "C" {
 #endif
 
-/* How a call ends: the statuses of the programs. */
+/* How a call ends: the statuses of the programs, and from 9 on those of an engine. */
 enum mu_status {
     MU_DONE = 0,       /* all commands are in the longest log, the list is legal, or it is drawn */
-    MU_USAGE = 1,      /* no such task, no such number, or no such steps */
+    MU_USAGE = 1,      /* no such task, number, steps, client, replica or row, or no judge or engine */
     MU_REFUSED = 2,    /* the input isn't in the grammar */
-    MU_UNFINISHED = 3, /* some command isn't in the longest log */
+    MU_UNFINISHED = 3, /* some command isn't in the longest log, or there is no reply yet */
     MU_NO_MEMORY = 6,
     MU_ILLEGAL = 7,    /* the list of events isn't legal, or what clients saw is wrong */
-    MU_TOO_LONG = 8    /* a job of more than 1,048,576 bytes, or a trace of more than 67,108,864 */
+    MU_TOO_LONG = 8,   /* a job of more than 1,048,576 bytes, or a trace of more than 67,108,864 */
+    MU_FULL = 9,       /* as many commands were submitted as may be */
+    MU_STOPPED = 10,   /* the replica is stopped */
+    MU_MIXED = 11      /* no text of a job has the commands in this order */
 };
 
 /* What can be asked of an input. */
@@ -75,7 +78,8 @@ uint32_t mu_show_answer(uint32_t events, const void *input, size_t length, void 
 uint32_t mu_draw_answer(uint32_t first, uint32_t last, const void *input, size_t length, void *out,
                         size_t room, size_t *taken);
 
-/* A judge of a list of events that comes line by line. Its memory doesn't grow with the list. */
+/* A judge of a list of events that comes line by line. Its memory doesn't grow with the list. A call on
+ * one that isn't there changes nothing, and answers MU_USAGE. */
 typedef struct mu_judge {
     void *at; /* the library's */
 } mu_judge;
@@ -96,8 +100,65 @@ uint32_t mu_judge_take(mu_judge *judge, const void *line, size_t length);
  * judge keeps no script: it notes no stop that isn't heeded. */
 uint32_t mu_judge_why(mu_judge *judge, void *out, size_t room, size_t *taken);
 
-/* Lets a judge go, with its memory. It is MU_NO_JUDGE then. */
+/* Lets a judge go, with its memory, if there is one. It is MU_NO_JUDGE then. */
 void mu_judge_free(mu_judge *judge);
+
+/* A live engine: replicas in your process, which take commands while they run. docs/ENGINE.md says
+ * what it promises. Nothing runs by itself: each round is a call of yours. A call on one that isn't
+ * there changes nothing, and answers MU_USAGE. */
+typedef struct mu_engine {
+    void *at; /* the library's */
+} mu_engine;
+#define MU_NO_ENGINE { NULL }
+
+/* Starts an engine: 1 to 7 replicas, 8 to 1,024 places of a log, 1 to 131,071 steps of a replica, and
+ * 0 to 1,500 commands that it may take. MU_DONE; or MU_USAGE (a number is out of its limits) or
+ * MU_NO_MEMORY, and `*engine` is as it was. */
+uint32_t mu_engine_new(mu_engine *engine, uint32_t replicas, uint32_t ring, uint32_t budget,
+                       uint32_t commands);
+
+/* Submits the next command of a client, 0 to 15: a line as in a job, without its line feed, such as
+ * `put a 5`. With MU_DONE `*row` is the command's row, from 0 on; else it is 0 and the engine is as it
+ * was: MU_USAGE if there is no such client, MU_REFUSED if the line is no command, MU_FULL if as many
+ * were submitted as may be, or MU_NO_MEMORY; the first of these that is so. */
+uint32_t mu_engine_submit(mu_engine *engine, uint32_t client, const void *line, size_t length,
+                          uint32_t *row);
+
+/* Plays one round: in order of id each replica that is neither stopped nor paused takes one step,
+ * unless its steps are spent or it was outrun. MU_DONE. Wants no memory. */
+uint32_t mu_engine_round(mu_engine *engine);
+
+/* Stops a replica for good. MU_DONE, MU_USAGE if there is no such replica, or MU_STOPPED if it is
+ * stopped already. Wants no memory. */
+uint32_t mu_engine_stop(mu_engine *engine, uint32_t replica);
+
+/* Pauses a replica: it takes no step in the next `rounds` rounds, and an earlier pause of it is over.
+ * Answers as mu_engine_stop does. */
+uint32_t mu_engine_pause(mu_engine *engine, uint32_t replica, uint32_t rounds);
+
+/* What a store replies to a command. */
+enum mu_reply {
+    MU_REPLY_DONE = 1,  /* it is done, and there is nothing to tell */
+    MU_REPLY_VALUE = 2, /* the text that the key has, or had before a swap */
+    MU_REPLY_NONE = 3,  /* the key has no text, or had none before a swap or del */
+    MU_REPLY_KEPT = 4   /* of cas: the key has another text than the one named, and keeps it */
+};
+
+/* The reply to the command of a row. With MU_DONE `*reply` is which, and the text in `out` is that of
+ * MU_REPLY_VALUE or MU_REPLY_KEPT, 1 to 64 bytes, or empty; it stays the same from then on. Else
+ * `*reply` and `*taken` are 0: MU_UNFINISHED if there is no reply yet, MU_USAGE if there is no such
+ * row. Wants no memory. */
+uint32_t mu_engine_reply(mu_engine *engine, uint32_t row, uint32_t *reply, void *out, size_t room,
+                         size_t *taken);
+
+/* The commands and the events so far, as the trace that mu_answer checks and mu_draw_answer draws.
+ * MU_DONE; MU_MIXED, and `*taken` is 0, if some client's command came after one of a client with a
+ * greater number, since a job's text has client by client; or MU_NO_MEMORY. The engine stays as it
+ * is. */
+uint32_t mu_engine_trace(mu_engine *engine, void *out, size_t room, size_t *taken);
+
+/* Lets an engine go, with its memory, if there is one. It is MU_NO_ENGINE then. */
+void mu_engine_free(mu_engine *engine);
 
 #ifdef __cplusplus
 }

@@ -151,6 +151,91 @@ static void judges(void)
     expect("why", mu_judge_why(&judge, out, sizeof out, &taken) == MU_ILLEGAL);
     expect("its line", taken > 38 && memcmp(out, "illegal 2 at line 10\n0 grant 0 = done\n", 38) == 0);
     mu_judge_free(&judge);
+    expect("no judge any more", judge.at == NULL && take(&judge, "0 ask 0 = done") == MU_USAGE);
+    expect("nothing to say", mu_judge_why(&judge, out, sizeof out, &taken) == MU_USAGE && taken == 0);
+    mu_judge_free(&judge);
+    expect("still no judge", judge.at == NULL);
+}
+
+static uint32_t submit(mu_engine *engine, uint32_t client, const char *line, uint32_t *row)
+{
+    return mu_engine_submit(engine, client, line, strlen(line), row);
+}
+
+/* What isn't an engine, and numbers out of their limits. */
+static void no_engines(void)
+{
+    static const uint32_t beyond[][4] = { { 0, 64, 99, 1 },  { 8, 64, 99, 1 },   { 3, 7, 99, 1 },      { 3, 1025, 99, 1 },
+                                          { 3, 64, 0, 1 },   { 3, 64, 131072, 1 }, { 3, 64, 99, 1501 }, { 256, 64, 99, 1 },
+                                          { 3, 65600, 99, 1 }, { 3, 64, 99, 65536 } };
+    mu_engine engine = MU_NO_ENGINE;
+    char out[64] = "-------";
+    uint32_t row = 9, reply = 9;
+    size_t taken = 9, k;
+
+    for (k = 0; k < sizeof beyond / sizeof *beyond; k++)
+        expect("a number out of its limits",
+               mu_engine_new(&engine, beyond[k][0], beyond[k][1], beyond[k][2], beyond[k][3]) == MU_USAGE && engine.at == NULL);
+    expect("no engine to submit to", submit(&engine, 0, "get a", &row) == MU_USAGE && row == 0);
+    expect("no engine to play", mu_engine_round(&engine) == MU_USAGE);
+    expect("no engine to stop", mu_engine_stop(&engine, 0) == MU_USAGE && mu_engine_pause(&engine, 0, 1) == MU_USAGE);
+    expect("no engine that replies", mu_engine_reply(&engine, 0, &reply, out, sizeof out, &taken) == MU_USAGE);
+    expect("nothing is told", reply == 0 && taken == 0 && memcmp(out, "-------", 8) == 0);
+    taken = 9;
+    expect("no engine with a trace", mu_engine_trace(&engine, out, sizeof out, &taken) == MU_USAGE && taken == 0);
+    mu_engine_free(&engine);
+    expect("still none", engine.at == NULL);
+}
+
+/* The reply to a row, once it is there: its number, if its text is this. */
+static uint32_t reply_to(mu_engine *engine, uint32_t row, const char *text)
+{
+    char out[64];
+    uint32_t reply = 0;
+    size_t taken = 0;
+    int k;
+
+    for (k = 0; k < 6000; k++) {
+        if (mu_engine_reply(engine, row, &reply, out, sizeof out, &taken) != MU_UNFINISHED)
+            return has(out, taken, text) ? reply : 0;
+        mu_engine_round(engine);
+    }
+    return 0;
+}
+
+static void engines(void)
+{
+    static char trace[1 << 20], out[64];
+    mu_engine engine = MU_NO_ENGINE;
+    uint32_t row = 9, reply = 9;
+    size_t taken = 9;
+
+    expect("an engine", mu_engine_new(&engine, 3, 64, 20000, 5) == MU_DONE && engine.at != NULL);
+    expect("a bad client", submit(&engine, 16, "get a", &row) == MU_USAGE && row == 0);
+    expect("a client of many bits", submit(&engine, 256, "get a", &row) == MU_USAGE);
+    expect("a bad line", submit(&engine, 0, "get", &row) == MU_REFUSED && submit(&engine, 0, "", &row) == MU_REFUSED);
+    expect("a line feed", submit(&engine, 0, "get a\n", &row) == MU_REFUSED && row == 0);
+    expect("a put", submit(&engine, 0, "put a 5", &row) == MU_DONE && row == 0);
+    expect("no reply yet", mu_engine_reply(&engine, 0, &reply, out, sizeof out, &taken) == MU_UNFINISHED && reply == 0 && taken == 0);
+    expect("no such row", mu_engine_reply(&engine, 1, &reply, out, sizeof out, &taken) == MU_USAGE);
+    expect("done", reply_to(&engine, 0, "") == MU_REPLY_DONE);
+    expect("a get", submit(&engine, 0, "get a", &row) == MU_DONE && row == 1);
+    expect("its value", reply_to(&engine, 1, "5") == MU_REPLY_VALUE);
+    expect("a stop", mu_engine_stop(&engine, 0) == MU_DONE);
+    expect("a stopped replica", mu_engine_stop(&engine, 0) == MU_STOPPED && mu_engine_pause(&engine, 0, 3) == MU_STOPPED);
+    expect("no such replica", mu_engine_stop(&engine, 3) == MU_USAGE && mu_engine_pause(&engine, 256, 3) == MU_USAGE);
+    expect("a pause", mu_engine_pause(&engine, 1, 40) == MU_DONE);
+    expect("a cas", submit(&engine, 1, "cas a 6 7", &row) == MU_DONE && row == 2);
+    expect("what is kept", reply_to(&engine, 2, "5") == MU_REPLY_KEPT);
+    expect("its trace", mu_engine_trace(&engine, trace, sizeof trace, &taken) == MU_DONE && taken > 5 && memcmp(trace, "mu 2\n", 5) == 0);
+    expect("is legal", taken <= sizeof trace && mu_answer(MU_CHECK, trace, taken, out, sizeof out, &taken) == MU_DONE);
+    expect("a get of nothing", submit(&engine, 0, "get b", &row) == MU_DONE && row == 3);
+    expect("none", reply_to(&engine, 3, "") == MU_REPLY_NONE);
+    expect("no text of a job", mu_engine_trace(&engine, trace, sizeof trace, &taken) == MU_MIXED && taken == 0);
+    expect("the last one", submit(&engine, 0, "get b", &row) == MU_DONE && row == 4);
+    expect("too many", submit(&engine, 0, "get b", &row) == MU_FULL && row == 0);
+    mu_engine_free(&engine);
+    expect("no engine any more", engine.at == NULL && mu_engine_round(&engine) == MU_USAGE);
 }
 
 int main(void)
@@ -159,6 +244,8 @@ int main(void)
     moments();
     pictures();
     judges();
+    no_engines();
+    engines();
     puts(wrong ? "mu.h is not as it says" : "mu.h is as it says");
     return wrong ? 1 : 0;
 }

@@ -1,10 +1,11 @@
 #!/usr/bin/env python3
 """Tries the library for C, out/libmu.a and out/libmu.so, as ./library leaves them.
 
-    tools/try_library.py                 each call from C, C++ and Python; the implementations of
-                                         examples/own, judged in their process; and that a list judged
-                                         event by event gets the answer of the whole trace, over the
-                                         judged traces and the stored ones
+    tools/try_library.py                 each call from C, C++ and Python; sessions of a live engine from
+                                         each, with random commands, stops and pauses; the examples of
+                                         examples/own; and that a list judged event by event gets the
+                                         answer of the whole trace, over the judged traces and the stored
+                                         ones
     tools/try_library.py FOLDER..        the same also over the traces of these folders of cases
     tools/try_library.py --memory        how much memory a judge takes over a list of 64 MiB
 
@@ -20,6 +21,7 @@ import time
 
 sys.path.insert(0, os.path.dirname(os.path.realpath(__file__)))
 from beginning import begin
+from engine_sessions import ByLines, ByTypes, try_sessions
 from judged_table import judged
 from own_traces import OWN, PLACE, RUNS, SEEN, c_compiler, cxx_compiler
 from programs import TOP
@@ -30,6 +32,17 @@ HEADER, ARCHIVE = os.path.join(TOP, "c"), os.path.join(TOP, "out", "libmu.a")
 # The causes of a line after the job: it is no event, the last `end` is missing, or lines follow it.
 NO_EVENT, NO_END, AFTER_END = b"13", b"11", b"12"
 MEMORY_BYTES = 64 << 20
+SESSIONS = 20
+# What the example of an engine has to print: its store's replies, and a stop between them.
+EXAMPLE = b"""0 put a 5 -> done
+1 get a -> value 5
+2 swap a 6 -> value 5
+replica 0 is stopped
+3 get a -> value 6
+4 cas a 6 7 -> done
+5 del a -> done
+6 get a -> none
+"""
 
 
 class Tried:
@@ -51,16 +64,30 @@ def built(compiler, folder, name, *words):
     return path
 
 
+def in_both(folder, compiler, name):
+    """A program of c/, built as C and, if there is a compiler, as C++."""
+    source, plus = os.path.join(HEADER, f"{name}.c"), cxx_compiler()
+    yield "C", built(compiler, folder, name, "-std=c11", source)
+    if plus:
+        yield "C++", built(plus, folder, f"{name}_plus", "-std=c++11", "-x", "c++", source, "-x", "none")
+
+
 def try_calls(tried, folder, compiler):
     """Each call from C and from C++."""
-    uses = os.path.join(HEADER, "uses.c")
-    plus = cxx_compiler()
-    programs = [("C", built(compiler, folder, "uses", "-std=c11", uses))]
-    if plus:
-        programs.append(("C++", built(plus, folder, "uses_plus", "-std=c++11", "-x", "c++", uses, "-x", "none")))
-    for language, program in programs:
+    for language, program in in_both(folder, compiler, "uses"):
         run = subprocess.run([program], stdout=subprocess.PIPE, check=False)
         tried.expect(f"c/uses.c as {language}", run.stdout, b"mu.h is as it says\n")
+
+
+def try_engines(tried, library, folder, compiler):
+    """The example of an engine, and the same sessions from C, C++ and Python."""
+    example = built(compiler, folder, "engine", "-std=c11", os.path.join(OWN, "engine.c"))
+    run = subprocess.run([example], stdout=subprocess.PIPE, timeout=120, check=False)
+    tried.expect("engine.c", (run.returncode, run.stdout), (0, EXAMPLE))
+    run = subprocess.run([sys.executable, os.path.join(OWN, "engine.py")], stdout=subprocess.PIPE, timeout=120, check=False)
+    tried.expect("engine.py", (run.returncode, run.stdout), (0, EXAMPLE + b"legal\n"))
+    engines = [(language, lambda program=program: ByLines(program)) for language, program in in_both(folder, compiler, "sessions")]
+    try_sessions(tried, library, [*engines, ("Python", lambda: ByTypes(library))], SESSIONS)
 
 
 def try_own(tried, folder, compiler):
@@ -173,6 +200,7 @@ def main():
     compiler, tried = c_compiler(), Tried()
     with tempfile.TemporaryDirectory() as folder:
         try_calls(tried, folder, compiler)
+        try_engines(tried, mu_library, folder, compiler)
         try_own(tried, folder, compiler)
     try_traces(tried, mu_library, stored_traces([os.path.join(TOP, "cases", "trace"), *sys.argv[1:]]))
     for wrong in tried.wrong:

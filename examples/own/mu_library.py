@@ -3,6 +3,8 @@ import ctypes
 import os
 
 DONE, USAGE, REFUSED, UNFINISHED, NO_MEMORY, ILLEGAL, TOO_LONG = 0, 1, 2, 3, 6, 7, 8
+FULL, STOPPED, MIXED = 9, 10, 11
+REPLIES = {1: "done", 2: "value", 3: "none", 4: "kept"}
 TASKS = {"replay": 1, "trace": 2, "check": 3, "why": 4, "book": 5, "bulk": 6, "tell": 7, "attest": 8}
 LAST_STEP = 9_999_999
 TOP = os.path.dirname(os.path.dirname(os.path.dirname(os.path.abspath(__file__))))
@@ -16,21 +18,30 @@ except OSError as cause:
 
 
 class Held(ctypes.Structure):
-    """What the library keeps of a judge."""
+    """What the library keeps of a judge or of an engine."""
     _fields_ = [("at", ctypes.c_void_p)]
 
 
 ROOM = [ctypes.POINTER(ctypes.c_char), SIZE, ctypes.POINTER(SIZE)]
+HELD, OUT_NUMBER = ctypes.POINTER(Held), ctypes.POINTER(NUMBER)
 for name, given in {
         "mu_answer": [NUMBER, TEXT, SIZE, *ROOM],
         "mu_show_answer": [NUMBER, TEXT, SIZE, *ROOM],
         "mu_draw_answer": [NUMBER, NUMBER, TEXT, SIZE, *ROOM],
-        "mu_judge_new": [ctypes.POINTER(Held), TEXT, SIZE, *ROOM],
-        "mu_judge_take": [ctypes.POINTER(Held), TEXT, SIZE],
-        "mu_judge_why": [ctypes.POINTER(Held), *ROOM],
-        "mu_judge_free": [ctypes.POINTER(Held)]}.items():
+        "mu_judge_new": [HELD, TEXT, SIZE, *ROOM],
+        "mu_judge_take": [HELD, TEXT, SIZE],
+        "mu_judge_why": [HELD, *ROOM],
+        "mu_judge_free": [HELD],
+        "mu_engine_new": [HELD, NUMBER, NUMBER, NUMBER, NUMBER],
+        "mu_engine_submit": [HELD, NUMBER, TEXT, SIZE, OUT_NUMBER],
+        "mu_engine_round": [HELD],
+        "mu_engine_stop": [HELD, NUMBER],
+        "mu_engine_pause": [HELD, NUMBER, NUMBER],
+        "mu_engine_reply": [HELD, NUMBER, OUT_NUMBER, *ROOM],
+        "mu_engine_trace": [HELD, *ROOM],
+        "mu_engine_free": [HELD]}.items():
     getattr(library, name).argtypes, getattr(library, name).restype = given, NUMBER
-library.mu_judge_free.restype = None
+library.mu_judge_free.restype = library.mu_engine_free.restype = None
 
 
 def told(call, *given, room=4096):
@@ -81,3 +92,64 @@ class Judge:
 
     def __exit__(self, *raised):
         library.mu_judge_free(self.held)
+
+
+class Refused(Exception):
+    """A call on an engine was refused; `status` says why."""
+
+    def __init__(self, status):
+        super().__init__(f"status {status}")
+        self.status = status
+
+
+def accepted(status):
+    """Raises what was refused."""
+    if status != DONE:
+        raise Refused(status)
+
+
+class Engine:
+    """A live engine, whose rounds you play. Use it in a `with`."""
+
+    def __init__(self, replicas, ring=64, budget=131_071, commands=1_500):
+        self.held = Held()
+        accepted(library.mu_engine_new(self.held, replicas, ring, budget, commands))
+
+    def submit(self, client, line):
+        """Takes the next command of a client, and gives its row."""
+        row = NUMBER()
+        accepted(library.mu_engine_submit(self.held, client, line, len(line), ctypes.byref(row)))
+        return row.value
+
+    def round(self):
+        """Plays one round."""
+        accepted(library.mu_engine_round(self.held))
+
+    def stop(self, replica):
+        """Stops a replica for good."""
+        accepted(library.mu_engine_stop(self.held, replica))
+
+    def pause(self, replica, rounds):
+        """Pauses a replica for so many rounds."""
+        accepted(library.mu_engine_pause(self.held, replica, rounds))
+
+    def reply(self, row):
+        """The reply to the command of a row, as in a report, or None as long as there is none."""
+        reply = NUMBER()
+        status, text = told(library.mu_engine_reply, self.held, row, ctypes.byref(reply), room=64)
+        if status == UNFINISHED:
+            return None
+        accepted(status)
+        return b" ".join([REPLIES[reply.value].encode(), *([text] if text else [])])
+
+    def trace(self):
+        """The commands and the events so far, as a trace."""
+        status, text = told(library.mu_engine_trace, self.held)
+        accepted(status)
+        return text
+
+    def __enter__(self):
+        return self
+
+    def __exit__(self, *raised):
+        library.mu_engine_free(self.held)

@@ -1,4 +1,4 @@
--- A handle with a judge and its parts own what a box at the same types owns.
+-- A handle that holds something and its parts own what a box at the same types owns.
 use mir.Syntax.{impl, tnil, dnil}
 use mathlib.Core.List.{[]}
 use denote.Signature.{Slot, plain}
@@ -6,16 +6,16 @@ use Rattle.std_alloc.proofs.BoxSteps.Form.{Bx}
 use Rattle.std_heap.specs.contracts.Global as Heap
 use Rattle.std_heap.specs.contracts.GlobalAllocator.TheImpl.{ghosts, dict}
 use Rattle.std_heap.proofs.Global.TheLaws as heap
-use Rattle.mu_judging.specs.contracts.line_judge.LineJudge as Judge
-use Rattle.mu_judging.proofs.line_judge.LineJudge.TheLaws as judge
+use Rattle.mu_handle.specs.contracts.holding.Held as Held
+use Rattle.mu_handle.proofs.holding.Held.TheLaws as held
 use Rattle.mu_handle.specs.contracts.parts.Parts as Parts
 use Rattle.mu_handle.specs.contracts.handle.Handle as Handle
 
 abbrev pub E : Bx
-E = record { row = Judge.the_row; laws = judge.the_row_laws; al = record { row = Heap.the_row; laws = heap.the_row_laws; g = ghosts; d = dict; drops = impl [] tnil dnil } }
+E = record { row = Held.the_row; laws = held.the_row_laws; al = record { row = Heap.the_row; laws = heap.the_row_laws; g = ghosts; d = dict; drops = impl [] tnil dnil } }
 
 abbrev pub FromParts : Slot 0
-FromParts = plain (λ _. Parts.the_row Judge.the_row Heap.the_row ghosts)
+FromParts = plain (λ _. Parts.the_row Held.the_row Heap.the_row ghosts)
 
 abbrev pub FromHandle : Slot 0
 FromHandle = plain (λ _. Handle.the_row)

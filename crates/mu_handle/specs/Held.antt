@@ -1,23 +1,18 @@
--- held: what a handle owns: the box of its judge, if it has one.
-use Rattle.std.specs.Prelude.{None, Some, ⊤}
+-- held: what a handle owns: the box of its judge or engine, or nothing, and then its pointer is null.
+use Rattle.std.specs.Prelude.{None, Some}
 use Rattle.std.specs.declared.option.Option.{Option}
 use Rattle.std.specs.Box.Ownership.{box_owns}
 use Rattle.std.specs.Coded.{Coded, coded_option}
 use Rattle.std.specs.Global.{Global}
 use Rattle.std_heap.specs.contracts.GlobalAllocator.TheImpl.{ghosts}
-use Rattle.mu_judging.specs.contracts.line_judge.LineJudge.{the_row}
-use base.Fml.{Fml, ftrue}
-use denote.RawPtr.{Ptr}
+use Rattle.mu_handle.specs.contracts.holding.Held.{the_row}
+use base.Fml.{Fml, feq}
+use denote.RawPtr.{Ptr, null_ptr}
 
--- the block with the judge, and the right to free it; nothing, if there is none
+-- the block with what is held, and the right to free it; if there is none, the null pointer
 abbrev pub held_owns : Global → Ptr → Option the_row.Denot → Fml
-held_owns alloc at (Some judge) = box_owns (ghosts.dealloc_token alloc) the_row at judge
-held_owns alloc at None = ftrue
+held_owns alloc at (Some held) = box_owns (ghosts.dealloc_token alloc) the_row at held
+held_owns alloc at None = feq Ptr at null_ptr
 
 abbrev pub held_coded : Coded (Option the_row.Denot)
 held_coded = coded_option the_row.coded
-
--- there is one
-abbrev pub IsThere : {A : Type 0} → Option A → Type 0
-IsThere None = ⊥
-IsThere (Some a) = ⊤

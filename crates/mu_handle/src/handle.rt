@@ -1,22 +1,23 @@
-//! What a C program holds of a judge.
+//! What a C program holds of a judge or of an engine.
 ghost use Rattle.std.specs.Prelude.{◌≡◌, None, Some};
+ghost use Rattle.std.specs.Option.{MatchOption};
 ghost use Rattle.std.specs.declared.option.Option.{Option as Maybe};
-ghost use Rattle.mu_judging.specs.declared.line_judge.LineJudge.{LineJudge as SomeJudge};
-ghost use Rattle.mu_handle.specs.Held.{held_coded, held_owns, IsThere};
+ghost use Rattle.mu_handle.specs.declared.holding.Held.{Held as SomeHeld};
+ghost use Rattle.mu_handle.specs.Held.{held_coded, held_owns};
 
+use crate::holding::Held;
 use crate::parts::Parts;
-use mu_judging::LineJudge;
 use std::alloc::Global;
 use std::marker::Model;
 
-/// A judge that a C program holds, or none: then its pointer is null. It has the bytes of a
-/// pointer.
+/// A judge or an engine that a C program holds, or nothing: then its pointer is null. It has the
+/// bytes of a pointer.
 #[repr(C)]
 #[derive(Drop)]
 pub struct Handle {
     at: *mut u8,
     alloc: Global,
-    pub ghost held: { Maybe SomeJudge } by { held_coded },
+    pub ghost held: { Maybe SomeHeld } by { held_coded },
 }
 
 impl Model for Handle {
@@ -24,7 +25,7 @@ impl Model for Handle {
 }
 
 impl Handle {
-    /// A handle that holds no judge.
+    /// A handle that holds nothing.
     pub fn none(alloc: Global) -> Handle
         ensures { result.held ≡ None }
     {
@@ -34,22 +35,24 @@ impl Handle {
         }
     }
 
-    /// The judge in this box.
-    pub fn of(judge: Box<LineJudge>) -> Handle
-        ensures { result.held ≡ Some judge.value }
+    /// A handle of what is in this box.
+    pub fn of(held: Box<Held>) -> Handle
+        ensures { result.held ≡ Some held.value }
     {
-        Handle::of_parts(Parts::of(judge))
+        Handle::of_parts(Parts::of(held))
     }
 
-    /// The box of the judge, which has to be there.
-    pub fn into_box(self) -> Box<LineJudge>
-        requires { IsThere self.held }
-        ensures { self.held ≡ Some result.value }
+    /// The box of what it holds, if it holds something.
+    pub fn into_box(self) -> Option<Box<Held>>
+        ensures { MatchOption result (self.held ≡ None) (λ held. self.held ≡ Some held.value) }
     {
-        self.into_parts().into_box()
+        match self.into_parts() {
+            Some(parts) => Some(parts.into_box()),
+            None => None,
+        }
     }
 
-    fn of_parts(parts: Parts<LineJudge, Global>) -> Handle
+    fn of_parts(parts: Parts<Held, Global>) -> Handle
         ensures { result.held ≡ Some parts.value }
     {
         let Parts { at, alloc } = parts;
@@ -59,19 +62,22 @@ impl Handle {
         }
     }
 
-    fn into_parts(self) -> Parts<LineJudge, Global>
-        requires { IsThere self.held }
-        ensures { self.held ≡ Some result.value }
+    fn into_parts(self) -> Option<Parts<Held, Global>>
+        ensures { MatchOption result (self.held ≡ None) (λ parts. self.held ≡ Some parts.value) }
     {
         let Handle { at, alloc } = self;
-        Parts {
-            at: at as *mut LineJudge,
-            alloc,
+        if at.is_null() {
+            None
+        } else {
+            Some(Parts {
+                at: at as *mut Held,
+                alloc,
+            })
         }
     }
 }
 
-/// The judge is plain data, so a handle may go to another thread.
+/// What is held is plain data, so a handle may go to another thread.
 unsafe impl Send for Handle {}
 
 /// A handle may go to another thread, so it may be given to what asks for that.

@@ -1,7 +1,9 @@
-//! A judge that a C program holds: a pointer that it neither reads nor writes.
+//! What a C program holds of a judge or of an engine: a pointer that it neither reads nor writes.
 #![tactic(auto)]
 
 mod handle;
+mod holding;
 mod parts;
 
 pub use handle::Handle;
+pub use holding::Held;

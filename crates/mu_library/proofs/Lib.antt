@@ -1,1 +1,3 @@
+mod EngineTraces
 mod Outcomes
+mod Submitting

@@ -4,9 +4,10 @@ use Rattle.mu_drawing.specs.Answers as drawing
 use Rattle.mu_picture.specs.declared.pictures.Extent.{Extent}
 use Rattle.mu_drawing.specs.declared.drawing.Output.{Output}
 use Rattle.mu_input.specs.declared.job.InputEnd.{InputEnd}
+use Rattle.mu_handle.specs.declared.holding.Held.{Held}
 use Rattle.mu_judging.specs.LineJudges.{said_by, HasTaken, IsEndOfJob, Opens}
 use Rattle.mu_judging.specs.declared.line_judge.LineJudge.{LineJudge}
-use Rattle.mu_library.specs.Calls.{Answers, CanTake, Draws, EndsJob, HasNew, OpensJudge, PutsSaid, PutsTold, SaysOfJudge, TakesLine, TakesNext}
+use Rattle.mu_library.specs.Calls.{Answers, CanTake, Draws, EndsJob, HasNew, OpensJudge, PutsSaid, PutsTold, SaysSoFar}
 use Rattle.mu_model.specs.Contents.{IsConfig}
 use Rattle.mu_model.specs.declared.config.Config.{Config}
 use Rattle.mu_outcome.specs.Statuses.{code_of}
@@ -32,34 +33,32 @@ pub ends_job : (bytes : List ℕ) (end : InputEnd) → IsEndOfJob bytes end → 
 ends_job bytes (InputEnd.Refused line cause) leaves = leaves
 ends_job bytes InputEnd.NoMemory any = tt
 
-pub not_opened : (bytes : List ℕ) (said : Said) (held : Option LineJudge) (before after : List ℕ) (status taken : ℕ) → EndsJob bytes said
+pub not_opened : (bytes : List ℕ) (said : Said) (held : Option Held) (before after : List ℕ) (status taken : ℕ) → EndsJob bytes said
     → PutsSaid said before after status taken ⊎ PutsSaid Said.NoMemory before after status taken → OpensJudge bytes held held before after status taken
 not_opened bytes said held before after status taken ends (inl puts) = inr (refl, record { said = said; ends = ends; puts = puts })
 not_opened bytes said held before after status taken ends (inr puts) = inr (refl, record { said = Said.NoMemory; ends = tt; puts = puts })
 
-pub opened : (bytes : List ℕ) (judge : LineJudge) (old new : Option LineJudge) (before after : List ℕ) (status taken : ℕ) → Opens bytes judge
-    → ((status ≡ 0) × (new ≡ Some judge) × (taken ≡ 0) × (after ≡ before)) ⊎ ((new ≡ old) × PutsSaid Said.NoMemory before after status taken)
+pub opened : (bytes : List ℕ) (judge : LineJudge) (old new : Option Held) (before after : List ℕ) (status taken : ℕ) → Opens bytes judge
+    → ((status ≡ 0) × (new ≡ Some (Held.Judge judge)) × (taken ≡ 0) × (after ≡ before)) ⊎ ((new ≡ old) × PutsSaid Said.NoMemory before after status taken)
     → OpensJudge bytes old new before after status taken
 opened bytes judge old new before after status taken opens (inl (done, has, none, same)) = inl (done, subst (HasNew bytes) (sym has) opens, none, same)
 opened bytes judge old new before after status taken opens (inr (same, puts)) = inr (same, record { said = Said.NoMemory; ends = tt; puts = puts })
 
--- the judge that was there took the line, and is there again
-pub takes_line : (old new : Option LineJudge) (line : List ℕ) (before after : LineJudge) (status : ℕ) → old ≡ Some before → new ≡ Some after → TakesNext before line after status → TakesLine old line new status
-takes_line old new line before after status was is takes = subst (λ o. TakesLine o line new status) (sym was) (subst (λ n. TakesLine (Some before) line n status) (sym is) takes)
-
-pub says_so_far : (old : Option LineJudge) (judge : LineJudge) (said : Said) (before after : List ℕ) (status taken : ℕ) → old ≡ Some judge
+-- what a judge says of the lines that it took is put
+pub says_so_far : (judge : LineJudge) (said : Said) (before after : List ℕ) (status taken : ℕ)
     → ((c : Config) (start : ℕ) (past : List Event) → HasTaken c start past judge → said ≡ said_by judge)
-    → PutsSaid said before after status taken ⊎ PutsSaid Said.NoMemory before after status taken → SaysOfJudge old before after status taken
-says_so_far old judge said before after status taken was says (inl puts) = subst (λ o. SaysOfJudge o before after status taken) (sym was) (record { said = said; says = inr says; puts = puts })
-says_so_far old judge said before after status taken was says (inr puts) = subst (λ o. SaysOfJudge o before after status taken) (sym was) (record { said = Said.NoMemory; says = inl refl; puts = puts })
+    → PutsSaid said before after status taken ⊎ PutsSaid Said.NoMemory before after status taken → SaysSoFar judge before after status taken
+says_so_far judge said before after status taken says (inl puts) = record { said = said; says = inr says; puts = puts }
+says_so_far judge said before after status taken says (inr puts) = record { said = Said.NoMemory; says = inl refl; puts = puts }
 
 -- with status 0 there is a judge that can take lines
-pub ready : (bytes : List ℕ) (old new : Option LineJudge) (before after : List ℕ) (status taken : ℕ) → OpensJudge bytes old new before after status taken → status ≡ 0 → CanTake new
+pub ready : (bytes : List ℕ) (old new : Option Held) (before after : List ℕ) (status taken : ℕ) → OpensJudge bytes old new before after status taken → status ≡ 0 → CanTake new
 ready bytes old new before after status taken (inl (done, has, none, same)) zero_is = by_new new has
   where
-    by_new : (new : Option LineJudge) → HasNew bytes new → CanTake new
+    by_new : (new : Option Held) → HasNew bytes new → CanTake new
     by_new None has = absurd has
-    by_new (Some judge) has = subst (λ k. IsConfig k) (sym has.taken.config) has.taken.is_config
+    by_new (Some (Held.Engine engine)) has = absurd has
+    by_new (Some (Held.Judge judge)) has = subst (λ k. IsConfig k) (sym has.taken.config) has.taken.is_config
 ready bytes old new before after status taken (inr (same, why)) zero_is = absurd (by_said why.said why.ends (sym why.puts.code_is ∙ zero_is))
   where
     by_said : (said : Said) → EndsJob bytes said → code_of (status_for said) ≡ 0 → ⊥
@@ -67,9 +66,3 @@ ready bytes old new before after status taken (inr (same, why)) zero_is = absurd
     by_said Said.TooLong ends is = let clash : 8 ≡ 0 = is in omega (arith, clash)
     by_said Said.NoMemory ends is = let clash : 6 ≡ 0 = is in omega (arith, clash)
     by_said said ends is = absurd ends
-
--- a judge that took a line can take another
-pub still_ready : (old new : Option LineJudge) (line : List ℕ) (status : ℕ) → CanTake old → TakesLine old line new status → CanTake new
-still_ready None new line status can takes = absurd can
-still_ready (Some old) None line status can takes = absurd takes
-still_ready (Some old) (Some new) line status can takes = subst (λ k. IsConfig k) (sym takes.config) can

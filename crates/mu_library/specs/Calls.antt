@@ -1,5 +1,5 @@
 -- asked at, asked after, answers, draws, opens judge, takes line: what the number of a task asks
--- for; what each call of the library for C puts into the room, and with which status.
+-- for; what each call on texts or a judge puts into the room, and with which status.
 use Rattle.std.specs.Prelude.{ℕ, ◌≡◌, ◌<◌, ◌≤◌, ◌==◌, ◌⊎◌, List, ◌++◌, length, None, Some, if◌then◌else◌, nat_le, ⊤}
 use Rattle.std.specs.declared.option.Option.{Option}
 use Rattle.mu_drawing.specs.Answers.{text_of}
@@ -11,6 +11,7 @@ use Rattle.mu_input.specs.Grammar.{job}
 use Rattle.mu_input.specs.Readings.{Leaves}
 use Rattle.mu_input.specs.declared.TheConstants.{MOST_COMMANDS}
 use Rattle.mu_judging.specs.LineJudges.{event_in, said_by, status_with, HasTaken, Opens}
+use Rattle.mu_handle.specs.declared.holding.Held.{Held}
 use Rattle.mu_judging.specs.declared.line_judge.LineJudge.{LineJudge}
 use Rattle.mu_library.specs.Front.{Puts}
 use Rattle.mu_library.specs.declared.tasks.Work.{Work}
@@ -18,6 +19,7 @@ use Rattle.mu_model.specs.Contents.{IsConfig}
 use Rattle.mu_model.specs.declared.config.Config.{Config}
 use Rattle.mu_model.specs.declared.event.Event.{Event}
 use Rattle.mu_outcome.specs.Statuses.{code_of}
+use Rattle.mu_outcome.specs.declared.status.Status.{Status}
 use Rattle.mu_report.specs.Said.{text}
 use Rattle.mu_report.specs.declared.said.Said.{Said}
 use Rattle.mu_text.specs.Lines.{words}
@@ -103,22 +105,23 @@ pub record SaysWhyNot (bytes before after : List ℕ) (status taken : ℕ) : Typ
   pub puts : PutsSaid said before after status taken
 
 -- there is a judge of the job that the bytes spell, that has taken no event
-abbrev pub HasNew : List ℕ → Option LineJudge → Type 0
+abbrev pub HasNew : List ℕ → Option Held → Type 0
+HasNew bytes (Some (Held.Judge judge)) = Opens bytes judge
+HasNew bytes (Some (Held.Engine engine)) = ⊥
 HasNew bytes None = ⊥
-HasNew bytes (Some judge) = Opens bytes judge
 
 -- a new judge is there and nothing is said, with status 0; or the handle is as it was, and it is
 -- said why
-abbrev pub OpensJudge :
-    List ℕ → Option LineJudge → Option LineJudge → List ℕ → List ℕ → ℕ → ℕ → Type 0
+abbrev pub OpensJudge : List ℕ → Option Held → Option Held → List ℕ → List ℕ → ℕ → ℕ → Type 0
 OpensJudge bytes old new before after status taken =
     ((status ≡ 0) × HasNew bytes new × (taken ≡ 0) × (after ≡ before))
     ⊎ ((new ≡ old) × SaysWhyNot bytes before after status taken)
 
--- there is a judge, of a job that the grammar allows
-abbrev pub CanTake : Option LineJudge → Type 0
-CanTake None = ⊥
-CanTake (Some judge) = IsConfig judge.config
+-- a judge, if there is one, is of a job that the grammar allows
+abbrev pub CanTake : Option Held → Type 0
+CanTake (Some (Held.Judge judge)) = IsConfig judge.config
+CanTake (Some (Held.Engine engine)) = ⊤
+CanTake None = ⊤
 
 -- what a judge knows after a line, of whatever it knew before, and the status that is told
 pub record TakesNext (old : LineJudge) (line : List ℕ) (new : LineJudge)
@@ -131,11 +134,19 @@ pub record TakesNext (old : LineJudge) (line : List ℕ) (new : LineJudge)
       (c : Config) (start : ℕ) (past : List Event) → HasTaken c start past old
       → status ≡ code_of (status_with (event_of c.replicas (words line)) new.broken)
 
--- the judge took the line
-abbrev pub TakesLine : Option LineJudge → List ℕ → Option LineJudge → ℕ → Type 0
-TakesLine (Some old) line (Some new) status = TakesNext old line new status
+-- what is held after a line: the judge took it; or there is no judge and nothing changed, with the
+-- status of a wrong use
+abbrev pub TakesHeld : Held → List ℕ → Held → ℕ → Type 0
+TakesHeld (Held.Judge old) line (Held.Judge new) status = TakesNext old line new status
+TakesHeld (Held.Judge old) line (Held.Engine new) status = ⊥
+TakesHeld (Held.Engine old) line new status =
+    (status ≡ code_of Status.Usage) × (new ≡ Held.Engine old)
+
+-- the same of a handle, which may have nothing
+abbrev pub TakesLine : Option Held → List ℕ → Option Held → ℕ → Type 0
+TakesLine (Some old) line (Some new) status = TakesHeld old line new status
 TakesLine (Some old) line None status = ⊥
-TakesLine None line new status = ⊥
+TakesLine None line new status = (status ≡ code_of Status.Usage) × (new ≡ None)
 
 -- what is said of the lines that a judge took is put
 pub record SaysSoFar (judge : LineJudge) (before after : List ℕ) (status taken : ℕ) : Type 0 where
@@ -146,6 +157,19 @@ pub record SaysSoFar (judge : LineJudge) (before after : List ℕ) (status taken
       → said ≡ said_by judge)
   pub puts : PutsSaid said before after status taken
 
-abbrev pub SaysOfJudge : Option LineJudge → List ℕ → List ℕ → ℕ → ℕ → Type 0
-SaysOfJudge None before after status taken = ⊥
-SaysOfJudge (Some judge) before after status taken = SaysSoFar judge before after status taken
+-- nothing is told, with the status of a wrong use
+abbrev pub TellsNothing : List ℕ → List ℕ → ℕ → ℕ → Type 0
+TellsNothing before after status taken =
+    (status ≡ code_of Status.Usage) × (taken ≡ 0) × (after ≡ before)
+
+-- what is told of what is held, if it is a judge
+abbrev pub SaysOfHeld : Held → List ℕ → List ℕ → ℕ → ℕ → Type 0
+SaysOfHeld (Held.Judge judge) before after status taken =
+    SaysSoFar judge before after status taken
+SaysOfHeld (Held.Engine engine) before after status taken =
+    TellsNothing before after status taken
+
+-- the same of a handle, which may have nothing
+abbrev pub SaysOfJudge : Option Held → List ℕ → List ℕ → ℕ → ℕ → Type 0
+SaysOfJudge (Some held) before after status taken = SaysOfHeld held before after status taken
+SaysOfJudge None before after status taken = TellsNothing before after status taken

@@ -1,5 +1,5 @@
 //! What the program says of bytes in memory.
-ghost use Rattle.std.specs.Prelude.{◌⊎◌, Some};
+ghost use Rattle.std.specs.Prelude.{◌≡◌, ◌⊎◌, Some};
 ghost use Rattle.mu_library.specs.Calls.{asked_after as asked_after_these, asked_as, asked_at, Answers, HasRoom, PutsSaid};
 ghost use Rattle.mu_report.specs.declared.said.Said.TheVariants.{NoMemory as NoMemorySaid};
 ghost use Rattle.mu_report.specs.Said.{IsShort};
@@ -79,4 +79,12 @@ pub(crate) fn no_memory(_refusal: NoMemory, out: &mut [u8]) -> Answered
         status: Status::NoMemory.code(),
         taken: put_bytes(b"no memory\n", out),
     }
+}
+
+/// No text is told.
+pub(crate) fn nothing(status: u8) -> Answered
+    ensures status { result.status ≡ status }
+    ensures taken { result.taken ≡ 0 }
+{
+    Answered { status, taken: 0 }
 }

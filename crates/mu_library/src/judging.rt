@@ -1,19 +1,21 @@
 //! A judge in the hands of a C program.
-ghost use Rattle.std.specs.Prelude.{◌≡◌, ◌⊎◌, None, Some};
-ghost use Rattle.mu_library.specs.Calls.{CanTake, OpensJudge, PutsSaid, SaysOfJudge, TakesLine};
+ghost use Rattle.std.specs.Prelude.{◌≡◌, ◌⊎◌, Some};
+ghost use Rattle.mu_handle.specs.declared.holding.Held.TheVariants.{Judge};
+ghost use Rattle.mu_library.specs.Calls.{CanTake, OpensJudge, PutsSaid, SaysOfHeld, SaysOfJudge, TakesHeld, TakesLine};
 ghost use Rattle.mu_report.specs.declared.said.Said.TheVariants.{NoMemory as NoMemorySaid};
 
-use crate::answering::{Answered, no_memory, say};
-use mu_handle::Handle;
+use crate::answering::{Answered, no_memory, nothing, say};
+use crate::handles::taken_out;
+use mu_handle::{Handle, Held};
 use mu_judging::LineJudge;
 use mu_model::NoMemory;
+use mu_outcome::Status;
 use mu_report::Said;
 use mu_top::INPUT_LIMIT;
 use std::alloc::Global;
-use std::mem::replace;
 
 /// Makes a judge of the job that the bytes spell. With status 0 the handle has it, and nothing is
-/// said; else the handle is as it was, and it is said why. A judge that the handle had is lost.
+/// said; else the handle is as it was, and it is said why. What the handle had is lost.
 pub fn open_judge(alloc: Global, handle: &mut Handle, job: &[u8], out: &mut [u8]) -> Answered
     ensures opens { OpensJudge job.now handle.old.held handle.new.held out.old out.new
         result.status result.taken }
@@ -30,14 +32,14 @@ pub fn open_judge(alloc: Global, handle: &mut Handle, job: &[u8], out: &mut [u8]
 
 /// Keeps the judge in the handle, or says that there was no memory for it.
 fn keep(alloc: Global, handle: &mut Handle, judge: LineJudge, out: &mut [u8]) -> Answered
-    ensures { ((result.status ≡ 0) × (handle.new.held ≡ Some judge) × (result.taken ≡ 0)
-        × (out.new ≡ out.old))
+    ensures { ((result.status ≡ 0) × (handle.new.held ≡ Some (Judge judge))
+        × (result.taken ≡ 0) × (out.new ≡ out.old))
         ⊎ ((handle.new.held ≡ handle.old.held)
         × PutsSaid NoMemorySaid out.old out.new result.status result.taken) }
 {
-    match Box::new(alloc, judge) {
-        Ok(judge) => {
-            *handle = Handle::of(judge);
+    match Box::new(alloc, Held::Judge(judge)) {
+        Ok(held) => {
+            *handle = Handle::of(held);
             Answered {
                 status: 0,
                 taken: 0,
@@ -48,34 +50,54 @@ fn keep(alloc: Global, handle: &mut Handle, judge: LineJudge, out: &mut [u8]) ->
 }
 
 /// Takes the next line, without its line feed, and answers the status: 0 if the list is legal so
-/// far, 7 once an event broke it, 2 if the line is no event. The handle keeps its judge.
+/// far, 7 once an event broke it, 2 if the line is no event, 1 if there is no judge.
 pub fn take_line(alloc: Global, handle: &mut Handle, line: &[u8]) -> u8
     requires { CanTake handle.old.held }
     ensures takes { TakesLine handle.old.held line.now handle.new.held result }
     ensures ready { CanTake handle.new.held }
 {
-    let mut judge = replace(handle, Handle::none(alloc)).into_box();
-    let status = judge.take(line);
-    *handle = Handle::of(judge);
-    status.code()
+    match taken_out(alloc, handle) {
+        Some(mut held) => {
+            let status = taken_by(&mut held, line);
+            *handle = Handle::of(held);
+            status
+        }
+        None => Status::Usage.code(),
+    }
 }
 
-/// What is said of the lines so far, and its status. The handle keeps its judge.
+fn taken_by(held: &mut Held, line: &[u8]) -> u8
+    requires { CanTake (Some held.old) }
+    ensures takes { TakesHeld held.old line.now held.new result }
+    ensures ready { CanTake (Some held.new) }
+{
+    match held {
+        Held::Judge(judge) => judge.take(line).code(),
+        Held::Engine(_) => Status::Usage.code(),
+    }
+}
+
+/// What is said of the lines so far, and its status, which is 1 if there is no judge. What is held
+/// stays as it is.
 pub fn told_by(alloc: Global, handle: &mut Handle, out: &mut [u8]) -> Answered
-    requires { CanTake handle.old.held }
     ensures says { SaysOfJudge handle.old.held out.old out.new result.status result.taken }
     ensures kept { handle.new.held ≡ handle.old.held }
 {
-    let judge = replace(handle, Handle::none(alloc)).into_box();
-    let said = judge.said();
-    *handle = Handle::of(judge);
-    say(alloc, said, out)
+    match taken_out(alloc, handle) {
+        Some(held) => {
+            let answered = told_of(alloc, &held, out);
+            *handle = Handle::of(held);
+            answered
+        }
+        None => nothing(Status::Usage.code()),
+    }
 }
 
-/// Lets the judge go, and its memory. The handle has none then.
-pub fn let_go(alloc: Global, handle: &mut Handle)
-    requires { CanTake handle.old.held }
-    ensures { handle.new.held ≡ None }
+fn told_of(alloc: Global, held: &Held, out: &mut [u8]) -> Answered
+    ensures { SaysOfHeld held.now out.old out.new result.status result.taken }
 {
-    drop(replace(handle, Handle::none(alloc)).into_box());
+    match held {
+        Held::Judge(judge) => say(alloc, judge.said(), out),
+        Held::Engine(_) => nothing(Status::Usage.code()),
+    }
 }

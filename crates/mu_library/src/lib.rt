@@ -1,15 +1,26 @@
-//! The calls of the library for C over bytes in memory: what the program says, a picture, and a
-//! judge that takes one line at a time. The first bytes of a text go to the room that the caller
-//! gives, and its length is told, so that a caller can give more room. Nothing is printed.
+//! The calls of the library for C over bytes in memory: what the program says, a picture, a judge
+//! that takes one line at a time, and a live engine. The first bytes of a text go to the room that
+//! the caller gives, and its length is told, so that a caller can give more room. Nothing is
+//! printed.
 #![tactic(auto)]
 
 mod answering;
+mod codes;
 mod drawing;
+mod engines;
 mod front;
+mod handles;
 mod judging;
+mod replies;
 mod sinks;
 mod tasks;
+mod telling;
+mod traces;
 
 pub use answering::{Answered, answer, show};
 pub use drawing::draw;
-pub use judging::{let_go, open_judge, take_line, told_by};
+pub use engines::{Submitted, open_engine, pause_replica, play_round, stop_replica, submit_line};
+pub use handles::let_go;
+pub use judging::{open_judge, take_line, told_by};
+pub use replies::Replied;
+pub use telling::{reply_told, trace_told};

@@ -15,6 +15,8 @@ mod command_lines;
 #[cfg(test)]
 mod desks;
 #[cfg(test)]
+mod engines;
+#[cfg(test)]
 mod library;
 #[cfg(test)]
 mod lives;

@@ -1,4 +1,4 @@
--- A handle may go to another thread, as the judge in its box may.
+-- A handle may go to another thread, as what is in its box may.
 use Rattle.std.proofs.Common.{Option, None, Some}
 use Rattle.std.specs.Global.{Global}
 use mir.Raw.{raw}
@@ -11,14 +11,14 @@ use denote.Param.Send.{IsSend, AllSend, owning_send, struct_send, sendable}
 use Rattle.std.proofs.Crossing as heap
 use Rattle.std_alloc.proofs.SendSync.{quiet, lies}
 use Rattle.std_heap.proofs.Global.TheSendSync as handle
-use Rattle.mu_judging.specs.contracts.line_judge.LineJudge as Judge
-use Rattle.mu_judging.specs.declared.line_judge.LineJudge.{LineJudge}
-use Rattle.mu_judging.proofs.line_judge.LineJudge.TheSendSync.{the_send as judge}
+use Rattle.mu_handle.specs.contracts.holding.Held as Held
+use Rattle.mu_handle.specs.declared.holding.Held as declared
+use Rattle.mu_handle.proofs.holding.Held.TheSendSync.{the_send as sent}
 use Rattle.mu_handle.specs.Held.{held_owns}
 use Rattle.mu_handle.specs.contracts.handle.Handle.{the_row, the_type}
 
-keyless : (alloc : Global) (at : Ptr) (held : Option LineJudge) → Keyless (held_owns alloc at held)
-keyless alloc at (Some it) = (lies Judge.the_row judge at it, heap.frees.frees alloc (raw (lone Judge.the_row.mir)) at)
+keyless : (alloc : Global) (at : Ptr) (held : Option declared.Held) → Keyless (held_owns alloc at held)
+keyless alloc at (Some it) = (lies Held.the_row sent at it, heap.frees.frees alloc (raw (lone Held.the_row.mir)) at)
 keyless alloc at None = tt
 
 pub send : IsSend the_row

@@ -1,4 +1,4 @@
--- `none` puts null next to the allocator, and owns nothing.
+-- `none` puts null next to the allocator, and owns no block.
 use Rattle.std.proofs.Common.{None}
 use mathlib.Core.Path.{refl, sym, subst}
 use mathlib.Core.List.{List, [], ◌∷◌, ◌++◌}
@@ -20,7 +20,7 @@ use types.Run.{lit, no_more, and_then, returns, enter}
 use types.ByLocal.{alloc_all, pass_all, free_all, look_at, get, sets}
 use denote.Exit.{yes}
 use denote.RattleType.{Valss}
-use denote.RawPtr.{RawPtr, null_ptr, ptr_val}
+use denote.RawPtr.{Ptr, RawPtr, null_ptr, ptr_val}
 use denote.Signature.{plain}
 use denote.Steps.{nothing}
 use denote.Struct.Owning.{shape}
@@ -55,7 +55,7 @@ module _ {M : Type 1} {𝓤 : Ura M} (𝓛 : Logic 𝓤) (at_mem : Memory → SP
       let n = ptr_val null_ptr in
       let w : Val = vstruct (vcons n (vcons h vnil)) in
       -- [what the allocator owns]
-      nothing ! $ nothing ! $ move ! (2 ∷ 0 ∷ []) $ fjoin ! $ feq_i ! (List Val) (n ∷ []) (n ∷ []) refl $ fjoin ! $ feq_i ! (List Val) (w ∷ []) (w ∷ []) refl $ fjoin ! $
+      feq_i ! Ptr null_ptr null_ptr refl $ nothing ! $ move ! (2 ∷ 0 ∷ []) $ fjoin ! $ feq_i ! (List Val) (n ∷ []) (n ∷ []) refl $ fjoin ! $ feq_i ! (List Val) (w ∷ []) (w ∷ []) refl $ fjoin ! $
       fpack ! (Valss (RawPtr ∷ Heap.the_field.row ∷ [])) (within (shape Handle.the_type) (null_ptr, (((tt, tt), tt), tt)) (w ∷ [])) (n ∷ [], (h ∷ [], tt)) $ fjoin ! $ use1 𝓛 (‵ (Handle.the_row.own_val made (w ∷ []))) (id⊢ 𝓤 _) $
       let Γ : List (Item 𝓤) = ‵ (Handle.the_row.own_val made (w ∷ [])) ∷ [] in
       by ! (subst (λ (us : List Val). ent 𝓤 (types.Kit.⋆ 𝓛 Γ) (WpFn 𝓤 H 𝓣.C 𝓣.Λ code.function (us ++ []) Post)) (sym is)

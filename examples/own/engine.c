@@ -1,0 +1,31 @@
+/* A live engine of three replicas: its leader is stopped, and the others answer on.
+ *
+ *     cc -std=c11 -Ic examples/own/engine.c out/libmu.a -o engine && ./engine */
+#include "mu.h"
+#include <stdio.h>
+#include <string.h>
+
+static const char *const COMMANDS[] = { "put a 5", "get a", "swap a 6", "get a", "cas a 6 7", "del a", "get a" };
+static const char *const REPLIES[] = { "", "done", "value ", "none", "kept " };
+
+int main(void)
+{
+    mu_engine engine = MU_NO_ENGINE;
+    size_t count = sizeof COMMANDS / sizeof *COMMANDS;
+    if (mu_engine_new(&engine, 3, 64, 131071, (uint32_t)count) != MU_DONE)
+        return 1;
+    for (size_t k = 0; k < count; k++) {
+        char text[64];
+        size_t taken = 0;
+        uint32_t row, reply;
+        if (k == 3 && mu_engine_stop(&engine, 0) == MU_DONE)
+            puts("replica 0 is stopped");
+        if (mu_engine_submit(&engine, 0, COMMANDS[k], strlen(COMMANDS[k]), &row) != MU_DONE)
+            return 1;
+        while (mu_engine_reply(&engine, row, &reply, text, sizeof text, &taken) == MU_UNFINISHED)
+            mu_engine_round(&engine);
+        printf("%u %s -> %s%.*s\n", (unsigned)row, COMMANDS[k], REPLIES[reply], (int)taken, text);
+    }
+    mu_engine_free(&engine);
+    return 0;
+}
