@@ -1,16 +1,18 @@
-//! A walk over a legal list of events, with the states of all replicas and regions.
-ghost use Rattle.std.specs.Prelude.{IfOk, List, [], MatchOption, Some, length, map, take, vec_capacity, ◌∷◌, ◌<◌, ◌≡◌, ◌≤◌};
+//! A walk over a list of events, with the states of all replicas and regions, as far as it is legal.
+ghost use Rattle.std.specs.Prelude.{IfOk, IsTrue, List, [], MatchOption, Some, map, vec_capacity, ◌∷◌, ◌<◌, ◌≡◌, ◌↔◌};
 ghost use Rattle.mu_model.specs.declared.event.Event.{Event as Made};
 ghost use Rattle.mu_model.specs.Answers.{answer_of};
 ghost use Rattle.mu_model.specs.Contents.{IsConfig};
 ghost use Rattle.mu_model.specs.Histories.{history, part};
 ghost use Rattle.mu_model.specs.Knowledge.{applied as applied_of, commits as commits_of};
 ghost use Rattle.mu_model.specs.Legal.{IsLegal, IsLegalHistory};
+ghost use Rattle.mu_model.specs.Points.{points};
+ghost use Rattle.mu_model.specs.Reasons.{Finds};
 ghost use Rattle.mu_model.specs.Regions.{fence as fence_of, fence_grant};
 ghost use Rattle.mu_model.specs.Scores.{is_failed, leader};
 ghost use Rattle.mu_model.specs.declared.config.Config.{Config as Settings};
 ghost use Rattle.mu_course.specs.Courses.{StandsForCourse};
-ghost use Rattle.mu_course.specs.Walks.{StandsForWalk, TellsStep, fence_shown, grants_shown};
+ghost use Rattle.mu_course.specs.Walks.{IsWalked, StandsForWalk, TellsFault, TellsStep, fence_shown, grants_shown};
 ghost use Rattle.mu_course.specs.Resigning.{is_leading};
 ghost use Rattle.mu_course.specs.SoFar.{IsSoFar};
 ghost use Rattle.mu_knowledge.specs.Commits.{pair_of};
@@ -18,12 +20,12 @@ ghost use Rattle.mu_regions.specs.Range.{InRange};
 
 use crate::course::{Course, Turn};
 use mu_knowledge::Commit;
-use mu_model::{Answer, Config, Event, Fence, NoMemory, Script, Verb};
-use mu_outcome::EndSoFar;
+use mu_model::{Answer, Config, Event, Fence, NoMemory, Reason, Script, Verb};
+use mu_outcome::{Broken, EndSoFar, Fault};
 use mu_regions::Regions;
 use std::alloc::Global;
 
-/// The states of all replicas and regions after the first events of a legal list.
+/// The states of all replicas and regions after the first events of a list, which are legal.
 #[derive(Drop)]
 pub struct Walk {
     courses: Vec<Course>,
@@ -48,6 +50,13 @@ fn grants_in(fence: Option<Fence>) -> u32
         Some(fence) => fence.grant,
         None => 0,
     }
+}
+
+/// Whether the answers are the same.
+fn is_same(given: Answer, defined: Answer) -> bool
+    ensures { IsTrue result ↔ (given ≡ defined) }
+{
+    given == defined
 }
 
 impl Walk {
@@ -170,7 +179,38 @@ impl Walk {
         }
     }
 
-    /// Takes the next event of the legal list, and tells what it comes to. Takes no memory.
+    /// The first point that keeps `by` from making the verb next; none if it may make it.
+    fn why_not(&self, config: &Config, by: u8, verb: &Verb) -> Option<Reason>
+        requires { IsConfig config.now }
+        ensures { (past : List Made) → StandsForWalk config.now past self.now
+            → Finds config.now by (part by past) (points config.now by (part by past) verb.now)
+            result }
+    {
+        match self.courses.get(usize::from(by)) {
+            None => Some(Reason::NoReplica { replica: by }),
+            Some(course) => course.replica.why_not(config, verb),
+        }
+    }
+
+    /// What is wrong with an event as the next one of the list: nothing exactly if it may follow.
+    /// Takes no memory.
+    pub fn fault(&self, config: &Config, event: &Event) -> Option<Fault>
+        requires { IsConfig config.now }
+        ensures { (past : List Made) → StandsForWalk config.now past self.now
+            → TellsFault config.now past event.now result }
+    {
+        if let Some(reason) = self.why_not(config, event.by, &event.verb) {
+            return Some(Fault::NotAllowed(reason));
+        }
+        let expected = self.answer(event.by, &event.verb);
+        if is_same(event.answer, expected) {
+            None
+        } else {
+            Some(Fault::WrongAnswer { expected })
+        }
+    }
+
+    /// Takes the next event, which may follow, and tells what it comes to. Takes no memory.
     pub fn take(&mut self, config: &Config, event: &Event) -> Option<Turn>
         requires { IsConfig config.now }
         ensures stands { (past : List Made) → IsLegalHistory config.now (event.now ∷ past)
@@ -188,7 +228,8 @@ impl Walk {
     }
 }
 
-/// The states after the first `count` events of a legal list.
+/// The states after the events of a list, if these are legal; else those after the events before the
+/// first that breaks it, and that.
 ///
 /// # Errors
 ///
@@ -197,18 +238,24 @@ pub fn walked(
     alloc: Global,
     config: &Config,
     events: &[Event],
-    count: usize,
-) -> Result<Walk, NoMemory>
+) -> Result<(Walk, Option<Broken>), NoMemory>
     requires config { IsConfig config.now }
-    requires legal { IsLegal config.now events.now }
-    requires within { count ≤ length events.now }
-    ensures { IfOk result (λ walk.
-        StandsForWalk config.now (history (take count events.now)) walk) }
+    ensures judged { IfOk result (λ found. IsWalked config.now events.now found.0 found.1) }
+    ensures legal { IsLegal config.now events.now
+        → IfOk result (λ found. StandsForWalk config.now (history events.now) found.0) }
 {
     let mut walk = Walk::new(alloc, config)?;
-    for index in 0..count {
+    for index in 0..events.len() {
         let event = events[index];
+        if let Some(fault) = walk.fault(config, &event) {
+            let broken = Broken {
+                index: index as u32,
+                event,
+                fault,
+            };
+            return Ok((walk, Some(broken)));
+        }
         let _ = walk.take(config, &event);
     }
-    Ok(walk)
+    Ok((walk, None))
 }
