@@ -1,5 +1,5 @@
 //! A walk over a list of events, with the states of all replicas and regions, as far as it is legal.
-ghost use Rattle.std.specs.Prelude.{IfOk, IsTrue, List, [], MatchOption, Some, map, vec_capacity, ◌∷◌, ◌<◌, ◌≡◌, ◌↔◌};
+ghost use Rattle.std.specs.Prelude.{IfOk, IsTrue, List, [], MatchOption, Some, map, vec_capacity, ◌∷◌, ◌<◌, ◌≡◌, ◌≤◌, ◌↔◌};
 ghost use Rattle.mu_model.specs.declared.event.Event.{Event as Made};
 ghost use Rattle.mu_model.specs.Answers.{answer_of};
 ghost use Rattle.mu_model.specs.Contents.{IsConfig};
@@ -82,11 +82,11 @@ impl Walk {
         self.regions.answer(by, verb)
     }
 
-    /// What the events of a replica come to. `None` if there is no such replica.
+    /// What the events of a replica come to. `None` exactly if there is no such replica.
     pub fn course(&self, r: u8) -> Option<&Course>
-        ensures { (past : List Made) → (c : Settings) → r < c.replicas
-            → StandsForWalk c past self.now
-            → MatchOption result ⊥ (λ course. StandsForCourse c r (part r past) course.now) }
+        ensures { (past : List Made) → (c : Settings) → StandsForWalk c past self.now
+            → MatchOption result (c.replicas ≤ r)
+            (λ course. StandsForCourse c r (part r past) course.now) }
     {
         match self.courses.get(usize::from(r)) {
             None => None,
@@ -115,7 +115,7 @@ impl Walk {
         ensures { (past : List Made) → (c : Settings) → r < c.replicas
             → StandsForWalk c past self.now → result ≡ is_leading c r (part r past) }
     {
-        match self.courses.get(usize::from(r)) {
+        match self.course(r) {
             None => false,
             Some(course) => course.is_leading(),
         }
@@ -126,7 +126,7 @@ impl Walk {
         ensures { (past : List Made) → (c : Settings) → r < c.replicas
             → StandsForWalk c past self.now → result.now ≡ applied_of c r (part r past) }
     {
-        match self.courses.get(usize::from(r)) {
+        match self.course(r) {
             None => &[],
             Some(course) => course.applied(),
         }
@@ -138,7 +138,7 @@ impl Walk {
             → StandsForWalk c past self.now
             → map pair_of result.now ≡ commits_of c r (part r past) }
     {
-        match self.courses.get(usize::from(r)) {
+        match self.course(r) {
             None => &[],
             Some(course) => course.commits(),
         }
@@ -151,7 +151,7 @@ impl Walk {
             → StandsForWalk config.now past self.now
             → IsSoFar config.now script.now r (part r past) result }
     {
-        match self.courses.get(usize::from(r)) {
+        match self.course(r) {
             None => EndSoFar::Running,
             Some(course) => course.end(config, script),
         }
@@ -162,7 +162,7 @@ impl Walk {
         ensures { (past : List Made) → (c : Settings) → r < c.replicas
             → StandsForWalk c past self.now → result ≡ leader c r (part r past) }
     {
-        match self.courses.get(usize::from(r)) {
+        match self.course(r) {
             None => 0,
             Some(course) => course.named(),
         }
@@ -173,7 +173,7 @@ impl Walk {
         ensures { (past : List Made) → (c : Settings) → r < c.replicas → q < c.replicas
             → StandsForWalk c past self.now → result ≡ is_failed r q (part r past) }
     {
-        match self.courses.get(usize::from(r)) {
+        match self.course(r) {
             None => false,
             Some(course) => course.fails(q),
         }
@@ -186,7 +186,7 @@ impl Walk {
             → Finds config.now by (part by past) (points config.now by (part by past) verb.now)
             result }
     {
-        match self.courses.get(usize::from(by)) {
+        match self.course(by) {
             None => Some(Reason::NoReplica { replica: by }),
             Some(course) => course.replica.why_not(config, verb),
         }

@@ -1,11 +1,5 @@
 use Rattle.mu_model.specs.Histories.{part}
-use Rattle.mu_course.proofs.Walking.{found_there}
 use Rattle.mu_course.proofs.walk.Walk.fails.Goals as goal
 
 pub returns-in-Some : goal.returns-in-Some
-returns-in-Some c = λ past s low near held.
-    let found = c.in-Some.ensures.lookup in
-    let r = c.args.r in
-    let course = c.in-Some.course.now in
-    c.fails.ensures s r (part r past) near
-    (held.each r course (found_there c.args.self.now.courses.items c.deref.result.now c.from.result r course c.deref.ensures.value c.from.ensures found.1 found.3.0))
+returns-in-Some c = λ past s low near held. c.fails.ensures s c.args.r (part c.args.r past) near (c.in-Some.ensures past s held)
