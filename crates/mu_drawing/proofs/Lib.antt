@@ -1,3 +1,2 @@
 mod MarkSteps
-mod Results
 mod Tooltips

@@ -4,6 +4,7 @@ mod Documents
 mod GoingOn
 mod LastSteps
 mod OnePicture
+mod SoundParts
 mod StandingsTaken
 mod Steps
 mod Unmarked
