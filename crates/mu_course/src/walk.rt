@@ -6,8 +6,6 @@ ghost use Rattle.mu_model.specs.Contents.{IsConfig};
 ghost use Rattle.mu_model.specs.Histories.{history, part};
 ghost use Rattle.mu_model.specs.Knowledge.{applied as applied_of, commits as commits_of};
 ghost use Rattle.mu_model.specs.Legal.{IsLegal, IsLegalHistory};
-ghost use Rattle.mu_model.specs.Points.{points};
-ghost use Rattle.mu_model.specs.Reasons.{Finds};
 ghost use Rattle.mu_model.specs.Regions.{fence as fence_of, fence_grant};
 ghost use Rattle.mu_model.specs.Scores.{is_failed, leader};
 ghost use Rattle.mu_model.specs.declared.config.Config.{Config as Settings};
@@ -179,19 +177,6 @@ impl Walk {
         }
     }
 
-    /// The first point that keeps `by` from making the verb next; none if it may make it.
-    fn why_not(&self, config: &Config, by: u8, verb: &Verb) -> Option<Reason>
-        requires { IsConfig config.now }
-        ensures { (past : List Made) → StandsForWalk config.now past self.now
-            → Finds config.now by (part by past) (points config.now by (part by past) verb.now)
-            result }
-    {
-        match self.course(by) {
-            None => Some(Reason::NoReplica { replica: by }),
-            Some(course) => course.replica.why_not(config, verb),
-        }
-    }
-
     /// What is wrong with an event as the next one of the list: nothing exactly if it may follow.
     /// Takes no memory.
     pub fn fault(&self, config: &Config, event: &Event) -> Option<Fault>
@@ -199,7 +184,10 @@ impl Walk {
         ensures { (past : List Made) → StandsForWalk config.now past self.now
             → TellsFault config.now past event.now result }
     {
-        if let Some(reason) = self.why_not(config, event.by, &event.verb) {
+        let Some(course) = self.course(event.by) else {
+            return Some(Fault::NotAllowed(Reason::NoReplica { replica: event.by }));
+        };
+        if let Some(reason) = course.replica.why_not(config, &event.verb) {
             return Some(Fault::NotAllowed(reason));
         }
         let expected = self.answer(event.by, &event.verb);

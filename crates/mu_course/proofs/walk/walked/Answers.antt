@@ -1,8 +1,7 @@
-use Rattle.std.proofs.Common.{◌≡◌, ◌<◌, ◌∷◌, arith, length, subst, sym, take}
+use Rattle.std.proofs.Common.{arith, subst, sym, take}
 use Rattle.std.proofs.lemmas.List.{length-reverse, length-take-le, take_all}
 use Rattle.mu_model.proofs.Budgets.{short_history}
 use Rattle.mu_model.specs.Histories.{history}
-use Rattle.mu_model.specs.Legal.{IsLegalHistory}
 use Rattle.mu_outcome.proofs.Places.{history_at_next, legal_there, read_there}
 use Rattle.mu_course.proofs.Walking.{fault_denies}
 use Rattle.mu_course.specs.Walks.{StandsForWalk}
@@ -43,7 +42,7 @@ overflow_cast-broken c =
     let config = c.args.config.now in
     let events = c.args.events.now in
     let i = c.loop-index.index in
-    let short = short_history config (history (take i events)) c.loop-index.invariant.legal c.requires.replicas.1 c.requires.budget.1 in
+    let short = short_history config (history (take i events)) c.loop-index.invariant.legal c.requires.config.replicas.1 c.requires.config.budget.1 in
     let all = length-reverse (take i events) in
     let front = length-take-le i events (omega (arith, c.loop-index-test.true)) in
     omega (arith, short, all, front)
