@@ -1,2 +1,3 @@
 mod MarkSteps
+mod Results
 mod Tooltips

@@ -52,10 +52,6 @@ abbrev pub breach_with : Broken → Breach
 breach_with broken =
     record { step = broken.index; event = broken.event; fault = fault_words broken.fault }
 
-abbrev pub breach_in : Option Broken → Option Breach
-breach_in None = None
-breach_in (Some broken) = Some (breach_with broken)
-
 -- the list breaks here for this reason, and this is the drawing of the picture of the steps before
 -- that are asked for, and of the event that breaks it: a document of XML
 pub record IsBrokenDrawingOf (job : Job) (line : ℕ) (events : List Event) (broken : Broken)

@@ -4,7 +4,6 @@ mod Documents
 mod GoingOn
 mod LastSteps
 mod OnePicture
-mod SoundParts
 mod StandingsTaken
 mod Steps
 mod Unmarked

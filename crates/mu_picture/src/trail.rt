@@ -1,8 +1,8 @@
 //! The states of all replicas, regions and lanes along a legal list of events.
-ghost use Rattle.std.specs.Prelude.{◌≡◌, ◌∷◌, ◌<◌, ◌≤◌, ℕ, [], List, Some, IfOk, length, take};
+ghost use Rattle.std.specs.Prelude.{◌≡◌, ◌∷◌, ◌<◌, ℕ, [], List, Some, IfOk, length};
 ghost use Rattle.mu_course.specs.Walks.{StandsForWalk};
 ghost use Rattle.mu_model.specs.Contents.{IsConfig};
-ghost use Rattle.mu_model.specs.Histories.{history, part};
+ghost use Rattle.mu_model.specs.Histories.{part};
 ghost use Rattle.mu_model.specs.Legal.{IsLegalHistory};
 ghost use Rattle.mu_model.specs.Scores.{is_failed};
 ghost use Rattle.mu_model.specs.declared.config.Config.{Config as Settings};
@@ -11,7 +11,6 @@ ghost use Rattle.mu_model.specs.declared.script.Script.{Script as Settled};
 ghost use Rattle.mu_picture.specs.Hearing.{heard_by};
 ghost use Rattle.mu_picture.specs.Marks.{mark_of};
 ghost use Rattle.mu_picture.specs.Openings.{opening_of};
-ghost use Rattle.mu_picture.specs.Rows.{Passes};
 ghost use Rattle.mu_picture.specs.Trails.{StandsForTrail, TellsNoted};
 
 use crate::deeds::{Heard, deed_of};
@@ -20,13 +19,12 @@ use crate::openings::{Opening, opening_with};
 use crate::standings::{Standings, resumed_at, standing_with};
 use mu_course::{Turn, Walk, halt_after};
 use mu_model::{Config, Event, NoMemory, Script, Verb};
-use mu_outcome::Broken;
 use std::alloc::Global;
 
 /// The states of all replicas, regions and lanes after the first events of a legal list.
 #[derive(Drop)]
 pub struct Trail {
-    pub(crate) walk: Walk,
+    walk: Walk,
     standings: Standings,
 }
 
@@ -123,36 +121,5 @@ impl Trail {
         let halt = halt_after(config, script, r, turn.told.steps, turn.finishes);
         self.standings.take(r, standing_with(deed, halt));
         made_of(step, event, resumed, deed, halt)
-    }
-
-    /// Takes the events from `from` on and before `to`; or those before the first of them that breaks
-    /// the list, which is told.
-    pub fn pass(
-        &mut self,
-        config: &Config,
-        script: &Script,
-        events: &[Event],
-        from: u32,
-        to: u32,
-    ) -> Option<Broken>
-        requires config { IsConfig config.now }
-        requires order { from ≤ to }
-        requires within { to ≤ length events.now }
-        requires stands { StandsForTrail config.now script.now (history (take from events.now))
-            self.old }
-        ensures { Passes config.now script.now events.now from to self.new result }
-    {
-        for index in from..to {
-            let event = events[index as usize];
-            if let Some(fault) = self.walk.fault(config, &event) {
-                return Some(Broken {
-                    index,
-                    event,
-                    fault,
-                });
-            }
-            let _ = self.take(config, script, index, &event);
-        }
-        None
     }
 }

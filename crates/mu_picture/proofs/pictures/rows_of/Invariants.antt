@@ -1,5 +1,5 @@
 -- The trail has taken the events before this one, and their rows are there.
-use Rattle.std.proofs.Common.{◌≡◌, ◌≤◌, take}
+use Rattle.std.proofs.Common.{◌≡◌, take}
 use Rattle.mu_model.specs.Histories.{history}
 use Rattle.mu_picture.specs.Marks.{marks_of}
 use Rattle.mu_picture.specs.Rows.{HoldsRows}
@@ -8,7 +8,6 @@ use Rattle.mu_picture.proofs.pictures.rows_of.Given as goal
 
 abbrev pub invariant-loop-index : goal.invariant-loop-index
 invariant-loop-index l = record {
-  from : l.first ≤ l.index;
   trail : StandsForTrail l.config l.script (history (take l.index l.events)) l.trail;
   rows : HoldsRows l.index l.rows;
   first : l.rows.first ≡ l.first;
