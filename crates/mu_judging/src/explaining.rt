@@ -35,11 +35,10 @@ pub fn explain_trace(alloc: Global, bytes: &[u8]) -> Said
         Err(InputEnd::NoMemory) => return Said::NoMemory,
     };
     let events = list.as_slice();
-    let count = events.len() as u32;
     match explain(alloc, &job.config, events) {
         Ok(Some(broken)) => Said::Explained {
-            events: count,
-            line: line_of(bytes, count, &broken),
+            events: events.len() as u32,
+            line: line_of(bytes, events, &broken),
             broken: Some(broken),
         },
         Ok(None) => noted(alloc, &job, events),
@@ -87,15 +86,16 @@ pub fn count_of_lines(bytes: &[u8]) -> u32
     rest.number() - 1
 }
 
-/// The line of the event that breaks the events of a trace, of which there are so many: they stand in
-/// the last lines, before the last `end`.
-pub(crate) fn line_of(bytes: &[u8], events: u32, broken: &Broken) -> u32
-    requires { length bytes.now ≤ TRACE_LIMIT }
-    ensures { (spelled : Trace) → trace bytes.now ≡ Fits spelled
-        → events ≡ length spelled.events → IsBroken spelled.job.config spelled.events broken.now
-        → IsExplained bytes.now events result (Some broken.now) }
+/// The line of the event that breaks the events of a trace: they stand in the last lines, before the
+/// last `end`.
+pub(crate) fn line_of(bytes: &[u8], events: &[Event], broken: &Broken) -> u32
+    requires limit { length bytes.now ≤ TRACE_LIMIT }
+    requires countable { length events.now < 2 ^ 32 }
+    ensures { (spelled : Trace) → trace bytes.now ≡ Fits spelled → events.now ≡ spelled.events
+        → IsBroken spelled.job.config events.now broken.now
+        → IsExplained bytes.now (length events.now) result (Some broken.now) }
 {
     count_of_lines(bytes)
-        .saturating_sub(events)
+        .saturating_sub(events.len() as u32)
         .saturating_add(broken.index)
 }

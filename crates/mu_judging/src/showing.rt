@@ -30,20 +30,16 @@ pub fn show_trace(alloc: Global, bytes: &[u8], count: u32) -> Said
     };
     let events = list.as_slice();
     let taken = count_within(count, events.len());
-    let (walk, broken) = match walked(alloc, &job.config, &events[..taken]) {
-        Ok(found) => found,
-        Err(NoMemory) => return Said::NoMemory,
-    };
-    if let Some(broken) = broken {
-        let count = events.len() as u32;
-        return Said::Explained {
-            events: count,
-            line: line_of(bytes, count, &broken),
+    match walked(alloc, &job.config, &events[..taken]) {
+        Ok((walk, None)) => match moment_of(alloc, &job.config, events, taken, &walk) {
+            Ok(moment) => Said::Shown(moment),
+            Err(NoMemory) => Said::NoMemory,
+        },
+        Ok((_, Some(broken))) => Said::Explained {
+            events: events.len() as u32,
+            line: line_of(bytes, events, &broken),
             broken: Some(broken),
-        };
-    }
-    match moment_of(alloc, &job.config, events, taken, &walk) {
-        Ok(moment) => Said::Shown(moment),
+        },
         Err(NoMemory) => Said::NoMemory,
     }
 }

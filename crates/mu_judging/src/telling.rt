@@ -28,20 +28,16 @@ pub fn tell_trace(alloc: Global, bytes: &[u8]) -> Said
         Err(InputEnd::NoMemory) => return Said::NoMemory,
     };
     let events = list.as_slice();
-    let count = events.len() as u32;
-    let (walk, broken) = match walked(alloc, &job.config, events) {
-        Ok(found) => found,
-        Err(NoMemory) => return Said::NoMemory,
-    };
-    if let Some(broken) = broken {
-        return Said::Explained {
-            events: count,
-            line: line_of(bytes, count, &broken),
+    match walked(alloc, &job.config, events) {
+        Ok((walk, None)) => match account_of(alloc, job, &walk) {
+            Ok(account) => Said::Told(account),
+            Err(NoMemory) => Said::NoMemory,
+        },
+        Ok((_, Some(broken))) => Said::Explained {
+            events: events.len() as u32,
+            line: line_of(bytes, events, &broken),
             broken: Some(broken),
-        };
-    }
-    match account_of(alloc, job, &walk) {
-        Ok(account) => Said::Told(account),
+        },
         Err(NoMemory) => Said::NoMemory,
     }
 }

@@ -5,26 +5,25 @@ use Rattle.mu_course.specs.Walks.{IsWalked}
 use Rattle.mu_judging.proofs.Breaking.{broken_among}
 use Rattle.mu_model.specs.Legal.{IsLegal}
 use Rattle.mu_model.specs.declared.event.Event.{Event}
-use Rattle.mu_outcome.specs.Breaks.{IsBroken}
 use Rattle.mu_telling.specs.Shown.{IsMoment}
 use Rattle.mu_judging.proofs.showing.show_trace.Goals as goal
 
 pub moment_of-requires-clause-stands : goal.moment_of-requires-clause-stands
 moment_of-requires-clause-stands c =
-    subst (λ b. IsWalked c.in-Ok.read.0.config (take c.count_within-taken.result c.as_slice-events.result.now) c.in-Ok-walked.found.0 b) c.in_default.is c.in-Ok-walked.ensures.judged
+    let walked = c.in-Ok-default-None in
+    subst (λ b. IsWalked c.in-Ok.read.0.config (take c.count_within-taken.result c.as_slice-events.result.now) walked.walk b) walked.field-0-1-is walked.ensures.judged
 
-pub returns-in-Some-clause-says : goal.returns-in-Some-clause-says
-returns-in-Some-clause-says c =
+pub returns-in-Ok-default-Some-clause-says : goal.returns-in-Ok-default-Some-clause-says
+returns-in-Ok-default-Some-clause-says c =
     let config = c.in-Ok.read.0.config in
     let events = c.as_slice-events.result.now in
     let taken = c.count_within-taken.result in
-    let found = c.in-Ok-walked.found in
-    let broken = c.in-Some.broken in
-    let breaks = subst (λ b. IsWalked config (take taken events) found.0 b) c.in-Some.is c.in-Ok-walked.ensures.judged in
+    let broken = c.in-Ok-default-Some.broken in
+    let walked = c.in-Ok-default-Some in
+    let breaks = subst (λ b. IsWalked config (take taken events) walked.field-0-0 b) walked.field-0-1-is walked.ensures.judged in
     let within = slice_get_within (take taken events) broken.index broken.event breaks.there in
     let long = length-take-le taken events (omega (arith, c.count_within-taken.ensures)) in (
-      c.line_of.ensures (record { job = c.in-Ok.read.0; events = c.in-Ok.read.1 }) c.in-Ok.ensures.reading (ap length c.as_slice-events.ensures)
-      (subst (λ (es : List Event). IsBroken config es broken) c.as_slice-events.ensures (broken_among config taken events broken breaks)),
+      c.line_of.ensures (record { job = c.in-Ok.read.0; events = c.in-Ok.read.1 }) c.in-Ok.ensures.reading c.as_slice-events.ensures (broken_among config taken events broken breaks),
       omega (arith, within, long, c.count_within-taken.ensures),
     )
 
@@ -35,7 +34,8 @@ returns-in-Ok-moment_of-clause-says c =
     let events = c.as_slice-events.result.now in
     let taken = c.count_within-taken.result in
     let moment = c.in-Ok-moment_of.moment in
-    let stands = subst (λ b. IsWalked config (take taken events) c.in-Ok-walked.found.0 b) c.in_default.is c.in-Ok-walked.ensures.judged in
+    let walked = c.in-Ok-default-None in
+    let stands = subst (λ b. IsWalked config (take taken events) walked.walk b) walked.field-0-1-is walked.ensures.judged in
     let front : take taken events ≡ take n c.in-Ok.read.1 = ap (λ k. take k events) c.count_within-taken.ensures ∙ (take_min n events ∙ ap (take n) c.as_slice-events.ensures) in
     record {
       spelled = record { job = c.in-Ok.read.0; events = c.in-Ok.read.1 };
