@@ -87,7 +87,7 @@ attested_to bytes job first left next attestor flawed more held gives rest flaw 
 
 -- fewer events came than a legal list may have
 pub few_events : (job : Job) (past : List Item) (attestor : Attestor) → IsConfig job.config → StandsForAttestor job past attestor → length (events_in past) ≤ 917497
-few_events job past attestor good stands = short_history job.config (events_in past) stands.judge.legal good.replicas.1 good.budget.1
+few_events job past attestor good stands = short_history job.config (events_in past) stands.walk.legal good.replicas.1 good.budget.1
 
 -- each item is an event, a command that was got, or a reply
 pub counts_fit : (past : List Item) → length (events_in past) + length (rows_got past) ≤ length past
@@ -101,7 +101,6 @@ pub told_judged : (job : Job) (past : List Item) (by row : ℕ) (reply : Reply) 
     → StandsForAttestor job past attestor → StaysOrTakes job past (Item.Told by row reply) attestor flaw
 told_judged job past by row reply right None attestor is judged held = record {
   attested = (held.attested, sym is ∙ judged);
-  judge = held.judge;
   walk = held.walk;
   got = held.got;
   put = held.put;

@@ -4,7 +4,6 @@ use Rattle.std.specs.Prelude.{◌+◌, ◌≡◌, ◌≢◌, List, ◌∷◌, No
 use Rattle.std.specs.declared.option.Option.{Option}
 use Rattle.kv_store.specs.declared.store.Reply.{Reply}
 use Rattle.mu_attest.specs.declared.attestor.Attestor.{Attestor}
-use Rattle.mu_check.specs.Judges.{StandsForJudge}
 use Rattle.mu_clients.specs.Attested.{IsAttestedBack, IsFlaw, events_in, rows_got, rows_put}
 use Rattle.mu_clients.specs.declared.items.Attested.{Attested}
 use Rattle.mu_clients.specs.declared.items.Flaw.{Flaw}
@@ -15,7 +14,6 @@ use Rattle.mu_input.specs.declared.job.Job.{Job}
 -- the items, with the newest first, are attested, and the states are those that they lead to
 pub record StandsForAttestor (job : Job) (past : List Item) (attestor : Attestor) : Type 0 where
   pub attested : IsAttestedBack job past
-  pub judge : StandsForJudge job.config (events_in past) attestor.judge
   pub walk : StandsForWalk job.config (events_in past) attestor.walk
   pub got : attestor.got.items ≡ rows_got past
   pub put : attestor.put.items ≡ rows_put job.config (events_in past)

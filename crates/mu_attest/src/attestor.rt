@@ -10,7 +10,6 @@ ghost use Rattle.mu_model.specs.Contents.{IsConfig};
 use crate::replying::reply_over;
 use crate::rows::{has_row, push_put};
 use kv_store::Reply;
-use mu_check::Judge;
 use mu_clients::{Flaw, Item};
 use mu_course::Walk;
 use mu_input::Job;
@@ -20,9 +19,7 @@ use std::alloc::Global;
 /// The states after an attested list of items.
 #[derive(Drop)]
 pub(crate) struct Attestor {
-    /// Of the regions and the replicas, by which events are judged.
-    judge: Judge,
-    /// What each replica has applied.
+    /// Of the regions and the replicas: by these events are judged, and replies.
     walk: Walk,
     /// The rows whose commands were got.
     got: Vec<u16>,
@@ -43,7 +40,6 @@ impl Attestor {
         ensures { IfOk result (StandsForAttestor job.now []) }
     {
         Ok(Attestor {
-            judge: Judge::new(alloc, &job.config)?,
             walk: Walk::new(alloc, &job.config)?,
             got: Vec::new(alloc),
             put: Vec::new(alloc),
@@ -95,7 +91,7 @@ impl Attestor {
         ensures { (past : List SomeItem) → StandsForAttestor job.now past self.old
             → IfOk result (StaysOrTakes job.now past (item.Event event.now) self.new) }
     {
-        if let Some(fault) = self.judge.take(&job.config, event) {
+        if let Some(fault) = self.walk.fault(&job.config, event) {
             return Ok(Some(Flaw::Fault(fault)));
         }
         let _ = self.walk.take(&job.config, event);

@@ -1,12 +1,18 @@
--- What an event leaves of the parts of the replicas, and of a state for each.
+-- What an event leaves of the parts of the replicas, and of a state for each; no event at fault may
+-- follow.
 use Rattle.std.proofs.Common.{◌≡◌, ◌≢◌, ℕ, ap, ◌∙◌, ◌<◌, ◌∷◌, List, Some, length, refl, sym, get_or, subst, set, inl, inr}
 use Rattle.std.proofs.lemmas.Option.{slice_get-get_or}
 use Rattle.std.specs.List.{slice_get}
 use Rattle.std.proofs.lemmas.Bool.Decides.{eqb_tells}
 use Rattle.mu_model.specs.declared.event.Event.{Event}
 use Rattle.mu_model.specs.Histories.{part}
+use Rattle.mu_model.specs.Legal.{MayFollow}
+use Rattle.mu_model.specs.declared.config.Config.{Config}
 use Rattle.mu_model.proofs.Lists.{set_get}
 use Rattle.mu_model.proofs.Parts.{part_of_maker}
+use Rattle.mu_model.proofs.Reasons.{reason_denies}
+use Rattle.mu_outcome.specs.Breaks.{IsFault}
+use Rattle.mu_outcome.specs.declared.fault.Fault.{Fault}
 
 -- the part of a replica that did not make the event stays
 other_part : (r : ℕ) (e : Event) (past : List Event) → r ≢ e.by → part r (e ∷ past) ≡ part r past
@@ -28,3 +34,8 @@ each_part_next P past e k items was new by at step held r x there = elim (set_ge
       subst (λ q. P q (part q (e ∷ past)) x) (sym (here.0 ∙ by)) (subst (λ s. P e.by (part e.by (e ∷ past)) s) here.1 mine)
   | inr other ↦ subst (λ l. P r l x) (sym (other_part r e past (λ is. other.0 (is ∙ sym by)))) (held r x other.1)
 ]
+
+-- no event with which something is wrong may follow
+pub fault_denies : (c : Config) (past : List Event) (e : Event) (fault : Fault) → IsFault c past e fault → MayFollow c past e → ⊥
+fault_denies c past e (Fault.NotAllowed reason) is follows = reason_denies c e.by (part e.by past) e.verb reason is follows.allowed
+fault_denies c past e (Fault.WrongAnswer expected) is follows = is.2 (follows.answer ∙ sym is.1)

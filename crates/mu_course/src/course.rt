@@ -34,7 +34,7 @@ use std::alloc::Global;
 #[derive(Drop)]
 pub struct Course {
     /// What they let it do next.
-    replica: Replica,
+    pub(crate) replica: Replica,
     /// Which replicas it holds to be failed.
     scores: Scores,
     /// Whether it gave up its last leadership.

@@ -1,5 +1,6 @@
-//! What the events of a legal list come to: of each replica its leadership, what it knows, which
-//! replicas it names and what befalls it after a step, and the states of the regions.
+//! What the events of a list come to, up to the first that breaks it: of each replica its leadership,
+//! what it knows, which replicas it names and what befalls it after a step, and the states of the
+//! regions.
 #![tactic(auto)]
 
 mod course;

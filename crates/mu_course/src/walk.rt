@@ -1,5 +1,5 @@
-//! A walk over a legal list of events, with the states of all replicas and regions.
-ghost use Rattle.std.specs.Prelude.{IfOk, List, [], MatchOption, Some, length, map, take, vec_capacity, ◌∷◌, ◌<◌, ◌≡◌, ◌≤◌};
+//! A walk over a list of events, with the states of all replicas and regions, as far as it is legal.
+ghost use Rattle.std.specs.Prelude.{IfOk, IsTrue, List, [], MatchOption, Some, map, vec_capacity, ◌∷◌, ◌<◌, ◌≡◌, ◌≤◌, ◌↔◌};
 ghost use Rattle.mu_model.specs.declared.event.Event.{Event as Made};
 ghost use Rattle.mu_model.specs.Answers.{answer_of};
 ghost use Rattle.mu_model.specs.Contents.{IsConfig};
@@ -10,7 +10,7 @@ ghost use Rattle.mu_model.specs.Regions.{fence as fence_of, fence_grant};
 ghost use Rattle.mu_model.specs.Scores.{is_failed, leader};
 ghost use Rattle.mu_model.specs.declared.config.Config.{Config as Settings};
 ghost use Rattle.mu_course.specs.Courses.{StandsForCourse};
-ghost use Rattle.mu_course.specs.Walks.{StandsForWalk, TellsStep, fence_shown, grants_shown};
+ghost use Rattle.mu_course.specs.Walks.{IsWalked, StandsForWalk, TellsFault, TellsStep, fence_shown, grants_shown};
 ghost use Rattle.mu_course.specs.Resigning.{is_leading};
 ghost use Rattle.mu_course.specs.SoFar.{IsSoFar};
 ghost use Rattle.mu_knowledge.specs.Commits.{pair_of};
@@ -18,12 +18,12 @@ ghost use Rattle.mu_regions.specs.Range.{InRange};
 
 use crate::course::{Course, Turn};
 use mu_knowledge::Commit;
-use mu_model::{Answer, Config, Event, Fence, NoMemory, Script, Verb};
-use mu_outcome::EndSoFar;
+use mu_model::{Answer, Config, Event, Fence, NoMemory, Reason, Script, Verb};
+use mu_outcome::{Broken, EndSoFar, Fault};
 use mu_regions::Regions;
 use std::alloc::Global;
 
-/// The states of all replicas and regions after the first events of a legal list.
+/// The states of all replicas and regions after the first events of a list, which are legal.
 #[derive(Drop)]
 pub struct Walk {
     courses: Vec<Course>,
@@ -50,6 +50,13 @@ fn grants_in(fence: Option<Fence>) -> u32
     }
 }
 
+/// Whether the answers are the same.
+fn is_same(given: Answer, defined: Answer) -> bool
+    ensures { IsTrue result ↔ (given ≡ defined) }
+{
+    given == defined
+}
+
 impl Walk {
     /// The states before any event. Takes all memory that it ever needs.
     pub fn new(alloc: Global, config: &Config) -> Result<Walk, NoMemory>
@@ -73,11 +80,11 @@ impl Walk {
         self.regions.answer(by, verb)
     }
 
-    /// What the events of a replica come to. `None` if there is no such replica.
+    /// What the events of a replica come to. `None` exactly if there is no such replica.
     pub fn course(&self, r: u8) -> Option<&Course>
-        ensures { (past : List Made) → (c : Settings) → r < c.replicas
-            → StandsForWalk c past self.now
-            → MatchOption result ⊥ (λ course. StandsForCourse c r (part r past) course.now) }
+        ensures { (past : List Made) → (c : Settings) → StandsForWalk c past self.now
+            → MatchOption result (c.replicas ≤ r)
+            (λ course. StandsForCourse c r (part r past) course.now) }
     {
         match self.courses.get(usize::from(r)) {
             None => None,
@@ -106,7 +113,7 @@ impl Walk {
         ensures { (past : List Made) → (c : Settings) → r < c.replicas
             → StandsForWalk c past self.now → result ≡ is_leading c r (part r past) }
     {
-        match self.courses.get(usize::from(r)) {
+        match self.course(r) {
             None => false,
             Some(course) => course.is_leading(),
         }
@@ -117,7 +124,7 @@ impl Walk {
         ensures { (past : List Made) → (c : Settings) → r < c.replicas
             → StandsForWalk c past self.now → result.now ≡ applied_of c r (part r past) }
     {
-        match self.courses.get(usize::from(r)) {
+        match self.course(r) {
             None => &[],
             Some(course) => course.applied(),
         }
@@ -129,7 +136,7 @@ impl Walk {
             → StandsForWalk c past self.now
             → map pair_of result.now ≡ commits_of c r (part r past) }
     {
-        match self.courses.get(usize::from(r)) {
+        match self.course(r) {
             None => &[],
             Some(course) => course.commits(),
         }
@@ -142,7 +149,7 @@ impl Walk {
             → StandsForWalk config.now past self.now
             → IsSoFar config.now script.now r (part r past) result }
     {
-        match self.courses.get(usize::from(r)) {
+        match self.course(r) {
             None => EndSoFar::Running,
             Some(course) => course.end(config, script),
         }
@@ -153,7 +160,7 @@ impl Walk {
         ensures { (past : List Made) → (c : Settings) → r < c.replicas
             → StandsForWalk c past self.now → result ≡ leader c r (part r past) }
     {
-        match self.courses.get(usize::from(r)) {
+        match self.course(r) {
             None => 0,
             Some(course) => course.named(),
         }
@@ -164,13 +171,34 @@ impl Walk {
         ensures { (past : List Made) → (c : Settings) → r < c.replicas → q < c.replicas
             → StandsForWalk c past self.now → result ≡ is_failed r q (part r past) }
     {
-        match self.courses.get(usize::from(r)) {
+        match self.course(r) {
             None => false,
             Some(course) => course.fails(q),
         }
     }
 
-    /// Takes the next event of the legal list, and tells what it comes to. Takes no memory.
+    /// What is wrong with an event as the next one of the list: nothing exactly if it may follow.
+    /// Takes no memory.
+    pub fn fault(&self, config: &Config, event: &Event) -> Option<Fault>
+        requires { IsConfig config.now }
+        ensures { (past : List Made) → StandsForWalk config.now past self.now
+            → TellsFault config.now past event.now result }
+    {
+        let Some(course) = self.course(event.by) else {
+            return Some(Fault::NotAllowed(Reason::NoReplica { replica: event.by }));
+        };
+        if let Some(reason) = course.replica.why_not(config, &event.verb) {
+            return Some(Fault::NotAllowed(reason));
+        }
+        let expected = self.answer(event.by, &event.verb);
+        if is_same(event.answer, expected) {
+            None
+        } else {
+            Some(Fault::WrongAnswer { expected })
+        }
+    }
+
+    /// Takes the next event, which may follow, and tells what it comes to. Takes no memory.
     pub fn take(&mut self, config: &Config, event: &Event) -> Option<Turn>
         requires { IsConfig config.now }
         ensures stands { (past : List Made) → IsLegalHistory config.now (event.now ∷ past)
@@ -188,7 +216,8 @@ impl Walk {
     }
 }
 
-/// The states after the first `count` events of a legal list.
+/// The states after the events of a list, if these are legal; else those after the events before the
+/// first that breaks it, and that.
 ///
 /// # Errors
 ///
@@ -197,18 +226,24 @@ pub fn walked(
     alloc: Global,
     config: &Config,
     events: &[Event],
-    count: usize,
-) -> Result<Walk, NoMemory>
+) -> Result<(Walk, Option<Broken>), NoMemory>
     requires config { IsConfig config.now }
-    requires legal { IsLegal config.now events.now }
-    requires within { count ≤ length events.now }
-    ensures { IfOk result (λ walk.
-        StandsForWalk config.now (history (take count events.now)) walk) }
+    ensures judged { IfOk result (λ found. IsWalked config.now events.now found.0 found.1) }
+    ensures legal { IsLegal config.now events.now
+        → IfOk result (λ found. StandsForWalk config.now (history events.now) found.0) }
 {
     let mut walk = Walk::new(alloc, config)?;
-    for index in 0..count {
+    for index in 0..events.len() {
         let event = events[index];
+        if let Some(fault) = walk.fault(config, &event) {
+            let broken = Broken {
+                index: index as u32,
+                event,
+                fault,
+            };
+            return Ok((walk, Some(broken)));
+        }
         let _ = walk.take(config, &event);
     }
-    Ok(walk)
+    Ok((walk, None))
 }

@@ -1,4 +1,4 @@
+mod Breaking
 pub mod EventLines
-mod Firsts
 mod JudgedEvents
 mod TakenEvents

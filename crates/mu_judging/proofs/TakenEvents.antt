@@ -2,19 +2,20 @@
 use Rattle.std.proofs.Common.{◌≡◌, ℕ, ◌+◌, ◌<◌, ◌≤◌, ◌^◌, List, [], ◌∷◌, ◌++◌, length, take, None, Some, Option, refl, sym, ap, subst, ◌∙◌, arith}
 use Rattle.std.specs.Prelude.{IfSome}
 use Rattle.std.proofs.Math.Seq.{take-append_seam}
-use Rattle.std.proofs.lemmas.List.{length-reverse, length-take-le, length_push, reverse-append, take-append-le}
+use Rattle.std.proofs.lemmas.List.{length-reverse, length-take-le, length_push, reverse-append}
 use Rattle.std.proofs.lemmas.Option.{slice_get_within}
 use Rattle.mu_check.specs.Judges.{StandsForJudge}
 use Rattle.mu_input.proofs.Advancing.{few_lines}
 use Rattle.mu_input.specs.Readings.{Fits}
 use Rattle.mu_input.specs.Traces.{Trace, trace}
 use Rattle.mu_input.specs.declared.TheConstants.{TRACE_LIMIT}
+use Rattle.mu_judging.proofs.Breaking.{broken_before}
 use Rattle.mu_judging.proofs.EventLines.{explained_is}
 use Rattle.mu_judging.specs.Explained.{IsExplained}
 use Rattle.mu_judging.specs.LineJudges.{count_to, GoesOn, HasTaken}
 use Rattle.mu_judging.specs.declared.line_judge.LineJudge.{LineJudge}
 use Rattle.mu_model.proofs.Budgets.{short_history}
-use Rattle.mu_model.proofs.Lists.{get_front, get_push_here}
+use Rattle.mu_model.proofs.Lists.{get_push_here}
 use Rattle.mu_model.specs.Histories.{history}
 use Rattle.mu_model.specs.Legal.{IsLegal}
 use Rattle.mu_model.specs.declared.config.Config.{Config}
@@ -93,19 +94,12 @@ breaks c start past e fault old new before after config first same held wrong =
 pub stays_broken : (c : Config) (start : ℕ) (past more : List Event) (judge : LineJudge) (found : Broken) → judge.broken ≡ Some found → HasTaken c start past judge → HasTaken c start (past ++ more) judge
 stays_broken c start past more judge found is held =
     let broken : IsBroken c past found = subst (λ b. Explains c past b) is held.explains in
-    let within = slice_get_within past found.index found.event broken.there in
-    let front : take found.index (past ++ more) ≡ take found.index past = take-append-le found.index past more (omega (arith, within)) in
-    let still : IsBroken c (past ++ more) found = record {
-      there = get_front past more found.index found.event broken.there;
-      before = subst (λ l. IsLegal c l) (sym front) broken.before;
-      fault = subst (λ l. IsFault c (history l) found.event found.fault) (sym front) broken.fault;
-    } in
     record {
       config = held.config;
       is_config = held.is_config;
       first = held.first;
       few = held.few;
-      explains = subst (λ b. Explains c (past ++ more) b) (sym is) still;
+      explains = subst (λ b. Explains c (past ++ more) b) (sym is) (broken_before c past more found broken);
       count = subst (λ b. judge.events ≡ count_to (past ++ more) b) (sym is) (subst (λ b. judge.events ≡ count_to past b) is held.count);
       goes_on = subst (λ b. GoesOn c (past ++ more) b judge.judge) (sym is) tt;
     }

@@ -1,12 +1,10 @@
 -- is shown, shows of: what holds after the first events that the bytes of a trace spell, if these
 -- are legal; else what is said of where they break, or of where the bytes leave the grammar.
-use Rattle.std.specs.Prelude.{ℕ, ◌<◌, ◌≡◌, Bool, List, None, Some, false, length, min, nat_lt, take, ⊤}
-use Rattle.std.specs.declared.option.Option.{Option}
+use Rattle.std.specs.Prelude.{ℕ, ◌<◌, ◌≡◌, List, Some, length, min, take, ⊤}
 use Rattle.mu_input.specs.Readings.{Fits}
 use Rattle.mu_input.specs.Traces.{Trace, trace}
 use Rattle.mu_judging.specs.Explained.{IsExplained, LeavesAt}
 use Rattle.mu_model.specs.Legal.{IsLegal}
-use Rattle.mu_outcome.specs.declared.fault.Broken.{Broken}
 use Rattle.mu_report.specs.declared.said.Said.{Said}
 use Rattle.mu_telling.specs.Shown.{IsMoment}
 use Rattle.mu_outcome.specs.declared.moment.Moment.{Moment}
@@ -18,11 +16,6 @@ pub record IsShown (n : ℕ) (bytes : List ℕ) (moment : Moment) : Type 0 where
   pub fits : trace bytes ≡ Fits spelled
   pub legal : IsLegal spelled.job.config (take n spelled.events)
   pub is : IsMoment spelled.job.config spelled.events (min n (length spelled.events)) moment
-
--- a list breaks among its first n events
-abbrev pub breaks_before : ℕ → Option Broken → Bool
-breaks_before n None = false
-breaks_before n (Some broken) = nat_lt broken.index n
 
 -- what holds after the first n events if they are legal, else what is said of where they break and
 -- why, or of where the bytes leave the grammar; want of memory can come at any bytes, and nothing

@@ -1,18 +1,18 @@
 //! From the bytes of a trace to where it breaks and why.
-ghost use Rattle.std.specs.Prelude.{◌+◌, ◌<◌, ◌≡◌, ◌≤◌, ◌^◌, IfOk, IfSome, length};
+ghost use Rattle.std.specs.Prelude.{◌<◌, ◌≡◌, ◌≤◌, ◌^◌, Some, length};
 ghost use Rattle.mu_input.specs.Readings.{Fits};
 ghost use Rattle.mu_input.specs.Traces.{Trace, trace};
 ghost use Rattle.mu_input.specs.declared.TheConstants.{TRACE_LIMIT};
 ghost use Rattle.mu_judging.specs.Explained.{IsExplained};
 ghost use Rattle.mu_judging.specs.Noted.{NotesOf, SaysLegal, said_with as said_with_these};
-ghost use Rattle.mu_model.specs.Contents.{IsConfig};
+ghost use Rattle.mu_outcome.specs.Breaks.{IsBroken};
 ghost use Rattle.mu_report.specs.Said.{IsShort};
 ghost use Rattle.mu_text.specs.Lines.{lines};
 
 use mu_check::explain;
 use mu_input::{InputEnd, Job, read_trace};
 use mu_mistakes::refused_at;
-use mu_model::{Config, Event, NoMemory, Stops};
+use mu_model::{Event, NoMemory, Stops};
 use mu_outcome::Broken;
 use mu_report::Said;
 use mu_telling::strays_of;
@@ -35,18 +35,15 @@ pub fn explain_trace(alloc: Global, bytes: &[u8]) -> Said
         Err(InputEnd::NoMemory) => return Said::NoMemory,
     };
     let events = list.as_slice();
-    let (line, broken) = match located(alloc, bytes, &job.config, events) {
-        Ok(found) => found,
-        Err(NoMemory) => return Said::NoMemory,
-    };
-    if broken.is_some() {
-        return Said::Explained {
+    match explain(alloc, &job.config, events) {
+        Ok(Some(broken)) => Said::Explained {
             events: events.len() as u32,
-            line,
-            broken,
-        };
+            line: line_of(bytes, events, &broken),
+            broken: Some(broken),
+        },
+        Ok(None) => noted(alloc, &job, events),
+        Err(NoMemory) => Said::NoMemory,
     }
-    noted(alloc, &job, events)
 }
 
 /// What is said of a legal list.
@@ -79,29 +76,6 @@ fn said_with(events: u32, strays: Stops) -> Said
     }
 }
 
-/// Where the events of a trace break and why, and the line there, or 0 if they don't.
-///
-/// # Errors
-///
-/// Only for want of memory.
-pub(crate) fn located(
-    alloc: Global,
-    bytes: &[u8],
-    config: &Config,
-    events: &[Event],
-) -> Result<(u32, Option<Broken>), NoMemory>
-    requires limit { length bytes.now ≤ TRACE_LIMIT }
-    requires config { IsConfig config.now }
-    requires countable { length events.now < 2 ^ 32 }
-    ensures { IfOk result (λ found. (spelled : Trace) → trace bytes.now ≡ Fits spelled
-        → config.now ≡ spelled.job.config → events.now ≡ spelled.events
-        → IsExplained bytes.now (length events.now) found.0 found.1) }
-{
-    let broken = explain(alloc, config, events)?;
-    let line = line_of(count_of_lines(bytes), events.len() as u32, &broken);
-    Ok((line, broken))
-}
-
 /// How many lines the bytes have.
 pub fn count_of_lines(bytes: &[u8]) -> u32
     requires { length bytes.now ≤ TRACE_LIMIT }
@@ -112,14 +86,16 @@ pub fn count_of_lines(bytes: &[u8]) -> u32
     rest.number() - 1
 }
 
-/// The line of the event that breaks the list, if the input has that many lines: the events stand
-/// in the last ones, before the last `end`.
-fn line_of(lines: u32, events: u32, broken: &Option<Broken>) -> u32
-    ensures { IfSome broken.now (λ broken. events ≤ lines → broken.index ≤ events
-        → lines < 2 ^ 31 → result + events ≡ lines + broken.index) }
+/// The line of the event that breaks the events of a trace: they stand in the last lines, before the
+/// last `end`.
+pub(crate) fn line_of(bytes: &[u8], events: &[Event], broken: &Broken) -> u32
+    requires limit { length bytes.now ≤ TRACE_LIMIT }
+    requires countable { length events.now < 2 ^ 32 }
+    ensures { (spelled : Trace) → trace bytes.now ≡ Fits spelled → events.now ≡ spelled.events
+        → IsBroken spelled.job.config events.now broken.now
+        → IsExplained bytes.now (length events.now) result (Some broken.now) }
 {
-    match broken {
-        None => 0,
-        Some(broken) => lines.saturating_sub(events).saturating_add(broken.index),
-    }
+    count_of_lines(bytes)
+        .saturating_sub(events.len() as u32)
+        .saturating_add(broken.index)
 }

@@ -1,14 +1,14 @@
 //! From the bytes of a trace to what holds after its first events.
 ghost use Rattle.std.specs.Prelude.{◌≡◌, ◌≤◌, length, min};
 ghost use Rattle.mu_input.specs.declared.TheConstants.{TRACE_LIMIT};
-ghost use Rattle.mu_judging.specs.Shown.{breaks_before, ShowsOf};
+ghost use Rattle.mu_judging.specs.Shown.{ShowsOf};
 ghost use Rattle.mu_report.specs.Said.{IsShort};
 
-use crate::explaining::located;
+use crate::explaining::line_of;
+use mu_course::walked;
 use mu_input::{InputEnd, read_trace};
 use mu_mistakes::refused_at;
 use mu_model::NoMemory;
-use mu_outcome::Broken;
 use mu_report::Said;
 use mu_telling::moment_of;
 use std::alloc::Global;
@@ -29,35 +29,18 @@ pub fn show_trace(alloc: Global, bytes: &[u8], count: u32) -> Said
         Err(InputEnd::NoMemory) => return Said::NoMemory,
     };
     let events = list.as_slice();
-    let (line, broken) = match located(alloc, bytes, &job.config, events) {
-        Ok(found) => found,
-        Err(NoMemory) => return Said::NoMemory,
-    };
-    if is_broken_before(&broken, count) {
-        return Said::Explained {
+    let taken = count_within(count, events.len());
+    match walked(alloc, &job.config, &events[..taken]) {
+        Ok((walk, None)) => match moment_of(alloc, &job.config, events, taken, &walk) {
+            Ok(moment) => Said::Shown(moment),
+            Err(NoMemory) => Said::NoMemory,
+        },
+        Ok((_, Some(broken))) => Said::Explained {
             events: events.len() as u32,
-            line,
-            broken,
-        };
-    }
-    match moment_of(
-        alloc,
-        &job.config,
-        events,
-        count_within(count, events.len()),
-    ) {
-        Ok(moment) => Said::Shown(moment),
+            line: line_of(bytes, events, &broken),
+            broken: Some(broken),
+        },
         Err(NoMemory) => Said::NoMemory,
-    }
-}
-
-/// Whether a list breaks among its first `count` events.
-fn is_broken_before(broken: &Option<Broken>, count: u32) -> bool
-    ensures { result ≡ breaks_before count broken.now }
-{
-    match broken {
-        None => false,
-        Some(broken) => broken.index < count,
     }
 }
 

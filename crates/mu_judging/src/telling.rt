@@ -4,7 +4,8 @@ ghost use Rattle.mu_input.specs.declared.TheConstants.{TRACE_LIMIT};
 ghost use Rattle.mu_judging.specs.Told.{TellsOf};
 ghost use Rattle.mu_report.specs.Said.{IsShort};
 
-use crate::explaining::located;
+use crate::explaining::line_of;
+use mu_course::walked;
 use mu_input::{InputEnd, read_trace};
 use mu_mistakes::refused_at;
 use mu_model::NoMemory;
@@ -27,19 +28,16 @@ pub fn tell_trace(alloc: Global, bytes: &[u8]) -> Said
         Err(InputEnd::NoMemory) => return Said::NoMemory,
     };
     let events = list.as_slice();
-    let (line, broken) = match located(alloc, bytes, &job.config, events) {
-        Ok(found) => found,
-        Err(NoMemory) => return Said::NoMemory,
-    };
-    if broken.is_some() {
-        return Said::Explained {
+    match walked(alloc, &job.config, events) {
+        Ok((walk, None)) => match account_of(alloc, job, &walk) {
+            Ok(account) => Said::Told(account),
+            Err(NoMemory) => Said::NoMemory,
+        },
+        Ok((_, Some(broken))) => Said::Explained {
             events: events.len() as u32,
-            line,
-            broken,
-        };
-    }
-    match account_of(alloc, job, events) {
-        Ok(account) => Said::Told(account),
+            line: line_of(bytes, events, &broken),
+            broken: Some(broken),
+        },
         Err(NoMemory) => Said::NoMemory,
     }
 }

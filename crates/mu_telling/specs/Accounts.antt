@@ -1,5 +1,5 @@
 -- account: what the events of a list come to, and how each replica has ended so far.
-use Rattle.std.specs.Prelude.{List, Some, [], length, suc, zero, ℕ, ◌++◌, ◌<◌, ◌∷◌, ◌≡◌}
+use Rattle.std.specs.Prelude.{List, Some, [], length, suc, zero, ℕ, ◌++◌, ◌∷◌, ◌≡◌}
 use Rattle.std.specs.List.{slice_get}
 use Rattle.mu_outcome.specs.declared.account.EndSoFar.{EndSoFar}
 use Rattle.mu_course.specs.SoFar.{IsSoFar}

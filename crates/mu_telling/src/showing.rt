@@ -6,9 +6,8 @@ ghost use Rattle.mu_model.specs.declared.event.Event.{Event as Made};
 ghost use Rattle.mu_model.specs.declared.event.Verb.TheVariants as verb;
 ghost use Rattle.mu_model.specs.Answers.{answer_of};
 ghost use Rattle.mu_model.specs.Contents.{IsConfig};
-ghost use Rattle.mu_model.specs.Histories.{part};
+ghost use Rattle.mu_model.specs.Histories.{history, part};
 ghost use Rattle.mu_model.specs.Knowledge.{applied, known};
-ghost use Rattle.mu_model.specs.Legal.{IsLegal};
 ghost use Rattle.mu_model.specs.Leaderships.{has_begun, is_member, is_over, proposal_number};
 ghost use Rattle.mu_model.specs.Regions.{asks, beats, fence, region_fuo, region_head, region_min};
 ghost use Rattle.mu_model.specs.Scores.{is_failed, leader};
@@ -19,7 +18,7 @@ ghost use Rattle.mu_telling.specs.Shown.{IsMoment, asks_fact as asks_fact_of, en
 
 use crate::facts::{asks_fact, entry_fact, failed_fact, known_fact, leads_by, member_fact};
 use crate::lists::push_given;
-use mu_course::{Course, Walk, walked};
+use mu_course::{Course, Walk};
 use mu_model::{Answer, Config, Event, NoMemory, Sequence, Verb, positions_in};
 use mu_outcome::{Fact, Moment};
 use std::alloc::Global;
@@ -274,8 +273,8 @@ fn facts_of(alloc: Global, config: &Config, walk: &Walk) -> Result<Vec<Fact>, No
     Ok(facts)
 }
 
-/// What holds after the first `count` events of a list, which are legal. Takes memory for that, and
-/// for the states that the events lead to.
+/// What holds after the first `count` events of a list, which are legal, by the states after them.
+/// Takes memory for that.
 ///
 /// # Errors
 ///
@@ -285,16 +284,14 @@ pub fn moment_of(
     config: &Config,
     events: &[Event],
     count: usize,
+    walk: &Walk,
 ) -> Result<Moment, NoMemory>
     requires config { IsConfig config.now }
-    requires within { count ≤ length events.now }
-    requires legal { IsLegal config.now (take count events.now) }
+    requires stands { StandsForWalk config.now (history (take count events.now)) walk.now }
     ensures is { IfOk result (IsMoment config.now events.now count) }
     ensures few { IfOk result (λ moment. length moment.facts < 2 ^ 32) }
 {
-    let first = &events[..count];
-    let walk = walked(alloc, config, first, count)?;
-    let facts = facts_of(alloc, config, &walk)?;
+    let facts = facts_of(alloc, config, walk)?;
     Ok(Moment {
         taken: count,
         events: events.len(),

@@ -1,34 +1,46 @@
-use Rattle.std.proofs.Common.{◌≡◌, ◌∙◌, ap, length, min, refl, subst, sym, take}
-use Rattle.std.proofs.lemmas.List.{take_min}
-use Rattle.mu_input.specs.Readings.{Fits}
-use Rattle.mu_input.specs.Traces.{Trace, trace}
-use Rattle.mu_judging.proofs.Firsts.{firsts_legal}
+use Rattle.std.proofs.Common.{List, ◌≡◌, ◌∙◌, ap, arith, length, min, subst, take}
+use Rattle.std.proofs.lemmas.List.{length-take-le, take_min}
+use Rattle.std.proofs.lemmas.Option.{slice_get_within}
+use Rattle.mu_course.specs.Walks.{IsWalked}
+use Rattle.mu_judging.proofs.Breaking.{broken_among}
 use Rattle.mu_model.specs.Legal.{IsLegal}
+use Rattle.mu_model.specs.declared.event.Event.{Event}
 use Rattle.mu_telling.specs.Shown.{IsMoment}
 use Rattle.mu_judging.proofs.showing.show_trace.Goals as goal
 
-pub moment_of-requires-clause-legal : goal.moment_of-requires-clause-legal
-moment_of-requires-clause-legal c =
-    let n = c.args.count in
+pub moment_of-requires-clause-stands : goal.moment_of-requires-clause-stands
+moment_of-requires-clause-stands c =
+    let walked = c.in-Ok-default-None in
+    subst (λ b. IsWalked c.in-Ok.read.0.config (take c.count_within-taken.result c.as_slice-events.result.now) walked.walk b) walked.field-0-1-is walked.ensures.judged
+
+pub returns-in-Ok-default-Some-clause-says : goal.returns-in-Ok-default-Some-clause-says
+returns-in-Ok-default-Some-clause-says c =
+    let config = c.in-Ok.read.0.config in
     let events = c.as_slice-events.result.now in
-    let spelled : Trace = record { job = c.in-Ok.read.0; events = c.in-Ok.read.1 } in
-    let fits : trace c.args.bytes.now ≡ Fits spelled = c.in-Ok.ensures.reading in
-    let explained = c.in-Ok-located.ensures spelled fits refl c.as_slice-events.ensures in
-    let legal = firsts_legal c.args.bytes.now spelled n c.in-Ok-located.found.0 (length events) c.in-Ok-located.found.1 fits explained (sym c.is_broken_before.ensures ∙ c.if-is_broken_before.false) in
-    subst (λ l. IsLegal spelled.job.config l) (sym (ap (λ k. take k events) c.count_within.ensures ∙ (take_min n events ∙ ap (take n) c.as_slice-events.ensures))) legal
+    let taken = c.count_within-taken.result in
+    let broken = c.in-Ok-default-Some.broken in
+    let walked = c.in-Ok-default-Some in
+    let breaks = subst (λ b. IsWalked config (take taken events) walked.field-0-0 b) walked.field-0-1-is walked.ensures.judged in
+    let within = slice_get_within (take taken events) broken.index broken.event breaks.there in
+    let long = length-take-le taken events (omega (arith, c.count_within-taken.ensures)) in (
+      c.line_of.ensures (record { job = c.in-Ok.read.0; events = c.in-Ok.read.1 }) c.in-Ok.ensures.reading c.as_slice-events.ensures (broken_among config taken events broken breaks),
+      omega (arith, within, long, c.count_within-taken.ensures),
+    )
 
 pub returns-in-Ok-moment_of-clause-says : goal.returns-in-Ok-moment_of-clause-says
 returns-in-Ok-moment_of-clause-says c =
     let n = c.args.count in
+    let config = c.in-Ok.read.0.config in
     let events = c.as_slice-events.result.now in
+    let taken = c.count_within-taken.result in
     let moment = c.in-Ok-moment_of.moment in
-    let spelled : Trace = record { job = c.in-Ok.read.0; events = c.in-Ok.read.1 } in
-    let fits : trace c.args.bytes.now ≡ Fits spelled = c.in-Ok.ensures.reading in
-    let explained = c.in-Ok-located.ensures spelled fits refl c.as_slice-events.ensures in
+    let walked = c.in-Ok-default-None in
+    let stands = subst (λ b. IsWalked config (take taken events) walked.walk b) walked.field-0-1-is walked.ensures.judged in
+    let front : take taken events ≡ take n c.in-Ok.read.1 = ap (λ k. take k events) c.count_within-taken.ensures ∙ (take_min n events ∙ ap (take n) c.as_slice-events.ensures) in
     record {
-      spelled = spelled;
-      fits = fits;
-      legal = firsts_legal c.args.bytes.now spelled n c.in-Ok-located.found.0 (length events) c.in-Ok-located.found.1 fits explained (sym c.is_broken_before.ensures ∙ c.if-is_broken_before.false);
-      is = subst (λ es. IsMoment spelled.job.config es (min n (length es)) moment) c.as_slice-events.ensures
-          (subst (λ k. IsMoment spelled.job.config events k moment) c.count_within.ensures c.in-Ok-moment_of.ensures.is);
+      spelled = record { job = c.in-Ok.read.0; events = c.in-Ok.read.1 };
+      fits = c.in-Ok.ensures.reading;
+      legal = subst (λ (es : List Event). IsLegal config es) front stands.legal;
+      is = subst (λ (es : List Event). IsMoment config es (min n (length es)) moment) c.as_slice-events.ensures
+          (subst (λ k. IsMoment config events k moment) c.count_within-taken.ensures c.in-Ok-moment_of.ensures.is);
     }

@@ -1,10 +1,5 @@
-use Rattle.std.proofs.Common.{◌∙◌, None, List, ap, arith, length, map, refl, subst, take}
-use Rattle.std.proofs.lemmas.List.{take_all}
+use Rattle.std.proofs.Common.{◌∙◌, None, ap, map, refl}
 use Rattle.kv_store.specs.Tables.{replies}
-use Rattle.mu_course.specs.Walks.{StandsForWalk}
-use Rattle.mu_course.specs.declared.walk.Walk.{Walk}
-use Rattle.mu_model.specs.declared.config.Config.{Config}
-use Rattle.mu_model.specs.declared.event.Event.{Event}
 use Rattle.mu_model.specs.Histories.{history}
 use Rattle.mu_outcome.specs.declared.outcome.Outcome.{Outcome}
 use Rattle.mu_outcome.specs.Entries.{commands_in, longest}
@@ -12,16 +7,10 @@ use Rattle.mu_outcome.proofs.Agreeing.{agrees_on, within_on}
 use Rattle.mu_telling.proofs.Reaching.{reached_of}
 use Rattle.mu_telling.proofs.account.account_of.Goals as goal
 
--- the walk has taken all events
-all_taken : (c : Config) (events : List Event) (walk : Walk) → StandsForWalk c (history (take (length events) events)) walk → StandsForWalk c (history events) walk
-all_taken c events walk stands = subst (λ l. StandsForWalk c (history l) walk) (take_all (length events) events (omega arith)) stands
-
 pub returns-clause-is : goal.returns-clause-is
-returns-clause-is c =
+returns-clause-is c = λ events held.
     let job = c.args.job in
-    let events = c.args.events.now in
     let past = history events in
-    let held = all_taken job.config events c.in_ok-walk.walk c.in_ok-walk.ensures in
     let o : Outcome = record { job = job; logs = c.in_ok-logs.logs; commits = c.in_ok-commits.commits; replies = c.in_ok-replies.replies; own_replies = c.in_ok-own_replies.own_replies; ends = c.from_vec.result; order = None; gathered = None } in
     record {
       reached = reached_of o events (c.in_ok-logs.ensures past job.config refl held) (c.in_ok-commits.ensures past job.config refl held)
@@ -31,25 +20,7 @@ returns-clause-is c =
     }
 
 pub returns-clause-agrees : goal.returns-clause-agrees
-returns-clause-agrees c =
-    let job = c.args.job in
-    let events = c.args.events.now in
-    let past = history events in
-    let held = all_taken job.config events c.in_ok-walk.walk c.in_ok-walk.ensures in
-    let o : Outcome = record { job = job; logs = c.in_ok-logs.logs; commits = c.in_ok-commits.commits; replies = c.in_ok-replies.replies; own_replies = c.in_ok-own_replies.own_replies; ends = c.from_vec.result; order = None; gathered = None } in
-    agrees_on o events c.requires.config c.requires.heads c.requires.legal
-    (reached_of o events (c.in_ok-logs.ensures past job.config refl held) (c.in_ok-commits.ensures past job.config refl held)
-    (c.in_ok-own_replies.ensures ∙ ap (map (λ log. replies (commands_in job log))) c.as_slice.ensures)
-    (c.in_ok-replies.ensures ∙ ap (λ l. replies (commands_in job l)) (c.longest.ensures ∙ ap longest c.as_slice-2.ensures)))
+returns-clause-agrees c = λ events held. agrees_on _ events c.requires.config c.requires.heads held.legal (returns-clause-is c events held).reached
 
 pub returns-clause-reach : goal.returns-clause-reach
-returns-clause-reach c =
-    let job = c.args.job in
-    let events = c.args.events.now in
-    let past = history events in
-    let held = all_taken job.config events c.in_ok-walk.walk c.in_ok-walk.ensures in
-    let o : Outcome = record { job = job; logs = c.in_ok-logs.logs; commits = c.in_ok-commits.commits; replies = c.in_ok-replies.replies; own_replies = c.in_ok-own_replies.own_replies; ends = c.from_vec.result; order = None; gathered = None } in
-    within_on o events c.requires.config c.requires.heads c.requires.legal
-    (reached_of o events (c.in_ok-logs.ensures past job.config refl held) (c.in_ok-commits.ensures past job.config refl held)
-    (c.in_ok-own_replies.ensures ∙ ap (map (λ log. replies (commands_in job log))) c.as_slice.ensures)
-    (c.in_ok-replies.ensures ∙ ap (λ l. replies (commands_in job l)) (c.longest.ensures ∙ ap longest c.as_slice-2.ensures)))
+returns-clause-reach c = λ events held. within_on _ events c.requires.config c.requires.heads held.legal (returns-clause-is c events held).reached

@@ -21,7 +21,6 @@ returns c = λ job past held. record {
       ap (includes c.args.row) (sym held.put ∙ sym c.as_slice-2.ensures.value) ∙ sym c.has_row-2.ensures ∙ c.if-has_row-2.false,
     ),
   );
-  judge = held.judge;
   walk = held.walk;
   got = c.in_ok-push.ensures.items ∙ ap (λ l. l ++ c.args.row ∷ []) held.got;
   put = held.put;

@@ -18,6 +18,7 @@ returns-in-Some-clause-stands c = λ past legal held.
     let short = short_history config past legal.0 c.requires.replicas.1 c.requires.budget.1 in
     let possible = subst (λ l. IsPossible config e.by l) (part_of_maker e past) (part_is_possible config e.by (e ∷ past) legal) in
     record {
+      legal = legal;
       count = length-set items c.from.result c.take-in-Some.new.self ∙ held.count;
       each = each_part_next (λ r mine course. StandsForCourse config r mine course) past e c.from.result items c.in-Some.course.now c.take-in-Some.new.self c.from.ensures
           (slice_get-get_or items c.from.result c.in-Some.course.now c.in-Some.ensures.item.3.0 ∙ ap Some (sym c.in-Some.ensures.value))
