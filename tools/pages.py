@@ -46,7 +46,7 @@ MOST_WORDS = {
     "docs/PACE.md": 1_750,
     "docs/PAPER.md": 950,
     "docs/PROTOCOL.md": 3_000,
-    "docs/PROVED.md": 4_820,
+    "docs/PROVED.md": 4_900,
     "docs/READING.md": 850,
     "docs/SCENES.md": 1_820,
     "docs/THREADS.md": 1_800,
@@ -55,7 +55,7 @@ MOST_WORDS = {
 }
 COUNTED_BARE = {"README.md"}
 # The most words of all pages together, as `wc -w README.md docs/*.md` counts them.
-MOST_IN_SUM = 42_850
+MOST_IN_SUM = 42_900
 
 
 def files():
