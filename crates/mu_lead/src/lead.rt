@@ -196,7 +196,9 @@ impl Lead {
         }
     }
 
-    /// The verb that is due: none if another replica is named, or if the listing has none.
+    /// The verb that is due: none if another replica is named, or if the listing has none. Inlined
+    /// with the verb of the place: a turn looks at it at once, and a verb in memory is dear.
+    #[inline(always)]
     #[tactic(auto, using(crate::proofs::Due::due_allowed))]
     pub fn due(&self, known: &[u16]) -> Option<Verb>
         ghost mine: { List Event }
@@ -240,7 +242,7 @@ impl Lead {
     }
 
     /// The verb of the place.
-    #[inline(never)]
+    #[inline(always)]
     fn verb(&self, known: &[u16]) -> Option<Verb>
         ensures { (mine : List Event) → StandsFor mine self.now → length known.now < 65536
             → result ≡ verb_of self.now known.now }

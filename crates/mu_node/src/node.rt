@@ -200,6 +200,8 @@ impl Node {
     }
 
     /// One step: the first ask if the replica asks again, out of turn; else what is due, or a beat.
+    /// Inlined: it is so long that the compiler would otherwise leave it out of a turn at times.
+    #[inline(always)]
     fn step<P: Port>(&mut self, port: &mut P, id: u8) -> Note
         ghost mine: { List SomeEvent }
         requires mine { P.part port.old ≡ mine }
