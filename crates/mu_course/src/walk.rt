@@ -216,8 +216,8 @@ impl Walk {
     }
 }
 
-/// The states after the events of a list, if these are legal; else those after the events before
-/// the first that breaks it, and that.
+/// Judges a list and walks over it: the states after its events, if these are legal; else the first
+/// that breaks it, and nothing is said of the states.
 ///
 /// # Errors
 ///
