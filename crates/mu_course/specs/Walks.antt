@@ -1,5 +1,5 @@
--- walk: the courses of all replicas and the states of all regions along a list, up to the event that
--- breaks it, if one does.
+-- walk: the courses of all replicas and the states of all regions along a list, up to the event
+-- that breaks it, if one does.
 use Rattle.std.specs.Prelude.{ℕ, ◌≡◌, List, None, Some, length}
 use Rattle.std.specs.declared.option.Option.{Option}
 use Rattle.std.specs.List.{slice_get}
@@ -18,8 +18,8 @@ use Rattle.mu_course.specs.declared.course.Course.{Course}
 use Rattle.mu_course.specs.declared.course.Turn.{Turn}
 use Rattle.mu_course.specs.declared.walk.Walk.{Walk}
 
--- the history is legal; there is a course of each replica, which stands for its part, and the states
--- of the regions stand for the history
+-- the history is legal; there is a course of each replica, which stands for its part, and the
+-- states of the regions stand for the history
 pub record StandsForWalk (c : Config) (past : List Event) (walk : Walk) : Type 0 where
   pub legal : IsLegalHistory c past
   pub count : length walk.courses.items ≡ c.replicas

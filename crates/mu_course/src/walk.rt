@@ -1,4 +1,4 @@
-//! A walk over a list of events, with the states of all replicas and regions, as far as it is legal.
+//! A walk over the legal part of a list of events, with the states of all replicas and regions.
 ghost use Rattle.std.specs.Prelude.{IfOk, IsTrue, List, [], MatchOption, Some, map, vec_capacity, ◌∷◌, ◌<◌, ◌≡◌, ◌≤◌, ◌↔◌};
 ghost use Rattle.mu_model.specs.declared.event.Event.{Event as Made};
 ghost use Rattle.mu_model.specs.Answers.{answer_of};
@@ -216,8 +216,8 @@ impl Walk {
     }
 }
 
-/// The states after the events of a list, if these are legal; else those after the events before the
-/// first that breaks it, and that.
+/// Judges a list and walks over it: the states after its events, if these are legal; else the first
+/// that breaks it, and nothing is said of the states.
 ///
 /// # Errors
 ///

@@ -86,8 +86,8 @@ pub fn count_of_lines(bytes: &[u8]) -> u32
     rest.number() - 1
 }
 
-/// The line of the event that breaks the events of a trace: they stand in the last lines, before the
-/// last `end`.
+/// The line of the event that breaks the events of a trace: they stand in the last lines, before
+/// the last `end`.
 pub(crate) fn line_of(bytes: &[u8], events: &[Event], broken: &Broken) -> u32
     requires limit { length bytes.now ≤ TRACE_LIMIT }
     requires countable { length events.now < 2 ^ 32 }

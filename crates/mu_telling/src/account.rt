@@ -16,8 +16,8 @@ use mu_model::{NoMemory, Sequence};
 use mu_outcome::{Account, Outcome, longest};
 use std::alloc::Global;
 
-/// What the events of a legal list come to, for a job, by the states after them: each replica's log,
-/// commits and replies by its own events, and how it has ended so far. Takes memory for these.
+/// What the events of a legal list come to, for a job, by the states after them: each replica's
+/// log, commits and replies by its own events, and how it has ended so far. Takes memory for these.
 ///
 /// # Errors
 ///
