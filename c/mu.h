@@ -16,8 +16,7 @@
  *   `length` bytes, `out` has `room` bytes, and nothing that a call writes overlaps with anything else
  *   that it got.
  * - A `mu_judge` is MU_NO_JUDGE and a `mu_engine` MU_NO_ENGINE, or as the last call left it. Neither is
- *   copied. mu_judge_new and mu_engine_new get one that has nothing, since what it had would be lost,
- *   with its memory: free that first.
+ *   copied.
  * - One call at a time uses a judge or an engine. It may go from thread to thread, if a lock, a
  *   thread's start or join, or a sequentially consistent atomic orders the calls. Calls on others, and
  *   mu_answer and mu_draw_answer, may go on beside it.
@@ -85,8 +84,9 @@ typedef struct mu_judge {
 } mu_judge;
 #define MU_NO_JUDGE { NULL }
 
-/* Makes a judge of a job: its text up to the first `end`. With MU_DONE it is there and `*taken` is 0;
- * else (MU_REFUSED, MU_NO_MEMORY, MU_TOO_LONG) `*judge` is as it was, and the text says why. */
+/* Makes a judge of a job: its text up to the first `end`. With MU_DONE it is there, in
+ * place of a judge that was there before, and `*taken` is 0; else (MU_REFUSED, MU_NO_MEMORY,
+ * MU_TOO_LONG) `*judge` is as it was, and the text says why. */
 uint32_t mu_judge_new(mu_judge *judge, const void *job, size_t length, void *out, size_t room,
                       size_t *taken);
 
@@ -112,8 +112,8 @@ typedef struct mu_engine {
 #define MU_NO_ENGINE { NULL }
 
 /* Starts an engine: 1 to 7 replicas, 8 to 1,024 places of a log, 1 to 131,071 steps of a replica, and
- * 0 to 1,500 commands that it may take. MU_DONE; or MU_USAGE (a number is out of its limits) or
- * MU_NO_MEMORY, and `*engine` is as it was. */
+ * 0 to 1,500 commands that it may take. MU_DONE, and it is there, in place of an engine that was there
+ * before; or MU_USAGE (a number is out of its limits) or MU_NO_MEMORY, and `*engine` is as it was. */
 uint32_t mu_engine_new(mu_engine *engine, uint32_t replicas, uint32_t ring, uint32_t budget,
                        uint32_t commands);
 

@@ -234,6 +234,10 @@ static void engines(void)
     expect("no text of a job", mu_engine_trace(&engine, trace, sizeof trace, &taken) == MU_MIXED && taken == 0);
     expect("the last one", submit(&engine, 0, "get b", &row) == MU_DONE && row == 4);
     expect("too many", submit(&engine, 0, "get b", &row) == MU_FULL && row == 0);
+    expect("no engine in its place", mu_engine_new(&engine, 8, 64, 99, 1) == MU_USAGE && submit(&engine, 0, "get b", &row) == MU_FULL);
+    expect("another in its place", mu_engine_new(&engine, 1, 8, 999, 1) == MU_DONE);
+    expect("a new row", submit(&engine, 15, "get a", &row) == MU_DONE && row == 0);
+    expect("nothing there", reply_to(&engine, 0, "") == MU_REPLY_NONE);
     mu_engine_free(&engine);
     expect("no engine any more", engine.at == NULL && mu_engine_round(&engine) == MU_USAGE);
 }

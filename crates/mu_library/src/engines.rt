@@ -8,7 +8,7 @@ ghost use Rattle.mu_handle.specs.declared.holding.Held.TheVariants.{Engine as En
 ghost use Rattle.mu_library.specs.Engines.{HoldsBy, OfHandle, OfHeld, OpensEngine, PlaysRound, Submits, SubmitsOp};
 
 use crate::codes::{FULL, STOPPED};
-use crate::handles::taken_out;
+use crate::handles::{let_go, taken_out};
 use kv_store::Op;
 use mu_engine::{Engine, Refusal, Shape};
 use mu_handle::{Handle, Held};
@@ -39,7 +39,7 @@ impl Submitted {
 }
 
 /// Starts an engine with this many replicas, slots of a log, steps of a replica and commands. With
-/// status 0 the handle has it, and what it had is lost; else it is as it was: 1 if a number is out
+/// status 0 the handle has it, and what it had is let go; else it is as it was: 1 if a number is out
 /// of its limits, 6 for want of memory.
 pub fn open_engine(
     alloc: Global,
@@ -94,6 +94,7 @@ fn open_shape(alloc: Global, handle: &mut Handle, shape: Shape) -> u8
 {
     match started(alloc, shape) {
         Ok(held) => {
+            let_go(alloc, handle);
             *handle = Handle::of(held);
             Status::Done.code()
         }

@@ -5,7 +5,7 @@ ghost use Rattle.mu_library.specs.Calls.{CanTake, OpensJudge, PutsSaid, SaysOfHe
 ghost use Rattle.mu_report.specs.declared.said.Said.TheVariants.{NoMemory as NoMemorySaid};
 
 use crate::answering::{Answered, no_memory, nothing, say};
-use crate::handles::taken_out;
+use crate::handles::{let_go, taken_out};
 use mu_handle::{Handle, Held};
 use mu_judging::LineJudge;
 use mu_model::NoMemory;
@@ -15,7 +15,7 @@ use mu_top::INPUT_LIMIT;
 use std::alloc::Global;
 
 /// Makes a judge of the job that the bytes spell. With status 0 the handle has it, and nothing is
-/// said; else the handle is as it was, and it is said why. What the handle had is lost.
+/// said; else the handle is as it was, and it is said why. What the handle had is let go.
 pub fn open_judge(alloc: Global, handle: &mut Handle, job: &[u8], out: &mut [u8]) -> Answered
     ensures opens { OpensJudge job.now handle.old.held handle.new.held out.old out.new
         result.status result.taken }
@@ -39,6 +39,7 @@ fn keep(alloc: Global, handle: &mut Handle, judge: LineJudge, out: &mut [u8]) ->
 {
     match Box::new(alloc, Held::Judge(judge)) {
         Ok(held) => {
+            let_go(alloc, handle);
             *handle = Handle::of(held);
             Answered {
                 status: 0,
