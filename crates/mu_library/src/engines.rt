@@ -39,8 +39,8 @@ impl Submitted {
 }
 
 /// Starts an engine with this many replicas, slots of a log, steps of a replica and commands. With
-/// status 0 the handle has it, and what it had is let go; else it is as it was: 1 if a number is out
-/// of its limits, 6 for want of memory.
+/// status 0 the handle has it, and what it had is let go. Else the handle is as it was: 1 if a
+/// number is out of its limits, 6 for want of memory.
 pub fn open_engine(
     alloc: Global,
     handle: &mut Handle,
