@@ -20,7 +20,7 @@ use Rattle.mu_clients.specs.declared.items.Attested.{Attested}
 use Rattle.mu_clients.specs.declared.items.Flaw.{Flaw}
 use Rattle.mu_clients.specs.declared.items.Flawed.{Flawed}
 use Rattle.mu_clients.specs.declared.items.Item.{Item}
-use Rattle.mu_input.specs.Readings.{Fits, Leaves}
+use Rattle.mu_input.specs.Readings.{Fits}
 use Rattle.mu_input.specs.declared.job.Job.{Job}
 use Rattle.mu_model.proofs.Budgets.{short_history}
 use Rattle.mu_model.proofs.Lists.{get_front, get_push_here}

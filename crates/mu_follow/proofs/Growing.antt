@@ -1,11 +1,11 @@
 -- Which rows the counted entries hold, with one row more.
-use Rattle.std.proofs.Common.{◌≡◌, ◌∙◌, ℕ, zero, suc, ◌+◌, ◌%◌, ◌<◌, ◌≤◌, ◌==◌, ◌&&◌, ◌||◌, inl, inr, Bool, true, false, List, [], ◌∷◌, ◌++◌, None, Some, ap, arith, length, length-append, refl, subst, sym, take}
+use Rattle.std.proofs.Common.{◌≡◌, ◌∙◌, ℕ, zero, suc, ◌+◌, ◌%◌, ◌<◌, ◌≤◌, ◌&&◌, ◌||◌, inl, inr, Bool, true, false, List, [], ◌∷◌, ◌++◌, None, Some, ap, arith, length, length-append, refl, subst, sym, take}
 use Rattle.std.specs.Prelude.{if◌then◌else◌, vec_capacity}
 use Rattle.std.specs.List.{slice_get}
 use Rattle.std.proofs.lemmas.Bool.{cases_lt, eq-eqb, ne_eqb}
 use Rattle.mu_model.specs.declared.config.Config.{Config}
 use Rattle.mu_model.specs.declared.config.Row.{Row}
-use Rattle.mu_model.specs.Contents.{IsConfig, StandsForEntry, holds_all, includes, is_batch, rest_of, row_count, rows_from, rows_in, rows_of}
+use Rattle.mu_model.specs.Contents.{IsConfig, holds_all, includes, is_batch, rest_of, row_count, rows_from, rows_in, rows_of}
 use Rattle.mu_model.specs.declared.event.Event.{Event}
 use Rattle.mu_model.specs.Ends.{outrun, outrun_by}
 use Rattle.mu_model.specs.Histories.{all_below, earlier_or}
@@ -27,7 +27,7 @@ use Rattle.mu_knowledge.specs.KnownLog.{StandsForKnownLog}
 use Rattle.mu_knowledge.specs.RowWords.{StandsForRowWords}
 use Rattle.mu_follow.specs.declared.follow.Follow.{Follow}
 use Rattle.mu_follow.specs.Commits.{HoldsCommits}
-use Rattle.mu_follow.specs.Completion.{AreEntries, HoldsCompletion, full_of}
+use Rattle.mu_follow.specs.Completion.{AreEntries, HoldsCompletion}
 use Rattle.mu_follow.specs.Due.{HoldsProgress}
 use Rattle.mu_follow.specs.Follow.{StandsForFollow}
 use Rattle.mu_follow.specs.Published.{HoldsPublished}

@@ -1,5 +1,5 @@
 -- room to follow: a replayer has room for one row more.
-use Rattle.std.specs.Prelude.{vec_capacity, ℕ, ◌*◌, ◌+◌, ◌<◌, ◌≤◌}
+use Rattle.std.specs.Prelude.{vec_capacity, ◌*◌, ◌+◌, ◌<◌, ◌≤◌}
 use Rattle.mu_model.specs.declared.config.Config.{Config}
 use Rattle.mu_model.specs.Contents.{row_count}
 use Rattle.mu_model.specs.Room.{reserve}

@@ -3,7 +3,6 @@ use Rattle.std.proofs.Common.{◌≡◌, ℕ, ◌<◌, ◌≤◌, nat_lt, true, 
 use Rattle.std.proofs.lemmas.Grind.{common_steps}
 use Rattle.std.proofs.lemmas.List.{length-take, take_all}
 use Rattle.std.specs.Str.{bytes_eq}
-use Rattle.mu_input.specs.Operations.{operation_of}
 use Rattle.mu_input.specs.Readings.{Tells, Wrong}
 use Rattle.mu_input.specs.declared.cause.TheConstants.{CLIENT, LINE_LENGTH, SCRIPT}
 use Rattle.mu_input.proofs.ManyWords.{operation-take}

@@ -1,5 +1,5 @@
 -- The list of words before any event.
-use Rattle.std.proofs.Common.{◌≡◌, ◌≢◌, ℕ, ◌+◌, ◌*◌, ◌<◌, ◌≤◌, ◌∙◌, Bool, true, false, cond, ◌==◌, List, [], length, refl, sym, ap, arith, set, get_or, slice_index, subst, eqb-true, nat_lt}
+use Rattle.std.proofs.Common.{◌≡◌, ◌≢◌, ℕ, ◌+◌, ◌*◌, ◌<◌, ◌∙◌, Bool, true, false, cond, ◌==◌, List, [], length, refl, sym, ap, arith, set, get_or, slice_index, subst, eqb-true, nat_lt}
 use Rattle.std.proofs.lemmas.Bool.{eqb-false, lt-ltb}
 use Rattle.std.proofs.lemmas.List.{get_or-set_other, get_or-set_same, length-set}
 use Rattle.mu_model.specs.declared.config.Config.{Config}

@@ -1,5 +1,5 @@
 -- A fabric of words keeps what it kept when its configuration gets one row more.
-use Rattle.std.proofs.Common.{◌≡◌, ℕ, ◌≤◌, List, [], ◌∷◌, slice_index, subst, sym}
+use Rattle.std.proofs.Common.{ℕ, ◌≤◌, List, [], ◌∷◌, slice_index, subst, sym}
 use Rattle.mu_model.specs.declared.config.Config.{Config}
 use Rattle.mu_model.specs.declared.event.Event.{Event}
 use Rattle.mu_model.specs.Contents.{IsConfig, row_count}

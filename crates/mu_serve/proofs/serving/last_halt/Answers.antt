@@ -1,4 +1,3 @@
-use Rattle.std.proofs.Common.{arith}
 use Rattle.mu_serve.proofs.Going.{begins, goes_on}
 use Rattle.mu_serve.proofs.serving.last_halt.Goals as goal
 

@@ -1,4 +1,4 @@
-use Rattle.std.proofs.Common.{arith, refl}
+use Rattle.std.proofs.Common.{arith}
 use Rattle.mu_serve.proofs.Talking.{waits_more}
 use Rattle.mu_serve.proofs.session.reply_in_time.Goals as goal
 

@@ -1,8 +1,5 @@
-use Rattle.std.proofs.Common.{[], ◌∷◌, ◌<◌, ◌∙◌, arith, length, refl, subst, sym}
+use Rattle.std.proofs.Common.{refl, subst, sym}
 use Rattle.mu_model.specs.Contents.{IsConfig}
-use Rattle.mu_model.specs.Growing.{with_more}
-use Rattle.mu_agree.proofs.Possible.{parts_stand_law}
-use Rattle.mu_agree.proofs.Within.{known_few}
 use Rattle.mu_knowledge.specs.HeldRows.{StandsForHeldRows}
 use Rattle.mu_knowledge.specs.KnownLog.{StandsForKnownLog}
 use Rattle.mu_knowledge.specs.RowWords.{StandsForRowWords}
