@@ -16,6 +16,7 @@
  * entered region 1, and puts its entry only once the region is granted on. Replica 1 takes over.
  * The ring is larger than the job, so no place is used twice here. docs/TRACING.md says what the
  * lines of a trace mean. */
+#define _POSIX_C_SOURCE 200809L
 #include <pthread.h>
 #include <stdarg.h>
 #include <stdatomic.h>
@@ -24,8 +25,9 @@
 #include <stdio.h>
 #include <stdlib.h>
 #include <string.h>
+#include <time.h>
 
-enum { REPLICAS = 3, RING = 8, COMMANDS = 2, WORDS = 12, NOBODY = 255, MOST_EVENTS = 4000 };
+enum { REPLICAS = 3, RING = 8, COMMANDS = 2, WORDS = 12, NOBODY = 255, MOST_EVENTS = 40000 };
 enum { NO_TARGET = 0, MINIMUM = 1, FIRST_PLACE = 2 };
 
 static const char JOB[] =
@@ -326,6 +328,13 @@ static void lead(struct replica *me)
     while (me->known < COMMANDS && commit(me, number, me->known)) serve(me);
 }
 
+/* Lets the other threads on. Without it a leader that is at once outrun may fill the list of events. */
+static void rest(void)
+{
+    struct timespec nap = {.tv_nsec = 1000000};
+    nanosleep(&nap, NULL);
+}
+
 static void *run(void *given)
 {
     struct replica *me = given;
@@ -333,7 +342,7 @@ static void *run(void *given)
     while (atomic_load(&finished) < REPLICAS) {
         serve(me);
         if (me->id == 1 && atomic_exchange(&may_take_over, false))
-            while (me->known < COMMANDS) lead(me);
+            for (lead(me); me->known < COMMANDS; lead(me)) rest();
         if (me->known < COMMANDS) follow(me);
     }
     return NULL;
