@@ -5,6 +5,7 @@ mod branch;
 mod idling;
 mod leaving;
 mod lists;
+mod naps;
 mod pauses;
 mod playing;
 mod resting;

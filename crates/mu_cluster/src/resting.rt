@@ -3,25 +3,11 @@ ghost use Rattle.std.specs.Prelude.{◌+◌, ◌<◌, ◌≡◌};
 ghost use Rattle.std.specs.Duration.{as_nanos};
 ghost use Rattle.mu_cluster.specs.Resting.{IsIdleNap, IsNap, IsSilenceNap, yields_for};
 
-use std::thread;
+use crate::naps::{Slept, Yields, nap_taken, yielded};
 use std::time::{Clock, Duration};
 
 /// The silence in which a thread only yields: the read may just have come early.
 const YIELDS_AT: u8 = 1;
-
-/// Yields that were made.
-#[derive(Drop)]
-pub(crate) struct Yields {
-    /// How many.
-    count: u64,
-}
-
-/// A sleep that was made.
-#[derive(Drop)]
-pub(crate) struct Slept {
-    /// For how long.
-    nap: Duration,
-}
 
 /// How a thread let the others on before a turn of its replica.
 #[derive(Drop)]
@@ -30,47 +16,6 @@ pub(crate) struct Rested {
     yields: Yields,
     /// For how long it slept.
     slept: Slept,
-}
-
-impl Yields {
-    /// None yet.
-    fn none() -> Yields
-        ensures { result.count ≡ 0 }
-    {
-        Yields { count: 0 }
-    }
-
-    /// Yields once more.
-    fn and_one(self) -> Yields
-        requires { self.count < 18_446_744_073_709_551_615 }
-        ensures { result.count ≡ self.count + 1 }
-    {
-        thread::yield_now();
-        Yields {
-            count: self.count + 1,
-        }
-    }
-}
-
-/// So many yields.
-fn yielded(count: u64) -> Yields
-    ensures { result.count ≡ count }
-{
-    let mut made = Yields::none();
-    for _ in 0..count {
-        made = made.and_one();
-    }
-    made
-}
-
-/// A sleep, unless its length is zero. A system adds time of its own to each.
-fn nap_taken<C: Clock>(clock: &C, nap: Duration) -> Slept
-    ensures { result.nap ≡ nap }
-{
-    if !nap.is_zero() {
-        thread::sleep(clock, nap);
-    }
-    Slept { nap }
 }
 
 /// How long a thread sleeps for a silence. After the fourteenth read without a new beat the other

@@ -4,6 +4,7 @@ use Rattle.mu_follow.specs.Groups.{AreSpelled}
 use Rattle.mu_model.specs.declared.config.Config.{Config}
 use Rattle.mu_model.specs.Contents.{IsConfig}
 use Rattle.mu_node.specs.declared.node.Node.{Node}
+use Rattle.mu_node.specs.declared.zeal.Zeal.{Zeal}
 use Rattle.mu_node.specs.Node.{StandsForNode}
 use Rattle.mu_node.proofs.Moving.{as_far}
 use Rattle.mu_engine.specs.declared.hold.Hold.{Hold}
@@ -33,8 +34,8 @@ pub none_spelled : (shape : Shape) → AreSpelled (first_config shape) []
 none_spelled shape = record { count = refl; each = λ j command at. cc }
 
 -- a node before any event sits at its place
-pub sits_first : (c : Config) (r : ℕ) (node : Node) (hold : Hold) → StandsForNode c r [] node → node.stops.items ≡ [] → Sits c r [] (record { node = node; hold = hold })
-sits_first c r node hold stands stops = record { lives = as_far true c r [] node stands; stops = stops }
+pub sits_first : (c : Config) (r : ℕ) (node : Node) (hold : Hold) → StandsForNode c r [] node → node.stops.items ≡ [] → node.zeal ≡ Zeal.Plain → Sits c r [] (record { node = node; hold = hold })
+sits_first c r node hold stands stops zeal = record { lives = as_far true c r [] node stands; stops = stops; zeal = zeal }
 
 -- one copy more at the end
 pub copies_push : {A : Type 0} (n : ℕ) (x : A) → replicate n x ++ x ∷ [] ≡ replicate (suc n) x

@@ -26,7 +26,7 @@ seated_on c old new seats k hold after plays sits was = record {
     | inl here ↦ subst (λ i. Sits c i new seat) (sym here.0) (subst (λ s. Sits c k new s) here.1 sits)
     | inr other ↦
         let sat = was.each r seat other.1 in
-        record { lives = subst (λ l. LivesForNode c r l seat.node) (sym (others_kept c k r hold old new plays other.0)) sat.lives; stops = sat.stops }
+        record { lives = subst (λ l. LivesForNode c r l seat.node) (sym (others_kept c k r hold old new plays other.0)) sat.lives; stops = sat.stops; zeal = sat.zeal }
   ];
 }
 

@@ -5,6 +5,7 @@ use Rattle.mu_model.specs.declared.config.Config.{Config}
 use Rattle.mu_model.specs.declared.event.Event.{Event}
 use Rattle.mu_model.specs.Histories.{history, part}
 use Rattle.mu_node.specs.Node.{LivesForNode}
+use Rattle.mu_node.specs.declared.zeal.Zeal.{Zeal}
 use Rattle.mu_engine.specs.declared.hold.Hold.{Hold}
 use Rattle.mu_engine.specs.declared.seat.Seat.{Seat}
 use Rattle.mu_engine.specs.Live.{is_free}
@@ -17,10 +18,11 @@ part_of r events = part r (history events)
 abbrev pub hold_of : Seat → Hold
 hold_of seat = seat.hold
 
--- the node lives for the events of r, and no script stops it
+-- the node lives for the events of r, is plain, and no script stops it
 pub record Sits (c : Config) (r : ℕ) (events : List Event) (seat : Seat) : Type 0 where
   pub lives : LivesForNode c r (part_of r events) seat.node
   pub stops : seat.node.stops.items ≡ []
+  pub zeal : seat.node.zeal ≡ Zeal.Plain
 
 -- each node sits at its place
 pub record AreSeated (c : Config) (events : List Event) (seats : List Seat) : Type 0 where

@@ -60,6 +60,7 @@ impl Seat {
         requires room { HasRoomForRow growth.config self.old.node }
         ensures lives { LivesForNode config growth.replica growth.mine self.new.node }
         ensures stops { self.new.node.stops ≡ self.old.node.stops }
+        ensures zeal { self.new.node.zeal ≡ self.old.node.zeal }
         ensures hold { self.new.hold ≡ self.old.hold }
     {
         self.node.add_last(config, copy);

@@ -36,7 +36,7 @@ use Rattle.mu_lead.proofs.Others.{others_kept}
 use Rattle.mu_lead.specs.Lasting.{tables_of}
 use Rattle.mu_lead.specs.Noting.{NotedNext, or_idle}
 use Rattle.mu_model.specs.Contents.{holds_all}
-use Rattle.mu_node.specs.Notes.{note_at}
+use Rattle.mu_node.specs.Notes.{SaysTook, TellsTook, note_at}
 use Rattle.mu_node.specs.declared.node.Node.{Node}
 use Rattle.mu_node.specs.Cycle.{other_at, read_at}
 use Rattle.mu_node.specs.Due.{FitsLead, MayBeside, WritesAhead, lead_due, verb_or_beat}
@@ -368,3 +368,23 @@ due_named c r mine lead verb due = go (leader c r mine == r) refl due
     go : (t : Bool) → (leader c r mine == r) ≡ t → (if t then verb_of lead (known c r mine) else None) ≡ Some verb → nat_lt (leader c r mine) r ≡ false
     go true is some = let here = eqb-true (leader c r mine) r is in le-ltb (leader c r mine) r (omega (arith, here))
     go false is none = absurd (none_some verb none)
+
+-- the note of a step of the leader, which is made only if nothing was noted before it
+pub tells_led : (c : Config) (r : ℕ) (mine : List Event) (leads : Bool) (due : Option Verb) (verb : Verb) (heeded : Note) (answer : Answer) (note : Note) → TellsTook c r mine true (Some verb) Note.Working answer note
+    → leads ≡ true → due ≡ Some verb → TellsTook c r mine leads due heeded answer note
+tells_led c r mine leads due verb heeded answer note tells on some = record {
+  idle = λ none. absurd (none_some verb (sym none ∙ some));
+  beside = λ off. absurd (true≢false (sym on ∙ off));
+  taken = λ v led is working possible. tells.taken v refl (sym some ∙ is) refl possible;
+}
+
+-- and what the leader's contract says of it
+pub says_led : (c : Config) (r : ℕ) (mine : List Event) (leads : Bool) (due : Option Verb) (verb : Verb) (heeded : Note) (lead next : Lead) (answer : Answer) (note : Note) → SaysTook c r mine true (Some verb) Note.Working lead next answer note
+    → leads ≡ true → due ≡ Some verb → SaysTook c r mine leads due heeded lead next answer note
+says_led c r mine leads due verb heeded lead next answer note says on some = record {
+  idle = λ none. absurd (none_some verb (sym none ∙ some));
+  beside = λ off. absurd (true≢false (sym on ∙ off));
+  says = λ v led is working possible. says.says v refl (sym some ∙ is) refl possible;
+  noted = λ v led is working possible. says.noted v refl (sym some ∙ is) refl possible;
+  going = λ v led is working. says.going v refl (sym some ∙ is) refl;
+}

@@ -44,16 +44,6 @@ fn row_written(verb: &Verb) -> Option<u16>
     }
 }
 
-/// A resignation, else the other note.
-fn told(heeded: Note, note: Note) -> Note
-    ensures { heeded ≡ SomeNote.Working → result ≡ note }
-{
-    match heeded {
-        Note::Resigned { to } => Note::Resigned { to },
-        _ => note,
-    }
-}
-
 impl Node {
     /// Takes the event that the step is, in all parts but the leader. The entry that a put made
     /// known is told next. Most of all events are words of rows and beats: with their verbs written
@@ -155,7 +145,7 @@ impl Node {
     }
 
     /// Takes the event that the step is, and tells the leader the answer of a step of its own. A
-    /// resignation is told before all else.
+    /// leader that has resigned makes none.
     #[inline(always)]
     pub(crate) fn took(&mut self, plan: Plan, id: u8, answer: Answer) -> Note
         ghost mine: { List SomeEvent }
@@ -187,7 +177,7 @@ impl Node {
             self.old.lead self.new.lead answer result }
     {
         if plan.leads {
-            self.took_led(plan.verb, id, answer, plan.heeded)
+            self.took_led(plan.verb, id, answer)
         } else {
             self.note_other(id, plan.verb, answer);
             plan.heeded
@@ -225,7 +215,7 @@ impl Node {
     /// while no majority answers: with their verbs written out the compiler sees what takes them,
     /// as in `note`.
     #[inline(always)]
-    fn took_led(&mut self, verb: Verb, by: u8, answer: Answer, heeded: Note) -> Note
+    fn took_led(&mut self, verb: Verb, by: u8, answer: Answer) -> Note
         ghost mine: { List SomeEvent }
         requires config { IsConfig self.old.follow.config }
         requires heeded { HasHeeded mine self.old.lead }
@@ -243,24 +233,24 @@ impl Node {
         ensures zeal { self.new.zeal ≡ self.old.zeal }
         ensures stops { self.new.stops ≡ self.old.stops }
         ensures note { TellsTook self.old.follow.config by mine true
-            (Some verb) heeded answer result }
-        ensures says { SaysTook self.old.follow.config by mine true (Some verb) heeded self.old.lead
-            self.new.lead answer result }
+            (Some verb) SomeNote.Working answer result }
+        ensures says { SaysTook self.old.follow.config by mine true (Some verb) SomeNote.Working
+            self.old.lead self.new.lead answer result }
     {
         match (verb, answer) {
             (Verb::WriteRow(row, word, value), Answer::Done) => {
-                self.take_led(Verb::WriteRow(row, word, value), by, Answer::Done, heeded)
+                self.take_led(Verb::WriteRow(row, word, value), by, Answer::Done)
             }
             (Verb::Fence(p), Answer::Seen(fence)) => {
-                self.take_led(Verb::Fence(p), by, Answer::Seen(fence), heeded)
+                self.take_led(Verb::Fence(p), by, Answer::Seen(fence))
             }
-            _ => self.take_led(verb, by, answer, heeded),
+            _ => self.take_led(verb, by, answer),
         }
     }
 
-    /// The same of the verb and the answer as they come. A resignation is told before all else.
+    /// The same of the verb and the answer as they come.
     #[inline(always)]
-    fn take_led(&mut self, verb: Verb, by: u8, answer: Answer, heeded: Note) -> Note
+    fn take_led(&mut self, verb: Verb, by: u8, answer: Answer) -> Note
         ghost mine: { List SomeEvent }
         requires config { IsConfig self.old.follow.config }
         requires heeded { HasHeeded mine self.old.lead }
@@ -278,15 +268,15 @@ impl Node {
         ensures zeal { self.new.zeal ≡ self.old.zeal }
         ensures stops { self.new.stops ≡ self.old.stops }
         ensures note { TellsTook self.old.follow.config by mine true
-            (Some verb) heeded answer result }
-        ensures says { SaysTook self.old.follow.config by mine true (Some verb) heeded self.old.lead
-            self.new.lead answer result }
+            (Some verb) SomeNote.Working answer result }
+        ensures says { SaysTook self.old.follow.config by mine true (Some verb) SomeNote.Working
+            self.old.lead self.new.lead answer result }
     {
         self.note(by, verb, answer);
         let known = self.follow.known();
         let position = known.len();
         let note = self.lead.take(verb, answer, known, self.follow.log());
         self.learn(position, note);
-        told(heeded, note)
+        note
     }
 }

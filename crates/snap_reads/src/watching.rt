@@ -1,7 +1,11 @@
 //! Readers alongside the writer, each in a thread of its own.
-ghost use Rattle.std.specs.Prelude.{All, IfOk, length, map, slice_index_or, vec_capacity, vec_len, ℕ, [], ◌<◌, ◌≡◌, ◌≤◌};
+ghost use Rattle.std.specs.Prelude.{All, IfOk, length, map, slice_index_or, vec_capacity, vec_len, ℕ, [], ◌++◌, ◌<◌, ◌∷◌, ◌≡◌, ◌≤◌};
+ghost use Rattle.mu_model.specs.Histories.{IsPrefixOf};
 ghost use Rattle.snap_reads.specs.Keys.{gets_beside};
 ghost use Rattle.snap_reads.specs.Lives.{AreNumbered, HasWatched, IsReady};
+ghost use Rattle.snap_reads.specs.Sights.{AreRight, NeverFall};
+ghost use Rattle.snap_reads.specs.declared.sight.Sight.{Sight as SomeSight};
+ghost use Rattle.snap_reads.specs.declared.watching.TheConstants.{WRITER};
 ghost use Rattle.snap_reads.specs.declared.watching.Watcher.{Watcher as SomeWatcher};
 
 use crate::opening::SnapReaders;
@@ -9,7 +13,7 @@ use crate::reader::SnapReader;
 use crate::sight::{Sight, see};
 use crate::writer::SnapWriter;
 use kv_store::{Command, Key};
-use mu_gate::{Gate, change_at_once};
+use mu_gate::{Gate, Passed, change_at_once};
 use mu_model::NoMemory;
 use std::alloc::Global;
 use std::thread;
@@ -17,6 +21,9 @@ use std::thread::Threads;
 
 /// How many gets a reader makes alongside the writer.
 pub const GETS: usize = 200;
+
+/// By what number the gate knows the writer.
+pub const WRITER: u8 = 0;
 
 /// A reader, by what number the gate knows it, and what it saw.
 #[derive(Drop)]
@@ -54,6 +61,30 @@ pub(crate) fn watchers(
     Ok(watchers)
 }
 
+/// Gets the key, and notes what it saw, once the reader of this number passed the gate for that.
+fn see_behind(
+    reader: &mut SnapReader,
+    key: &Key,
+    sights: &mut Vec<Sight>,
+    _number: u8,
+    _passed: Passed,
+)
+    requires thread { _passed.thread ≡ _number }
+    requires step { _passed.step ≡ length sights.old.items }
+    requires room { vec_len sights.old < vec_capacity sights.old }
+    requires right { AreRight reader.old.seen sights.old.items }
+    requires rise { NeverFall 0 sights.old.items }
+    ensures same { reader.new ≡ record reader.old { seen = reader.new.seen } }
+    ensures seen { IsPrefixOf reader.old.seen reader.new.seen }
+    ensures sight { (sight : SomeSight) × (sights.new.items ≡ sights.old.items ++ sight ∷ [])
+        × (sight.key ≡ key.now) × (sight.seen.upto ≡ length reader.new.seen) }
+    ensures right { AreRight reader.new.seen sights.new.items }
+    ensures rise { NeverFall 0 sights.new.items }
+    ensures room { vec_capacity sights.new ≡ vec_capacity sights.old }
+{
+    see(reader, key, sights);
+}
+
 /// Gets keys round the list, each get behind the gate; none if there is no key.
 fn watch<G: Gate>(gate: &G, watcher: &mut Watcher, keys: &[Key])
     requires { IsReady (length keys.now) watcher.old }
@@ -68,8 +99,8 @@ fn watch<G: Gate>(gate: &G, watcher: &mut Watcher, keys: &[Key])
         sights,
     } = watcher;
     for k in 0..GETS {
-        gate.pass(*number, k as u32);
-        see(reader, &keys[k % keys.len()], sights);
+        let passed = Passed::through(gate, *number, k as u32);
+        see_behind(reader, &keys[k % keys.len()], sights, *number, passed);
     }
 }
 
@@ -105,6 +136,15 @@ fn watched<R: Threads + Sync, G: Gate + Sync>(
     watchers
 }
 
+/// Publishes what was applied, once the writer passed the gate for that.
+fn publish_behind(writer: &mut SnapWriter, _passed: Passed)
+    requires thread { _passed.thread ≡ WRITER }
+    requires step { _passed.step ≡ length writer.old.published }
+    ensures { writer.new ≡ record writer.old { published = writer.old.list } }
+{
+    writer.publish();
+}
+
 /// Applies and publishes commands one by one, each publishing behind the gate.
 fn publish_all<G: Gate>(gate: &G, mut writer: SnapWriter, commands: &[Command]) -> SnapWriter
     requires none { (writer.list ≡ []) × (writer.published ≡ []) }
@@ -115,8 +155,8 @@ fn publish_all<G: Gate>(gate: &G, mut writer: SnapWriter, commands: &[Command]) 
     let mut count: u32 = 0;
     for command in commands {
         writer.apply(command);
-        gate.pass(0, count);
-        writer.publish();
+        let passed = Passed::through(gate, WRITER, count);
+        publish_behind(&mut writer, passed);
         count += 1;
     }
     writer

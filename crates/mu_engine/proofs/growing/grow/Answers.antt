@@ -60,7 +60,7 @@ loop-k-preserved c =
     let sits = c.requires.seated.each k old was in
     let pair = popped g c.loop-k.copies.items c.pop.new.self.items c.pop.result c.in-Some.pair c.pop.ensures.items c.in-Some.is c.loop-k.invariant.pairs in
     let lives = subst (λ i. LivesForNode g i (part_of i events) new.node) sits.lives.beside.id (subst (λ h. LivesForNode h old.node.id (part_of old.node.id events) new.node) pair.first c.grow.ensures.lives) in
-    let sat : Sits g k events new = record { lives = lives; stops = ap (λ v. v.items) c.grow.ensures.stops ∙ sits.stops } in
+    let sat : Sits g k events new = record { lives = lives; stops = ap (λ v. v.items) c.grow.ensures.stops ∙ sits.stops; zeal = c.grow.ensures.zeal ∙ sits.zeal } in
     record {
       whole = length-set seats k new ∙ c.loop-k.invariant.whole;
       count = omega (arith, pair.count, c.loop-k.invariant.count);

@@ -15,7 +15,7 @@ loop-id-preserved c =
     let seat : Seat = record { node = node; hold = free } in
     let n = c.loop-id.invariant.count in
     let seats = c.loop-id.seats.items in
-    let sits = sits_first job.config c.loop-id.id node free c.in_ok-new.ensures.stands (c.in_ok-new.ensures.stops ∙ c.requires.stops) in
+    let sits = sits_first job.config c.loop-id.id node free c.in_ok-new.ensures.stands (c.in_ok-new.ensures.stops ∙ c.requires.stops) c.in_ok-new.ensures.zeal in
     let one : suc c.loop-id.id ≡ c.loop-id.id + 1 = omega arith in
     record {
       room = omega (arith, c.loop-id.invariant.room, c.push_reserved.ensures.capacity);

@@ -3,8 +3,13 @@ use Rattle.snap_reads.specs.Lives.{HasWatched}
 use Rattle.snap_reads.proofs.Watched.{gets_some, not_empty, watched_length}
 use Rattle.snap_reads.proofs.watching.watch.Goals as goal
 
-pub see-requires-clause-room : goal.see-requires-clause-room
-see-requires-clause-room g c =
+pub see_behind-requires-clause-step : goal.see_behind-requires-clause-step
+see_behind-requires-clause-step g c =
+    let long = watched_length _ _ _ _ c.loop-k.invariant in
+    omega (arith, long, c.through-passed.ensures.step)
+
+pub see_behind-requires-clause-room : goal.see_behind-requires-clause-room
+see_behind-requires-clause-room g c =
     let long = watched_length _ _ _ _ c.loop-k.invariant in
     let room = c.loop-k.invariant.room in
     omega (arith, long, room, c.loop-k-test.true)

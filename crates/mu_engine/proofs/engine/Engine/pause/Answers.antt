@@ -26,7 +26,7 @@ invariant_of-self c =
     let seated = subst (λ k. AreSeated k e.port.events e.seats.items) (sym c.self.invariant.same) c.self.invariant.seated in
     let sat = seated.each i old at in
     kept e _ c.self.invariant refl refl refl refl refl (subst (λ k. IsLegal k e.port.events) (sym c.self.invariant.same) c.self.invariant.moment.legal)
-    (seated_set e.port.config e.port.events e.seats.items i new (record { lives = sat.lives; stops = sat.stops }) seated)
+    (seated_set e.port.config e.port.events e.seats.items i new (record { lives = sat.lives; stops = sat.stops; zeal = sat.zeal }) seated)
 
 pub returns : goal.returns
 returns c =

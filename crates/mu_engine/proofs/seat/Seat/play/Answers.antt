@@ -16,7 +16,11 @@ returns-clause-sits c =
     let r = before.node.id in
     let t = turned k old new c.pass_to.new.self c.turn_on.new.port r c.id.result c.turn_on.result c.turn_on.new.self c.pass_to.ensures.replica c.id.ensures c.pass_to.ensures.config c.pass_to.ensures.events c.turn_on.ensures.same.1 c.turn_on.ensures.same.0 refl
     (record { lives = c.turn_on.ensures.lives; did = c.turn_on.ensures.turn no_script (sym c.requires.sits.stops) }) in
-    record { lives = t.lives; stops = ap (λ v. v.items) c.turn_on.ensures.stops ∙ c.requires.sits.stops }
+    record {
+      lives = t.lives;
+      stops = ap (λ v. v.items) c.turn_on.ensures.stops ∙ c.requires.sits.stops;
+      zeal = c.turn_on.ensures.zeal ∙ c.requires.sits.zeal;
+    }
 
 pub returns-clause-plays : goal.returns-clause-plays
 returns-clause-plays c =

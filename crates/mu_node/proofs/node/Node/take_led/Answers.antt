@@ -93,11 +93,11 @@ returns-clause-note g c =
       beside = λ off. absurd (true≢false off);
       taken = λ verb on some working possible.
           let same = same_some c.args.verb verb some in
-          subst (λ v. known k r (event_by r v c.args.answer ∷ mine) ≡ grown (known_told k r mine r v c.args.answer) (value_committed c.told.result)) same
+          subst (λ v. known k r (event_by r v c.args.answer ∷ mine) ≡ grown (known_told k r mine r v c.args.answer) (value_committed c.take-note.result)) same
           (let may = subst (λ v. IsPossible k r (event_by r v c.args.answer ∷ mine)) (sym same) possible in
           let told = led_told k r mine c.args.verb c.args.answer c.note.new.self values (λ none. c.note.ensures.stands mine may held.beside none) (λ entry is. c.note.ensures.awaits mine entry may held.beside is) (λ l n h. c.known-known.ensures k r l n h) in
-          subst (λ l. known k r (event_by r c.args.verb c.args.answer ∷ mine) ≡ grown l (value_committed c.told.result)) told
-          (subst (λ n. known k r (event_by r c.args.verb c.args.answer ∷ mine) ≡ grown values (value_committed n)) (sym (c.told.ensures working))
+          subst (λ l. known k r (event_by r c.args.verb c.args.answer ∷ mine) ≡ grown l (value_committed c.take-note.result)) told
+          (subst (λ n. known k r (event_by r c.args.verb c.args.answer ∷ mine) ≡ grown values (value_committed n)) refl
           (lead_tells k r mine old c.args.verb c.args.answer values c.take-note.result lead c.take-note.ensures.tells due may told)));
     }
 
@@ -122,8 +122,8 @@ returns-clause-says g c =
           let of_config = led_log k r mine c.args.verb answer c.note.new.self values c.log.result.now (λ none. c.note.ensures.stands mine may held.beside none) (λ entry is. c.note.ensures.awaits mine entry may held.beside is) (λ l n h. c.known-known.ensures k r l n h) (λ l n h. c.log.ensures k r l n h) in
           let log = subst (λ x. HoldsValues x values c.log.result.now) (sym lead.config) of_config in
           let own = c.args.self.now.lead in
-          subst (λ v. Says k r mine own.up own.place v answer c.told.result) same
-          (subst (λ n. Says k r mine own.up own.place c.args.verb answer n) (sym (c.told.ensures working))
+          subst (λ v. Says k r mine own.up own.place v answer c.take-note.result) same
+          (subst (λ n. Says k r mine own.up own.place c.args.verb answer n) refl
           (subst (λ (l : Lead). Says k r mine l.up l.place c.args.verb answer c.take-note.result) c.note.ensures.lead
           (lead_says k r mine old c.args.verb answer values c.take-note.result lead (c.take-note.ensures.says log) due may told)));
       noted = λ verb on some working possible.
@@ -133,13 +133,13 @@ returns-clause-says g c =
           let of_config = led_log k r mine c.args.verb answer c.note.new.self values c.log.result.now (λ none. c.note.ensures.stands mine may held.beside none) (λ entry is. c.note.ensures.awaits mine entry may held.beside is) (λ l n h. c.known-known.ensures k r l n h) (λ l n h. c.log.ensures k r l n h) in
           let log = subst (λ x. HoldsValues x values c.log.result.now) (sym lead.config) of_config in
           let own = c.args.self.now.lead in
-          subst (λ v. c.told.result ≡ note_at k r mine (tables_of own) own.place v answer) same
-          (c.told.ensures working
+          subst (λ v. c.take-note.result ≡ note_at k r mine (tables_of own) own.place v answer) same
+          (refl
           ∙ subst (λ (l : Lead). c.take-note.result ≡ note_at k r mine (tables_of l) l.place c.args.verb answer) c.note.ensures.lead
           (lead_noted k r mine old c.args.verb answer values c.take-note.result lead (c.take-note.ensures.noted log) due may told));
       going = λ verb on some working.
           ap (λ (l : Lead). l.under_way) c.learn.ensures.lead
           ∙ (c.take-note.ensures.going
           ∙ (ap (λ (l : Lead). going_after (begins_at l.place || l.under_way) c.take-note.result) c.note.ensures.lead
-          ∙ ap (λ n. going_after (begins_at c.args.self.now.lead.place || c.args.self.now.lead.under_way) n) (sym (c.told.ensures working))));
+          ∙ ap (λ n. going_after (begins_at c.args.self.now.lead.place || c.args.self.now.lead.under_way) n) refl));
     }

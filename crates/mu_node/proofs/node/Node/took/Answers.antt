@@ -1,4 +1,4 @@
-use Rattle.std.proofs.Common.{◌∙◌, ◌∷◌, ◌≡◌, Some, false, refl, subst, sym, true}
+use Rattle.std.proofs.Common.{◌∙◌, ◌∷◌, ◌≡◌, false, refl, subst, sym, true}
 use Rattle.std.proofs.lemmas.Bool.{true≢false}
 use Rattle.mu_model.specs.Parts.{IsPossible}
 use Rattle.mu_node.specs.Plans.{due_of}
@@ -6,8 +6,7 @@ use Rattle.mu_node.specs.Due.{FitsLead, IsIdle}
 use Rattle.mu_node.specs.Journal.{FollowsTurn}
 use Rattle.mu_node.specs.Node.{HasPlanned, StandsAs}
 use Rattle.mu_node.specs.Reads.{IsReadNext}
-use Rattle.mu_node.specs.Notes.{SaysTook, TellsTook}
-use Rattle.mu_node.proofs.Leads.{fits_led, fits_other, some_made}
+use Rattle.mu_node.proofs.Leads.{fits_led, fits_other, says_led, some_made, tells_led}
 use Rattle.mu_node.proofs.Moving.{event_by}
 use Rattle.mu_node.proofs.node.Node.took.Goals as goal
 
@@ -35,21 +34,16 @@ returns-then-plan-clause-stands g c full held idles follows reads possible =
 
 pub returns-then-plan-clause-note : goal.returns-then-plan-clause-note
 returns-then-plan-clause-note g c =
-    let k = c.args.self.now.follow.config in
     let plan = c.args.plan in
     let some = some_made (due_of plan) plan.verb (c.requires.1.1.1.1.1.1 c.if-plan.true) c.requires.1.1.1.1.1.0 in
-    subst (λ d. TellsTook k c.args.id g.mine plan.leads d plan.heeded c.args.answer c.took_led.result) (sym some)
-    (subst (λ l. TellsTook k c.args.id g.mine l (Some plan.verb) plan.heeded c.args.answer c.took_led.result) (sym c.if-plan.true) c.took_led.ensures.note)
+    tells_led c.args.self.now.follow.config c.args.id g.mine plan.leads (due_of plan) plan.verb plan.heeded c.args.answer c.took_led.result c.took_led.ensures.note c.if-plan.true some
 
 pub returns-then-plan-clause-says : goal.returns-then-plan-clause-says
 returns-then-plan-clause-says g c =
     let node = c.args.self.now in
-    let k = node.follow.config in
     let plan = c.args.plan in
-    let next = c.took_led.new.self.lead in
     let some = some_made (due_of plan) plan.verb (c.requires.1.1.1.1.1.1 c.if-plan.true) c.requires.1.1.1.1.1.0 in
-    subst (λ d. SaysTook k c.args.id g.mine plan.leads d plan.heeded node.lead next c.args.answer c.took_led.result) (sym some)
-    (subst (λ l. SaysTook k c.args.id g.mine l (Some plan.verb) plan.heeded node.lead next c.args.answer c.took_led.result) (sym c.if-plan.true) c.took_led.ensures.says)
+    says_led node.follow.config c.args.id g.mine plan.leads (due_of plan) plan.verb plan.heeded node.lead c.took_led.new.self.lead c.args.answer c.took_led.result c.took_led.ensures.says c.if-plan.true some
 
 pub returns-else-plan-clause-stands : goal.returns-else-plan-clause-stands
 returns-else-plan-clause-stands g c full planned idles follows reads possible =
