@@ -27,8 +27,9 @@ import sys
 import tempfile
 import time
 
-from measure_runs import COMMANDS, REPLICAS, alone, load, spans
+from measure_runs import COMMANDS, REPLICAS, alone, load
 from measure_speed import TOP, counted, even, events_of, input_of, job
+from own_traces import preloaded
 from second_program import build
 
 NAMES = ("plain_mu", "locked_log", "rings")
@@ -140,7 +141,7 @@ def threads(paths, program, count):
     print(f"\n| {' | '.join(told)} |\n{'|---' * len(told)}|", flush=True)
     protocols = [[program, "run"], [paths["plain_mu"], "run"]]
     anchors = [[paths["locked_log"]], [paths["rings"]]]
-    loaded = spans(os.path.dirname(paths["plain_mu"]))
+    loaded = preloaded("spans", os.path.dirname(paths["plain_mu"]))
     for replicas, commands in itertools.product(REPLICAS, COMMANDS):
         own = runs_of(protocols + anchors, job(replicas, even(commands)), count, loaded)
         cells = []

@@ -24,7 +24,7 @@ import tempfile
 import time
 
 from measure_speed import TOP, even, job
-from own_traces import c_compiler
+from own_traces import preloaded
 
 REPLICAS = (1, 3, 5, 7)
 COMMANDS = (100, 400, 1500)
@@ -35,16 +35,6 @@ def used():
     """The seconds of processors that ended runs have used."""
     usage = resource.getrusage(resource.RUSAGE_CHILDREN)
     return usage.ru_utime + usage.ru_stime
-
-
-def spans(room):
-    """What tells how long the threads of a program took, to be loaded before the C library: its path in the folder."""
-    compiler, path = c_compiler(), os.path.join(room, "spans.so")
-    if compiler is None:
-        return None
-    source = os.path.join(TOP, "tools", "spans.c")
-    subprocess.run([compiler, "-std=c11", "-O2", "-shared", "-fPIC", "-o", path, source, "-ldl"], check=True)
-    return path
 
 
 def alone(told):
@@ -104,7 +94,7 @@ def main():
     told = " | ".join(["least", "middle", "threads: least", "middle", "finished", "entries", "cores"] * len(given.programs))
     print(f"| replicas | commands | {told} |", flush=True)
     with tempfile.TemporaryDirectory() as room:
-        loaded = spans(room)
+        loaded = preloaded("spans", room)
         for replicas, commands in given.rows:
             text = job(replicas, even(commands))
             runs = [[Run(program, text, loaded) for program in given.programs] for _ in range(given.runs)]

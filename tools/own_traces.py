@@ -32,6 +32,16 @@ def c_compiler():
     return os.environ.get("CC") or next(filter(shutil.which, ("cc", "gcc", "clang")), None)
 
 
+def preloaded(name, room):
+    """The path of what is loaded before the C library, built of tools/NAME.c into this folder; None without a compiler."""
+    compiler, path = c_compiler(), os.path.join(room, f"{name}.so")
+    if compiler is None:
+        return None
+    source = os.path.join(TOP, "tools", f"{name}.c")
+    subprocess.run([compiler, "-std=c11", "-O2", "-shared", "-fPIC", "-o", path, source, "-ldl"], check=True)
+    return path
+
+
 def cxx_compiler():
     """The C++ compiler that the environment names, else the first that there is; else None."""
     return os.environ.get("CXX") or next(filter(shutil.which, ("c++", "g++", "clang++")), None)

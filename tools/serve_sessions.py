@@ -16,6 +16,7 @@ answer is read before the next line is written. It is checked that
 import random
 import subprocess
 import sys
+import threading
 
 import trying
 from moments import reply_to
@@ -24,6 +25,8 @@ from programs import tell
 SESSIONS, SEED = 100, 20
 MOST_LINES, MOST_PAUSE = 40, 300
 KEYS, TEXTS, CLIENTS = ["a", "b", "k1"], ["1", "2", "x"], 3
+# An answer that takes longer is none.
+ANSWER_SECONDS = 60
 # The statuses of a report.
 DONE, UNFINISHED = 0, 3
 # Of so many sessions one is held line by line.
@@ -173,6 +176,16 @@ def answers_at_once(path, replicas, lines):
     return done.stdout.decode().splitlines(), done.returncode
 
 
+def next_answer(run):
+    """The next line of a running session; empty if it takes too long, and then the session is ended."""
+    late = threading.Timer(ANSWER_SECONDS, run.kill)
+    late.start()
+    try:
+        return run.stdout.readline().decode().rstrip("\n")
+    finally:
+        late.cancel()
+
+
 def answers_by_line(path, replicas, lines):
     """Each line is written once the one before has its answer."""
     session, answers = Session(replicas), []
@@ -184,7 +197,7 @@ def answers_by_line(path, replicas, lines):
                 run.stdin.flush()
                 is_own = False
                 while not is_own:
-                    answers.append(run.stdout.readline().decode().rstrip("\n"))
+                    answers.append(next_answer(run))
                     is_own = session.takes_own(line, number, answers[-1])
             rest = run.communicate(timeout=trying.MOST_SECONDS)[0].decode().splitlines()
         finally:

@@ -1,12 +1,13 @@
 #!/usr/bin/env python3
-"""Runs `mu` over a large input and into a large output and counts its system calls: it reads in pieces of 64 KiB and
-writes in pieces of 32 KiB, not byte by byte, line by line or event by event.
+"""Runs `mu` and counts its system calls. Over a large input and into a large output it reads in pieces of 64 KiB and
+writes in pieces of 32 KiB, not byte by byte, line by line or event by event. The threads of `mu run` yield for each round
+of a pause, and sleep while nothing gets done, but not long (if there is a C compiler: a C file is loaded that counts).
 
     tools/system_calls.py      the program that ./prove left, or an unproved build; the last line is
                                `N passed, M failed`
 
 No clause says so: a contract speaks of the bytes that were read and written, and a source or a sink may take fewer than it
-is handed.
+is handed; and that a yield or a sleep was asked of the system no contract can say.
 """
 import os
 import subprocess
@@ -14,6 +15,7 @@ import sys
 import tempfile
 
 import trying
+from own_traces import preloaded
 from programs import tell
 
 READ_PIECE, WRITE_PIECE = 65_536, 32_768
@@ -21,6 +23,12 @@ READ_PIECE, WRITE_PIECE = 65_536, 32_768
 # early.
 BESIDE = 40
 COMMANDS_OF_JOB = 400
+PAUSE_ROUNDS = 5_000
+PAUSED_JOB = b"mu 1\nreplicas 1\nring 8\nbudget 1000\nclient 0\nput a 5\nscript\npause 0 2 %d\nend\n" % PAUSE_ROUNDS
+# From its eighth idle cycle on it sleeps in each cycle; if it slept for milliseconds in place of microseconds, it wouldn't
+# end in time.
+LEAST_SLEEPS, REST_SECONDS = 100, 60
+LONELY_JOB = b"mu 1\nreplicas 2\nring 8\nbudget 10000\nclient 0\nput a 5\nscript\nstop 1 0\nend\n"
 JOB = ("mu 1\nreplicas 3\nring 64\nbudget 131071\nclient 0\n" + "put key value\n" * COMMANDS_OF_JOB + "end\n").encode()
 
 
@@ -49,6 +57,24 @@ def trouble(words, given, output, reads, writes):
     return None
 
 
+def rests(path, given, loaded):
+    """How often the threads of a run yielded and slept, if it ended in time."""
+    try:
+        run = subprocess.run([path, "run"], input=given, stdout=subprocess.DEVNULL, stderr=subprocess.PIPE, check=False,
+                             timeout=REST_SECONDS, env=dict(os.environ, LD_PRELOAD=loaded))
+    except subprocess.TimeoutExpired:
+        return 0, 0
+    return run.stderr.count(b"y"), run.stderr.count(b"s")
+
+
+def rest_troubles(path, loaded):
+    """What is wrong with the rests of a pause, and of a replica whose others have stopped, if anything is."""
+    yields, _ = rests(path, PAUSED_JOB, loaded)
+    _, sleeps = rests(path, LONELY_JOB, loaded)
+    return [None if yields >= PAUSE_ROUNDS else f"mu run: {yields} yields in a pause of {PAUSE_ROUNDS} rounds",
+            None if sleeps >= LEAST_SLEEPS else f"mu run: {sleeps} sleeps of a replica without a majority"]
+
+
 def tried(path_of):
     """How many runs were counted, and what is wrong with them."""
     path = path_of("mu")
@@ -58,6 +84,10 @@ def tried(path_of):
     found = [trouble([path, "trace"], JOB, trace, *calls)]
     for words, given in (["check"], trace), (["tell"], trace), (["replay"], JOB):
         found.append(trouble([path, *words], given, *counted([path, *words], given)))
+    with tempfile.TemporaryDirectory() as room:
+        loaded = preloaded("rests", room)
+        if loaded:
+            found += rest_troubles(path, loaded)
     return len(found), list(filter(None, found))
 
 

@@ -1,5 +1,6 @@
 mod FirstWords
 mod Going
+mod Held
 mod LinesSoFar
 mod Served
 mod Stops

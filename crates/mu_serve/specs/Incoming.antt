@@ -5,6 +5,7 @@ use Rattle.std.specs.Io.KnownBytes.{Consumes, IsAtEnd}
 use Rattle.mu_io.specs.Faults.{Rose}
 use Rattle.mu_io.specs.declared.whole.ReadEnd.{ReadEnd}
 use Rattle.mu_text.specs.Lines.{lines}
+use Rattle.mu_text.specs.declared.TheConstants.{LINE_FEED}
 use Rattle.mu_text.specs.declared.line_text.TheConstants.{LINE_BYTES}
 use Rattle.mu_serve.specs.declared.incoming.Incoming.{Incoming}
 
@@ -18,6 +19,12 @@ pub record ReadsOn (left now : Option (List ℕ)) (before after : Incoming)
   pub consumed : Consumes left now taken
   pub room : after.room + length taken ≡ before.room
   pub some : 0 < after.room
+
+-- a line with its end is among these bytes
+pub record HasWholeLine (bytes : List ℕ) : Type 0 where
+  pub front : List ℕ
+  pub back : List ℕ
+  pub is : bytes ≡ front ++ LINE_FEED ∷ back
 
 -- the next byte was taken, if there is one; there is none exactly at the end
 pub record TakesByte (left now : Option (List ℕ)) (before after : Incoming)

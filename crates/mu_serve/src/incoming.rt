@@ -1,6 +1,6 @@
 //! The lines of a source, taken one by one as they come.
-ghost use Rattle.std.specs.Prelude.{◌≡◌, ◌+◌, ◌<◌, ◌≤◌, false, true, None, [], ◌∷◌, ◌++◌, length, take, IfErr, IfOk, IfSome, OnOk};
-ghost use Rattle.mu_serve.specs.Incoming.{FindsNone, StopsReading, TakesByte, TakesLine};
+ghost use Rattle.std.specs.Prelude.{◌≡◌, ◌+◌, ◌<◌, ◌≤◌, false, true, List, None, Some, ℕ, [], ◌∷◌, ◌++◌, length, take, IfErr, IfOk, IfSome, OnOk};
+ghost use Rattle.mu_serve.specs.Incoming.{FindsNone, HasWholeLine, StopsReading, TakesByte, TakesLine};
 ghost use Rattle.mu_serve.specs.declared.TheConstants.{SESSION_LIMIT};
 ghost use Rattle.mu_text.specs.declared.line_text.TheConstants.{LINE_BYTES as MOST_KEPT};
 
@@ -35,7 +35,7 @@ impl Incoming {
     }
 
     /// The next line without its line feed, of which only the first 192 bytes are kept. `None` if no
-    /// line is left. Reads on only if no whole line was read.
+    /// line is left. Reads on only if no whole line is held, so that its answer waits for nothing.
     ///
     /// # Errors
     ///
@@ -48,6 +48,7 @@ impl Incoming {
             → FindsNone (S.left source.old) (S.left source.new) self.old) }
         ensures over { self.old.is_over ≡ true → result ≡ Ok None }
         ensures untouched { self.old.is_over ≡ true → source.new ≡ source.old }
+        ensures held { HasWholeLine self.old.held → source.new ≡ source.old }
         ensures end { IfErr result (StopsReading (S.left source.old) (S.left source.new)
             (S.faults source.old) (S.faults source.new) self.old) }
         ensures same_faults { OnOk result (S.faults source.new ≡ S.faults source.old) }
@@ -67,6 +68,7 @@ impl Incoming {
             (TakesLine (S.left source.old) (S.left source.new) self.old self.new)) }
         ensures none { IfOk result (λ found. found ≡ None
             → FindsNone (S.left source.old) (S.left source.new) self.old) }
+        ensures held { HasWholeLine self.old.held → source.new ≡ source.old }
         ensures end { IfErr result (StopsReading (S.left source.old) (S.left source.new)
             (S.faults source.old) (S.faults source.new) self.old) }
         ensures same_faults { OnOk result (S.faults source.new ≡ S.faults source.old) }
@@ -110,6 +112,8 @@ impl Incoming {
         requires goes_on { self.old.is_over ≡ false }
         ensures byte { IfOk result
             (TakesByte (S.left source.old) (S.left source.new) self.old self.new) }
+        ensures held { (byte : ℕ) → (more : List ℕ) → self.old.held ≡ byte ∷ more
+            → (result ≡ Ok (Some byte)) × (self.new.held ≡ more) × (source.new ≡ source.old) }
         ensures over { self.new.is_over ≡ self.old.is_over }
         ensures end { IfErr result (StopsReading (S.left source.old) (S.left source.new)
             (S.faults source.old) (S.faults source.new) self.old) }

@@ -1,4 +1,5 @@
 use Rattle.std.proofs.Common.{◌∙◌, refl}
+use Rattle.mu_serve.proofs.Held.{whole_behind, whole_untouched}
 use Rattle.mu_serve.proofs.LinesSoFar.{byte_fewer, front_fits, so_far_found, so_far_line, so_far_more, so_far_none, so_far_nothing, so_far_stops}
 use Rattle.mu_serve.proofs.incoming.Incoming.line_on.Goals as goal
 
@@ -6,6 +7,7 @@ pub bytes-init : goal.bytes-init
 bytes-init g c = record {
   so_far = so_far_none _ _ _ c.requires.some c.requires.goes_on c.new-line.ensures;
   goes_on = c.requires.goes_on;
+  held = λ whole. (whole, refl);
   same_faults = refl;
 }
 
@@ -31,6 +33,12 @@ bytes-preserved g c =
       so_far = so_far_more _ _ _ _ _ _ _ _ _ c.bytes.invariant.so_far next
           c.if-byte-eq-LINE_FEED.false c.push_front.ensures;
       goes_on = c.in-Ok-Some.ensures.over ∙ c.bytes.invariant.goes_on;
+      held = λ whole.
+          let before = c.bytes.invariant.held whole in
+          let takes = rw c.in-Ok-Some.field-0-is at c.in-Ok-Some.ensures.held in (
+            whole_behind _ _ _ _ takes c.if-byte-eq-LINE_FEED.false before.0,
+            whole_untouched _ _ _ _ takes before.0 ∙ before.1,
+          );
       same_faults = c.in-Ok-Some.ensures.same_faults ∙ c.bytes.invariant.same_faults;
     }
 
@@ -50,3 +58,18 @@ pub returns-in-Err-clause-end : goal.returns-in-Err-clause-end
 returns-in-Err-clause-end g c =
     so_far_stops _ _ _ _ _ _ _ _ _ _ c.bytes.invariant.so_far c.in-Err.ensures.end
     c.bytes.invariant.same_faults
+
+pub returns-then-byte-eq-LINE_FEED-clause-held : goal.returns-then-byte-eq-LINE_FEED-clause-held
+returns-then-byte-eq-LINE_FEED-clause-held g c = λ whole.
+    let before = c.bytes.invariant.held whole in
+    whole_untouched _ _ _ _ c.in-Ok-Some.ensures.held before.0 ∙ before.1
+
+pub returns-in-Ok-None-clause-held : goal.returns-in-Ok-None-clause-held
+returns-in-Ok-None-clause-held g c = λ whole.
+    let before = c.bytes.invariant.held whole in
+    whole_untouched _ _ _ _ c.in-Ok-None.ensures.held before.0 ∙ before.1
+
+pub returns-in-Err-clause-held : goal.returns-in-Err-clause-held
+returns-in-Err-clause-held g c = λ whole.
+    let before = c.bytes.invariant.held whole in
+    whole_untouched _ _ _ _ c.in-Err.ensures.held before.0 ∙ before.1
