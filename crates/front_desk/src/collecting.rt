@@ -26,7 +26,8 @@ use std::thread::Threads;
 /// its client and how many the client has sent. If no thread can be made, the clients send one
 /// after another, and then the commands are taken.
 ///
-/// Takes all memory before the first command is sent, and may wait for the threads.
+/// Takes all memory before the first command is sent, but for the block by which the rows of what
+/// came are shared, and may wait for the threads.
 ///
 /// # Errors
 ///
@@ -52,7 +53,7 @@ pub fn collect<R: Threads + Wait + Sync, G: Gate + Sync>(
     let room = room_for(alloc, count)?;
     let (line, pass) = Line::ruled(alloc, count.max(1))?;
     let arrived = arrive(rt, &line, pass, job.commands.as_slice(), room, gate);
-    Ok(with_commands(job, Sequence::from_vec(arrived), rows))
+    Ok(with_commands(job, Sequence::from_vec(arrived), rows)?)
 }
 
 /// An empty list: room for this many, and no more.

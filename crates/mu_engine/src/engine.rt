@@ -15,7 +15,7 @@ use crate::seat::{Seat, seats};
 use crate::shape::Shape;
 use kv_store::Command;
 use mu_input::Job;
-use mu_model::{Config, Journal, NoMemory, Script, Sequence};
+use mu_model::{Config, Journal, NoMemory, Rows, Script, Sequence};
 use mu_port::Memory;
 use std::alloc::Global;
 use std::marker::Model;
@@ -51,27 +51,27 @@ impl Model for Engine {
     ghost invariant = { IsEngine };
 }
 
-/// The job before any command. Takes no memory.
-fn first_job(alloc: Global, shape: Shape) -> Job
+/// The job before any command.
+fn first_job(alloc: Global, shape: Shape) -> Result<Job, NoMemory>
     requires { HasLimits shape }
-    ensures job { result ≡ job_at_first shape }
-    ensures config { IsConfig result.config }
+    ensures job { IfOk result (λ job. job ≡ job_at_first shape) }
+    ensures config { IfOk result (λ job. IsConfig job.config) }
 {
-    Job {
+    Ok(Job {
         config: Config {
             version: VERSION,
             width: WIDTH,
             replicas: shape.replicas,
             ring: shape.ring,
             budget: shape.budget,
-            rows: Sequence::from_vec(Vec::new(alloc)),
+            rows: Rows::from_vec(Vec::new(alloc))?,
         },
         commands: Sequence::from_vec(Vec::new(alloc)),
         script: Script {
             stops: Sequence::from_vec(Vec::new(alloc)),
             pauses: Sequence::from_vec(Vec::new(alloc)),
         },
-    }
+    })
 }
 
 impl Engine {
@@ -85,7 +85,7 @@ impl Engine {
         requires { HasLimits shape }
         ensures { IfOk result (λ engine. engine ≡ first_live shape) }
     {
-        let job = first_job(alloc, shape);
+        let job = first_job(alloc, shape)?;
         let commands = Vec::with_capacity(alloc, usize::from(shape.room))?;
         let seats = seats(alloc, &job)?;
         let memory = GrowingFabric::start(alloc, &job.config, shape.room)?;

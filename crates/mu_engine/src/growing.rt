@@ -7,7 +7,7 @@ ghost use Rattle.mu_engine.specs.Growing.{AreCopies, ArePairs, HaveRoom};
 ghost use Rattle.mu_engine.specs.Seats.{AreSeated, hold_of};
 
 use crate::seat::Seat;
-use mu_model::{Config, NoMemory, Row, Sequence};
+use mu_model::{Config, NoMemory, Row, Rows};
 use std::alloc::Global;
 use word_fabric::GrowingPort;
 
@@ -36,25 +36,19 @@ fn grown(alloc: Global, config: &Config, row: Row) -> Result<Config, NoMemory>
         replicas: config.replicas,
         ring: config.ring,
         budget: config.budget,
-        rows: Sequence::from_vec(rows),
+        rows: Rows::from_vec(rows)?,
     })
 }
 
-/// Two copies of it for each node.
-fn pairs(
-    alloc: Global,
-    config: &Config,
-    row: Row,
-    nodes: usize,
-) -> Result<Vec<(Config, Config)>, NoMemory>
-    requires { row_count config.now ≤ 1500 }
+/// It twice for each node.
+fn pairs(alloc: Global, config: &Config, nodes: usize) -> Result<Vec<(Config, Config)>, NoMemory>
     ensures count { IfOk result (λ pairs. length pairs.items ≡ nodes) }
-    ensures pairs { IfOk result (λ pairs. ArePairs (with_more config.now (row ∷ [])) pairs.items) }
+    ensures pairs { IfOk result (λ pairs. ArePairs config.now pairs.items) }
 {
     let mut pairs = Vec::with_capacity(alloc, nodes)?;
     for _ in 0..nodes {
-        let first = grown(alloc, config, row)?;
-        let second = grown(alloc, config, row)?;
+        let first = config.shared()?;
+        let second = config.shared()?;
         pairs.push_reserved((first, second));
     }
     Ok(pairs)
@@ -72,8 +66,8 @@ impl Copies {
         ensures { IfOk result (λ copies. AreCopies (with_more config.now (row ∷ [])) nodes copies) }
     {
         let own = grown(alloc, config, row)?;
-        let memory = grown(alloc, config, row)?;
-        let nodes = pairs(alloc, config, row, nodes)?;
+        let memory = own.shared()?;
+        let nodes = pairs(alloc, &own, nodes)?;
         Ok(Copies { own, memory, nodes })
     }
 }

@@ -158,7 +158,7 @@ impl Follow {
         let (knowing, rows) = no_rows(alloc, config)?;
         let (words, own_log) = no_words(alloc, config)?;
         Ok(Follow {
-            config: config.copied(alloc)?,
+            config: config.shared()?,
             replica: id,
             steps: 0,
             knowing,

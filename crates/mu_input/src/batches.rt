@@ -12,7 +12,7 @@ use crate::heading::Settings;
 use crate::job::{Commands, Job};
 use crate::{MOST_COMMANDS, MOST_WIDTH};
 use kv_store::Command;
-use mu_model::{Config, Row, Rows, Script, Sequence};
+use mu_model::{Config, Row, Rows, Script};
 use mu_rows::encode;
 use std::alloc::{AllocError, Global};
 
@@ -50,28 +50,32 @@ pub fn job_of(
     })
 }
 
-/// The job with these commands in place of its own, and with their rows, made in `room`. Takes no
-/// memory, and linear time.
-pub fn with_commands(job: Job, commands: Commands, room: Vec<Row>) -> Job
+/// The job with these commands in place of its own, and with their rows, made in `room`. Takes
+/// memory only for the block by which rows are shared, and linear time.
+///
+/// # Errors
+///
+/// `AllocError` for want of memory.
+pub fn with_commands(job: Job, commands: Commands, room: Vec<Row>) -> Result<Job, AllocError>
     requires config { IsConfig job.config }
     requires session { IsInSession commands }
     requires few { length commands ≤ MOST_COMMANDS }
     requires empty { room.items ≡ [] }
     requires room { length commands ≤ vec_capacity room }
-    ensures job { result ≡ with_commands commands job }
-    ensures config { IsConfig result.config }
+    ensures job { IfOk result (λ made. made ≡ with_commands commands job) }
+    ensures config { IfOk result (λ made. IsConfig made.config) }
 {
     let Job {
         config,
         commands: _,
         script,
     } = job;
-    let rows = rows_in(room, commands.as_slice(), config.width);
-    Job {
+    let rows = rows_in(room, commands.as_slice(), config.width)?;
+    Ok(Job {
         config: Config { rows, ..config },
         commands,
         script,
-    }
+    })
 }
 
 /// The rows of commands, in batches of at most `width`: 1 to 4. Takes linear time, since the next
@@ -88,18 +92,18 @@ pub fn rows_of(alloc: Global, commands: &[Command], width: u8) -> Result<Rows, A
     ensures heads { IfOk result (λ rows. HaveHeads width commands.now rows) }
 {
     let room = Vec::with_capacity(alloc, commands.len())?;
-    Ok(rows_in(room, commands, width))
+    rows_in(room, commands, width)
 }
 
-/// The same in a list that has room for them. Takes no memory.
-fn rows_in(room: Vec<Row>, commands: &[Command], width: u8) -> Rows
+/// The same in a list that has room for them.
+fn rows_in(room: Vec<Row>, commands: &[Command], width: u8) -> Result<Rows, AllocError>
     requires least { 1 ≤ width }
     requires most { width ≤ MOST_WIDTH }
     requires session { IsInSession commands.now }
     requires empty { room.items ≡ [] }
     requires room { length commands.now ≤ vec_capacity room }
-    ensures rows { result ≡ rows_of width commands.now }
-    ensures heads { HaveHeads width commands.now result }
+    ensures rows { IfOk result (λ rows. rows ≡ rows_of width commands.now) }
+    ensures heads { IfOk result (λ rows. HaveHeads width commands.now rows) }
 {
     let mut rows = room;
     let mut left = commands;
@@ -107,7 +111,7 @@ fn rows_in(room: Vec<Row>, commands: &[Command], width: u8) -> Rows
         rows.push_reserved(row_of(command, after, width));
         left = after;
     }
-    Sequence::from_vec(rows)
+    Rows::from_vec(rows)
 }
 
 /// The first command, and the ones after it.

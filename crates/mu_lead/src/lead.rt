@@ -92,7 +92,7 @@ impl Lead {
         ensures idle { IfOk result (λ lead. lead.under_way ≡ false) }
     {
         Ok(Lead {
-            config: config.copied(alloc)?,
+            config: config.shared()?,
             id,
             named: false,
             failed: 0,

@@ -1,8 +1,8 @@
 //! What all replicas know at the start.
 ghost use Rattle.std.specs.Prelude.{◌≡◌, ◌/◌, ◌%◌, ◌^◌, IfOk, slice_index};
 
-use crate::sequence::Sequence;
-use std::alloc::{AllocError, Global};
+use crate::rows::Rows;
+use std::alloc::AllocError;
 
 /// Twelve words that spell a command. The head word has, from the low bits: operation 8 bits,
 /// client 8, number 16, three lengths of 8 each, and in the top 8 how many rows of the same batch
@@ -36,9 +36,6 @@ impl Row {
     }
 }
 
-/// The rows of a job, in the order of the file.
-pub type Rows = Sequence<Row>;
-
 /// What all replicas know at the start.
 #[derive(Drop)]
 pub struct Config {
@@ -57,18 +54,21 @@ pub struct Config {
 }
 
 impl Config {
-    /// The same configuration in memory of its own.
-    pub fn copied(&self, alloc: Global) -> Result<Config, AllocError>
+    /// The same configuration, which shares its rows.
+    ///
+    /// # Errors
+    ///
+    /// `AllocError` if they are shared more often than a word can count.
+    pub fn shared(&self) -> Result<Config, AllocError>
         ensures { IfOk result (λ c. c ≡ self.now) }
     {
-        let rows = Vec::from_slice(alloc, self.rows.as_slice())?;
         Ok(Config {
             version: self.version,
             width: self.width,
             replicas: self.replicas,
             ring: self.ring,
             budget: self.budget,
-            rows: Sequence::from_vec(rows),
+            rows: self.rows.shared()?,
         })
     }
 }

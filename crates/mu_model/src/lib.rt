@@ -13,11 +13,12 @@ mod numbers;
 mod packing;
 mod reason;
 mod rooms;
+mod rows;
 mod scoring;
 mod script;
 mod sequence;
 
-pub use config::{Config, Row, Rows};
+pub use config::{Config, Row};
 pub use contents::{
     FIRST_MARK, PAYLOADS, count_of_commands, count_of_rows, positions_in, reserve_of, row_client,
     row_number, row_rest, row_word, stands_for_batch, stands_for_mark,
@@ -27,6 +28,7 @@ pub use journal::Journal;
 pub use numbers::{majority, next_number};
 pub use reason::Reason;
 pub use rooms::{push_within, reserve_to};
+pub use rows::Rows;
 pub use scoring::score_after;
 pub use script::{End, Pause, Pauses, Script, Stop, Stops, is_stopped};
 pub use sequence::Sequence;

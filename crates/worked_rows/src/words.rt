@@ -2,7 +2,7 @@
 
 ghost use Rattle.std.specs.Prelude.{IfOk, ◌≡◌};
 
-use mu_model::{Config, Row, Sequence, Target};
+use mu_model::{Config, Row, Rows, Target};
 use mu_words::{FenceWord, Layout, MinWord, SlotWord};
 use std::alloc::{AllocError, Global};
 use std::test::Fail;
@@ -63,7 +63,7 @@ fn layout(alloc: Global) -> Result<Layout, AllocError>
         replicas: 3,
         ring: 8,
         budget: 1_000,
-        rows: Sequence::from_vec(rows),
+        rows: Rows::from_vec(rows)?,
     }))
 }
 

@@ -18,6 +18,6 @@ with_commands-requires-clause-session g c =
 
 pub returns-clause-session : goal.returns-clause-session
 returns-clause-session g c =
-    subst IsInSession (sym (ap (λ (job : Job). job.commands) c.with_commands.ensures.job ∙ c.from_vec.ensures))
+    subst IsInSession (sym (ap (λ (job : Job). job.commands) c.in_ok-with_commands.ensures.job ∙ c.from_vec.ensures))
     (arrival_in_session c.args.job.commands c.arrive-arrived.result.items
     (subst (λ (given : List Request). IsArrival given c.arrive-arrived.result.items) c.as_slice.ensures c.arrive-arrived.ensures.arrival) c.requires.session)

@@ -1,6 +1,5 @@
-use Rattle.std.proofs.Common.{◌≡◌, ◌∷◌, [], length}
+use Rattle.std.proofs.Common.{◌≡◌, length}
 use Rattle.std.specs.Prelude.{vec_capacity}
-use Rattle.mu_model.specs.Growing.{with_more}
 use Rattle.mu_engine.specs.Growing.{ArePairs}
 use Rattle.mu_engine.proofs.growing.pairs.Given as goal
 
@@ -8,5 +7,5 @@ abbrev pub invariant-loop : goal.invariant-loop
 invariant-loop l = record {
   room : vec_capacity l.pairs ≡ l.nodes;
   count : length l.pairs.items ≡ l.counter;
-  pairs : ArePairs (with_more l.config (l.row ∷ [])) l.pairs.items;
+  pairs : ArePairs l.config l.pairs.items;
 }

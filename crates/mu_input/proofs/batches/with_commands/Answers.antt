@@ -8,5 +8,5 @@ pub returns-clause-config : goal.returns-clause-config
 returns-clause-config c =
     let config = c.args.job.config in
     IsConfig-made (record { version = config.version; width = config.width; replicas = config.replicas; ring = config.ring; budget = config.budget })
-    c.args.commands c.rows_in-rows.result (HasLimits-config config c.requires.config) c.requires.session c.requires.few
-    (subst (λ (commands : List Request). HaveHeads config.width commands c.rows_in-rows.result) c.as_slice.ensures c.rows_in-rows.ensures.heads)
+    c.args.commands c.in_ok-rows.rows (HasLimits-config config c.requires.config) c.requires.session c.requires.few
+    (subst (λ (commands : List Request). HaveHeads config.width commands c.in_ok-rows.rows) c.as_slice.ensures c.in_ok-rows.ensures.heads)
