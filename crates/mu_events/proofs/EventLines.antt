@@ -14,12 +14,9 @@ use Rattle.mu_events.proofs.Sides.{Words, put_before, step-other}
 use Rattle.mu_text.specs.Numbers.{below, wide_number_of}
 
 -- no verb begins with a `=`
-verb-equals : (words : Words) → verb_of (codes "=" ∷ words) ≡ None
-verb-equals words = refl
-
 step-equals_first : (sides : Option (Words × Words)) → step_after (codes "=" ∷ []) sides ≡ None
 step-equals_first None = refl
-step-equals_first (Some (others, answer)) = ap (λ verb. both verb (answer_of answer)) (verb-equals others)
+step-equals_first (Some (others, answer)) = refl
 
 equals : (word : List ℕ) → bytes_eq word (codes "=") ≡ true → word ≡ codes "="
 equals word is = (bytes_eq-Decides word (codes "=")).0 is

@@ -135,28 +135,19 @@ number_small a = omega arith
 
 -- an answer is that of its number and its word, and of its number alone if it carries nothing
 carried_back : (a : Answer) → FitsAnswer a → answer_in (answer_number a) (answer_word a) ≡ a
-carried_back Answer.Done h = refl
-carried_back Answer.Missed h = refl
-carried_back Answer.Entered h = refl
 carried_back (Answer.Lost f) h = ap Answer.Lost (fence_back f h)
 carried_back (Answer.Seen f) h = ap Answer.Seen (fence_back f h)
-carried_back (Answer.Number n) h = refl
-carried_back Answer.Empty h = refl
 carried_back (Answer.Entry b v) h =
     ap (λ n. Answer.Entry n ((b + v * 4294967296) / 4294967296 % 65536)) (let e : (b + v * 4294967296) % 4294967296 ≡ b = omega arith in e)
     ∙ ap (Answer.Entry b) (let e : (b + v * 4294967296) / 4294967296 % 65536 ≡ v = omega arith in e)
-carried_back Answer.Past h = refl
+carried_back a h = refl
 
 bare_back : (a : Answer) (word : ℕ) → IsBare a → answer_in (answer_number a) word ≡ a
-bare_back Answer.Done word h = refl
-bare_back Answer.Missed word h = refl
-bare_back Answer.Entered word h = refl
 bare_back (Answer.Lost f) word h = absurd h
 bare_back (Answer.Seen f) word h = absurd h
 bare_back (Answer.Number n) word h = absurd h
-bare_back Answer.Empty word h = refl
 bare_back (Answer.Entry b v) word h = absurd h
-bare_back Answer.Past word h = refl
+bare_back a word h = refl
 
 kept_back : (own : Option ℕ) (a : Answer) → LeavesRoom own a → FitsAnswer a → answer_in (answer_number a) (unwrap_or own (answer_word a)) ≡ a
 kept_back None a room fits = carried_back a fits
