@@ -14,17 +14,9 @@ use Rattle.mu_events.proofs.Sides.{Words, put_before, step-other}
 use Rattle.mu_text.specs.Numbers.{below, wide_number_of}
 
 -- no verb begins with a `=`
-verb-equals : (words : Words) → verb_of (codes "=" ∷ words) ≡ None
-verb-equals [] = refl
-verb-equals (a ∷ []) = refl
-verb-equals (a ∷ b ∷ []) = refl
-verb-equals (a ∷ b ∷ c ∷ []) = refl
-verb-equals (a ∷ b ∷ c ∷ d ∷ []) = refl
-verb-equals (a ∷ b ∷ c ∷ d ∷ e ∷ rest) = refl
-
 step-equals_first : (sides : Option (Words × Words)) → step_after (codes "=" ∷ []) sides ≡ None
 step-equals_first None = refl
-step-equals_first (Some (others, answer)) = ap (λ verb. both verb (answer_of answer)) (verb-equals others)
+step-equals_first (Some (others, answer)) = refl
 
 equals : (word : List ℕ) → bytes_eq word (codes "=") ≡ true → word ≡ codes "="
 equals word is = (bytes_eq-Decides word (codes "=")).0 is
@@ -74,3 +66,6 @@ pub event-is : (replicas : ℕ) (text : Words) (by : List ℕ) (words : Words) (
     → Some (record { by = r; verb = step.0; answer = step.1 }) ≡ event_of replicas text
 event-is replicas text by words r step e is_by is_step =
     ap (λ by. made by (Some step)) is_by ∙ ap (made (below replicas (wide_number_of by))) is_step ∙ sym (event-made replicas text by words e)
+
+pub event-none : (replicas : ℕ) (text : Words) (by : List ℕ) (words : Words) → text ≡ by ∷ words → None ≡ step_after [] (sides words) → None ≡ event_of replicas text
+event-none replicas text by words e none = let by_of = below replicas (wide_number_of by) in sym (event-made replicas text by words e ∙ ap (made by_of) (sym none) ∙ made-none by_of)

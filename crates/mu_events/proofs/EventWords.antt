@@ -1,12 +1,9 @@
 -- Words of a fence and of an answer, by how many they are.
-use Rattle.std.proofs.Common.{◌≡◌, ℕ, ◌<◌, List, [], ◌∷◌, length, take, map, Bor, None, Some, refl, sym, ap, ◌∙◌, arith}
+use Rattle.std.proofs.Common.{◌≡◌, ℕ, ◌<◌, List, [], ◌∷◌, length, take, Bor, None, Some, refl, sym, ap, ◌∙◌, arith}
 use Rattle.std.specs.declared.option.Option.{Option}
+use Rattle.mu_events.proofs.Sides.{said}
 use Rattle.mu_events.specs.Events.{answer_of, answer_of_many, fence_of, of_four, owner_of, state_of}
 use Rattle.mu_text.specs.Numbers.{of_32}
-
--- what borrowed words say
-abbrev said : List (Bor (List ℕ)) → List (List ℕ)
-said words = map (λ (word : Bor (List ℕ)). word.now) words
 
 -- a fence has at least three words
 pub fence_of-few : (words : List (Bor (List ℕ))) → length words < 3 → fence_of (said words) ≡ None

@@ -3,3 +3,4 @@ mod EventLines
 mod EventWords
 mod Sides
 pub mod Spelled
+mod TableBack

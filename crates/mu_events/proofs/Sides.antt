@@ -1,5 +1,7 @@
 -- The words before and after the first `=`, one more at a time.
-use Rattle.std.proofs.Common.{◌≡◌, ℕ, Bool, true, false, cond, List, [], ◌∷◌, ◌++◌, None, Some, refl, sym, ap, ◌∙◌, append_assoc}
+use Rattle.std.proofs.Common.{◌≡◌, ℕ, ◌<◌, ◌+◌, Bor, Bool, length, map, take, slice_set, true, false, cond, List, [], ◌∷◌, ◌++◌, None, Some, refl, sym, ap, ◌∙◌, append_assoc}
+use Rattle.std.proofs.lemmas.Grind.{take-set_at}
+use Rattle.std.proofs.lemmas.List.{map-append}
 use Rattle.std.specs.Option.{option_map}
 use Rattle.std.specs.Str.{bytes_eq}
 use Rattle.std.specs.Prelude.{codes}
@@ -39,3 +41,11 @@ last first word false is = ap (step_after first) (sides-step word [] false is)
 -- a line doesn't end before its answer
 pub step-ends : (first text : Words) (word : List ℕ) → text ≡ word ∷ [] → step_after first (sides text) ≡ None
 step-ends first text word e = ap (λ text. step_after first (sides text)) e ∙ last first word (bytes_eq word (codes "=")) refl
+
+-- what borrowed words say
+abbrev pub said : List (Bor (List ℕ)) → Words
+said words = map (λ (word : Bor (List ℕ)). word.now) words
+
+-- one more of the words so far
+pub said-more : (items : List (Bor (List ℕ))) (i : ℕ) (word : Bor (List ℕ)) → i < length items → said (take (i + 1) (slice_set items i word)) ≡ said (take i items) ++ word.now ∷ []
+said-more items i word below = ap said (take-set_at items i (i + 1) word refl below) ∙ map-append (λ (word : Bor (List ℕ)). word.now) (take i items) (word ∷ [])

@@ -1,12 +1,13 @@
 -- The words of an event's line are read back as the event.
-use Rattle.std.proofs.Common.{◌≡◌, ℕ, ◌<◌, ◌^◌, nat_lt, Bool, true, false, cond, List, [], ◌∷◌, ◌++◌, length, None, Some, refl, sym, ap, subst, ◌∙◌, append_assoc, length-append, arith}
+use Rattle.std.proofs.Common.{◌≡◌, ℕ, ◌<◌, ◌^◌, Bool, true, false, cond, List, [], ◌∷◌, ◌++◌, length, None, Some, refl, sym, ap, subst, ◌∙◌, append-nil, append_assoc, length-append, arith, ◌==◌}
 use Rattle.std.specs.Fmt.{decimal}
-use Rattle.std.specs.List.{All, list_all}
-use Rattle.std.specs.Option.{option_map}
+use Rattle.std.specs.Bool.{⊤}
+use Rattle.std.specs.List.{All, AllByRecursion}
+use Rattle.std.specs.Option.{option_and_then, option_map, unwrap_or}
 use Rattle.std.specs.Prelude.{codes}
 use Rattle.std.specs.Str.{bytes_eq}
 use Rattle.std.specs.declared.option.Option.{Option}
-use Rattle.std.proofs.lemmas.List.Elements.{All-append, All-cons, All-head, All-nil, All-tail}
+use Rattle.std.proofs.lemmas.List.Elements.{All-cons, All-head, All-nil, All-tail}
 use Rattle.std.proofs.lemmas.Slice.Eq.{bytes_eq-Decides}
 use Rattle.mu_model.specs.declared.event.Answer.{Answer}
 use Rattle.mu_model.specs.declared.event.Event.{Event}
@@ -15,9 +16,13 @@ use Rattle.mu_model.specs.declared.event.Target.{Target}
 use Rattle.mu_model.specs.declared.event.Target.TheVariants as target
 use Rattle.mu_model.specs.declared.event.Verb.{Verb}
 use Rattle.mu_model.specs.declared.event.Verb.TheVariants as verb
-use Rattle.mu_events.specs.Events.{answer_of, event_between, event_of, fence_of, named_of, of_four, of_three, of_two, owner_of, sides, state_of, verb_of}
-use Rattle.mu_model.specs.Ranges.{FitsAnswer, FitsEvent, FitsFence, FitsOwner, FitsTarget, FitsVerb}
-use Rattle.mu_events.specs.Lines.{EntersForWord, IsSpelled, answer_words, event_line, fence_words, owner_words, state_words, target_words, verb_words}
+use Rattle.mu_events.specs.Table.{Parts, limit_of, number_in, parts_of, put_in, row_of}
+use Rattle.mu_events.specs.declared.table.Field.{Field}
+use Rattle.mu_model.specs.Packing.{fields, fields_of, own_word, target_in, verb_in}
+use Rattle.mu_model.proofs.Unpacking.{verb_back}
+use Rattle.mu_events.specs.Events.{answer_of, event_between, event_of, fence_of, named_of, of_four, of_three, of_two, owner_of, read_fields, sides, state_of, target_of, verb_of, with_target, with_word}
+use Rattle.mu_model.specs.Ranges.{FitsAnswer, FitsEvent, FitsFence, FitsOwn, FitsOwner, FitsTarget, FitsVerb}
+use Rattle.mu_events.specs.Lines.{EntersForWord, IsSpelled, after_spaces, answer_words, event_line, fence_words, owner_words, pieces_in, state_words, target_pieces, target_words, verb_words}
 use Rattle.mu_text.specs.Lines.{words}
 use Rattle.mu_text.specs.Numbers.{below, of_8, of_16, of_32, of_64, wide_number_of}
 use Rattle.mu_text.specs.declared.TheConstants.{SPACE}
@@ -29,50 +34,32 @@ use Rattle.mu_events.proofs.Sides.{Words, put_before}
 abbrev NoEquals : Words → Type 0
 NoEquals words = All (λ word. bytes_eq word (codes "=") ≡ false) words
 
--- a text is these words, and none of them is a `=`
-record Pieces (text : List ℕ) (spelled : Words) : Type 0 where
-  spells : Spells text spelled
-  no_equals : NoEquals spelled
+-- one word that is no `=`
+abbrev IsPiece : List ℕ → Type 0
+IsPiece word = IsOneWord word × (bytes_eq word (codes "=") ≡ false)
 
-name_last : (name : List ℕ) → list_all (λ byte. nat_lt SPACE byte) name ≡ true → bytes_eq name (codes "=") ≡ false → Pieces name (name ∷ [])
-name_last name visible other = record {
-  spells = Spells-word name (written name visible);
-  no_equals = All-cons (λ word. bytes_eq word (codes "=") ≡ false) name [] other (All-nil (λ word. bytes_eq word (codes "=") ≡ false));
-}
+a_number : (n : ℕ) → n < 2 ^ 64 → IsPiece (decimal n)
+a_number n fits = (one_number n fits, decimal-is_not n (codes "=") fits refl)
 
-name_then : (name text : List ℕ) (spelled : Words) → list_all (λ byte. nat_lt SPACE byte) name ≡ true → bytes_eq name (codes "=") ≡ false → Pieces text spelled → Pieces (name ++ SPACE ∷ text) (name ∷ spelled)
-name_then name text spelled visible other rest = record {
-  spells = Spells-then name text spelled (written name visible) rest.spells;
-  no_equals = All-cons (λ word. bytes_eq word (codes "=") ≡ false) name spelled other rest.no_equals;
-}
+-- words with a space before each but the first spell these words
+spaced : (word : List ℕ) (more : Words) → IsPiece word → AllByRecursion IsPiece more → Spells (word ++ after_spaces more) (word ∷ more)
+spaced word [] one all = subst (λ text. Spells text (word ∷ [])) (sym (append-nil word)) (Spells-word word one.0)
+spaced word (next ∷ more) one all = Spells-then word (next ++ after_spaces more) (next ∷ more) one.0 (spaced next more all.0 all.1)
 
-number_last : (n : ℕ) → n < 2 ^ 64 → Pieces (decimal n) (decimal n ∷ [])
-number_last n fits = record {
-  spells = Spells-word (decimal n) (one_number n fits);
-  no_equals = All-cons (λ word. bytes_eq word (codes "=") ≡ false) (decimal n) [] (decimal-is_not n (codes "=") fits refl) (All-nil (λ word. bytes_eq word (codes "=") ≡ false));
-}
-
--- two texts with a space between them have the words of both
-join : (first second : List ℕ) (front back : Words) → Pieces first front → Pieces second back → Pieces ((first ++ SPACE ∷ []) ++ second) (front ++ back)
-join first second front back a b = record {
-  spells = Spells-join first second front back a.spells b.spells;
-  no_equals = All-append (λ word. bytes_eq word (codes "=") ≡ false) front back a.no_equals b.no_equals;
-}
-
--- a text with one number more has one word more
-then_number : (text : List ℕ) (spelled : Words) (n : ℕ) → Pieces text spelled → n < 2 ^ 64 → Pieces ((text ++ SPACE ∷ []) ++ decimal n) (spelled ++ decimal n ∷ [])
-then_number text spelled n before fits = join text (decimal n) spelled (decimal n ∷ []) before (number_last n fits)
+no_equals : (words : Words) → AllByRecursion IsPiece words → NoEquals words
+no_equals [] all = All-nil (λ word. bytes_eq word (codes "=") ≡ false)
+no_equals (word ∷ words) all = All-cons (λ word. bytes_eq word (codes "=") ≡ false) word words all.0.1 (no_equals words all.1)
 
 -- the words of a target
-abbrev target_pieces : Target → Words
-target_pieces target.None = codes "none" ∷ []
-target_pieces target.Min = codes "min" ∷ []
-target_pieces (target.Place place) = codes "place" ∷ decimal place ∷ []
+target-pieces : (named : Target) → FitsTarget named → AllByRecursion IsPiece (target_pieces named)
+target-pieces target.None fits = ((written (codes "none") refl, refl), tt)
+target-pieces target.Min fits = ((written (codes "min") refl, refl), tt)
+target-pieces (target.Place place) fits = ((written (codes "place") refl, refl), (a_number place (omega (arith, fits)), tt))
 
-target-pieces : (named : Target) → FitsTarget named → Pieces (target_words named) (target_pieces named)
-target-pieces target.None fits = name_last (codes "none") refl refl
-target-pieces target.Min fits = name_last (codes "min") refl refl
-target-pieces (target.Place place) fits = name_then (codes "place") (decimal place) (decimal place ∷ []) refl refl (number_last place (omega (arith, fits)))
+target-spells : (named : Target) → FitsTarget named → Spells (target_words named) (target_pieces named)
+target-spells target.None fits = Spells-word (codes "none") (written (codes "none") refl)
+target-spells target.Min fits = Spells-word (codes "min") (written (codes "min") refl)
+target-spells (target.Place place) fits = let one = one_number place (omega (arith, fits)) in Spells-then (codes "place") (decimal place) (decimal place ∷ []) (written (codes "place") refl) (Spells-word (decimal place) one)
 
 -- what a writer names is read back, and what a fence names too
 named-back : (named : Target) → FitsTarget named → named_of (target_pieces named) ≡ Some named
@@ -80,71 +67,39 @@ named-back target.None fits = refl
 named-back target.Min fits = refl
 named-back (target.Place place) fits = ap (option_map target.Place) (of_16-decimal place fits)
 
--- a name and a number are two words
-one : (name : List ℕ) (p : ℕ) → list_all (λ byte. nat_lt SPACE byte) name ≡ true → bytes_eq name (codes "=") ≡ false → p < 2 ^ 64 → Pieces (name ++ SPACE ∷ decimal p) (name ∷ decimal p ∷ [])
-one name p visible other fits = name_then name (decimal p) (decimal p ∷ []) visible other (number_last p fits)
-
--- a name and two numbers are three words
-two : (name : List ℕ) (p i : ℕ) → list_all (λ byte. nat_lt SPACE byte) name ≡ true → bytes_eq name (codes "=") ≡ false → p < 2 ^ 64 → i < 2 ^ 64
-    → Pieces (((name ++ SPACE ∷ decimal p) ++ SPACE ∷ []) ++ decimal i) (name ∷ decimal p ∷ decimal i ∷ [])
-two name p i visible other first second = then_number (name ++ SPACE ∷ decimal p) (name ∷ decimal p ∷ []) i (one name p visible other first) second
-
--- a name and three numbers are four words
-three : (name : List ℕ) (p i n : ℕ) → list_all (λ byte. nat_lt SPACE byte) name ≡ true → bytes_eq name (codes "=") ≡ false → p < 2 ^ 64 → i < 2 ^ 64 → n < 2 ^ 64
-    → Pieces (((((name ++ SPACE ∷ decimal p) ++ SPACE ∷ []) ++ decimal i) ++ SPACE ∷ []) ++ decimal n) (name ∷ decimal p ∷ decimal i ∷ decimal n ∷ [])
-three name p i n visible other first second third =
-    then_number (((name ++ SPACE ∷ decimal p) ++ SPACE ∷ []) ++ decimal i) (name ∷ decimal p ∷ decimal i ∷ []) n (two name p i visible other first second) third
-
--- a name and four numbers are five words
-four : (name : List ℕ) (p i n v : ℕ) → list_all (λ byte. nat_lt SPACE byte) name ≡ true → bytes_eq name (codes "=") ≡ false → p < 2 ^ 64 → i < 2 ^ 64 → n < 2 ^ 64 → v < 2 ^ 64
-    → Pieces (((((((name ++ SPACE ∷ decimal p) ++ SPACE ∷ []) ++ decimal i) ++ SPACE ∷ []) ++ decimal n) ++ SPACE ∷ []) ++ decimal v) (name ∷ decimal p ∷ decimal i ∷ decimal n ∷ decimal v ∷ [])
-four name p i n v visible other first second third fourth =
-    then_number (((((name ++ SPACE ∷ decimal p) ++ SPACE ∷ []) ++ decimal i) ++ SPACE ∷ []) ++ decimal n) (name ∷ decimal p ∷ decimal i ∷ decimal n ∷ []) v (three name p i n visible other first second third) fourth
-
 -- the words of a step
 abbrev verb_pieces : Verb → Words
-verb_pieces (verb.Ask p) = codes "ask" ∷ decimal p ∷ []
-verb_pieces (verb.Fence p) = codes "fence" ∷ decimal p ∷ []
-verb_pieces (verb.Min p) = codes "min" ∷ decimal p ∷ []
-verb_pieces (verb.Enter p named) = codes "enter" ∷ decimal p ∷ target_pieces named
-verb_pieces (verb.PutMin p number) = codes "putmin" ∷ decimal p ∷ decimal number ∷ []
-verb_pieces (verb.Look p i) = codes "look" ∷ decimal p ∷ decimal i ∷ []
-verb_pieces (verb.PutSlot p i number value) = codes "putslot" ∷ decimal p ∷ decimal i ∷ decimal number ∷ decimal value ∷ []
-verb_pieces (verb.Fuo p) = codes "fuo" ∷ decimal p ∷ []
-verb_pieces (verb.RaiseFuo p fuo) = codes "raisefuo" ∷ decimal p ∷ decimal fuo ∷ []
-verb_pieces (verb.Head q) = codes "head" ∷ decimal q ∷ []
-verb_pieces (verb.ReadBeat q) = codes "readbeat" ∷ decimal q ∷ []
-verb_pieces (verb.WriteRow row word value) = codes "writerow" ∷ decimal row ∷ decimal word ∷ decimal value ∷ []
-verb_pieces (verb.ReadRow value word) = codes "readrow" ∷ decimal value ∷ decimal word ∷ []
-verb_pieces (verb.RaiseHead head) = codes "raisehead" ∷ decimal head ∷ []
-verb_pieces verb.Beat = codes "beat" ∷ []
-verb_pieces (verb.ReadAsk w) = codes "readask" ∷ decimal w ∷ []
-verb_pieces verb.Close = codes "close" ∷ []
-verb_pieces verb.LookTarget = codes "looktarget" ∷ []
-verb_pieces verb.Drain = codes "drain" ∷ []
-verb_pieces (verb.Grant w) = codes "grant" ∷ decimal w ∷ []
+verb_pieces verb = (row_of verb).name ∷ pieces_in (row_of verb).order (parts_of verb)
 
-verb-pieces : (made : Verb) → FitsVerb made → Pieces (verb_words made) (verb_pieces made)
-verb-pieces (verb.Ask p) fits = one (codes "ask") p refl refl (omega (arith, fits))
-verb-pieces (verb.Fence p) fits = one (codes "fence") p refl refl (omega (arith, fits))
-verb-pieces (verb.Min p) fits = one (codes "min") p refl refl (omega (arith, fits))
-verb-pieces (verb.Enter p named) fits = join (codes "enter" ++ SPACE ∷ decimal p) (target_words named) (codes "enter" ∷ decimal p ∷ []) (target_pieces named) (one (codes "enter") p refl refl (omega (arith, fits.0))) (target-pieces named fits.1)
-verb-pieces (verb.PutMin p number) fits = two (codes "putmin") p number refl refl (omega (arith, fits.0)) (omega (arith, fits.1))
-verb-pieces (verb.Look p i) fits = two (codes "look") p i refl refl (omega (arith, fits.0)) (omega (arith, fits.1))
-verb-pieces (verb.PutSlot p i number value) fits = four (codes "putslot") p i number value refl refl (omega (arith, fits.0)) (omega (arith, fits.1)) (omega (arith, fits.2)) (omega (arith, fits.3))
-verb-pieces (verb.Fuo p) fits = one (codes "fuo") p refl refl (omega (arith, fits))
-verb-pieces (verb.RaiseFuo p fuo) fits = two (codes "raisefuo") p fuo refl refl (omega (arith, fits.0)) (omega (arith, fits.1))
-verb-pieces (verb.Head q) fits = one (codes "head") q refl refl (omega (arith, fits))
-verb-pieces (verb.ReadBeat q) fits = one (codes "readbeat") q refl refl (omega (arith, fits))
-verb-pieces (verb.WriteRow row word value) fits = three (codes "writerow") row word value refl refl (omega (arith, fits.0)) (omega (arith, fits.1)) fits.2
-verb-pieces (verb.ReadRow value word) fits = two (codes "readrow") value word refl refl (omega (arith, fits.0)) (omega (arith, fits.1))
-verb-pieces (verb.RaiseHead head) fits = one (codes "raisehead") head refl refl (omega (arith, fits))
-verb-pieces verb.Beat fits = name_last (codes "beat") refl refl
-verb-pieces (verb.ReadAsk w) fits = one (codes "readask") w refl refl (omega (arith, fits))
-verb-pieces verb.Close fits = name_last (codes "close") refl refl
-verb-pieces verb.LookTarget fits = name_last (codes "looktarget") refl refl
-verb-pieces verb.Drain fits = name_last (codes "drain") refl refl
-verb-pieces (verb.Grant w) fits = one (codes "grant") w refl refl (omega (arith, fits))
+a_name : (verb : Verb) → IsPiece (row_of verb).name
+a_name (verb.Ask p) = (written (codes "ask") refl, refl)
+a_name verb = (written (row_of verb).name refl, refl)
+
+own-fits : (made : Verb) → FitsOwn made → unwrap_or (own_word made) 0 < 2 ^ 64
+own-fits (verb.PutMin p number) fits = omega (arith, fits)
+own-fits (verb.PutSlot p i number value) fits = omega (arith, fits)
+own-fits (verb.WriteRow row word value) fits = fits
+own-fits made fits = omega arith
+
+target-fits : (kind place : ℕ) → place < 2 ^ 16 → FitsTarget (target_in kind place)
+target-fits kind place fits = by_tests (kind == 0) (kind == 1)
+  where
+    by_tests : (a b : Bool) → FitsTarget (cond a target.None (cond b target.Min (target.Place place)))
+    by_tests true b = tt
+    by_tests false true = tt
+    by_tests false false = fits
+
+fields-pieces : (order : List Field) (made : Verb) → FitsVerb made → AllByRecursion IsPiece (pieces_in order (parts_of made))
+fields-pieces [] made fits = tt
+fields-pieces (Field.Target ∷ order) made fits = let f = fields_of made in target-pieces (target_in f.second f.first) (target-fits f.second f.first fits.first)
+fields-pieces (field ∷ order) made fits =
+    (a_number (number_in field (parts_of made)) (omega (arith, fits.small, fits.first, fits.second, own-fits made fits.own)), fields-pieces order made fits)
+
+verb-pieces : (made : Verb) → FitsVerb made → AllByRecursion IsPiece (verb_pieces made)
+verb-pieces made fits = (a_name made, fields-pieces (row_of made).order made fits)
+
+verb-spells : (made : Verb) → FitsVerb made → Spells (verb_words made) (verb_pieces made)
+verb-spells made fits = let all = verb-pieces made fits in spaced (row_of made).name (pieces_in (row_of made).order (parts_of made)) all.0 all.1
 
 two-back : {A B C : Type 0} (make : A → B → C) (first : Option A) (second : Option B) (a : A) (b : B) → first ≡ Some a → second ≡ Some b → of_two make first second ≡ Some (make a b)
 two-back make first second a b e f = ap (λ first. of_two make first second) e ∙ ap (of_two make (Some a)) f
@@ -159,33 +114,61 @@ four-back make first second third fourth a b c d e f g h =
     ap (λ first. of_four make first second third fourth) e ∙ ap (λ second. of_four make (Some a) second third fourth) f
     ∙ ap (λ third. of_four make (Some a) (Some b) third fourth) g ∙ ap (of_four make (Some a) (Some b) (Some c)) h
 
+-- parts with these fields of others
+abbrev copied : List Field → Parts → Parts → Parts
+copied [] parts start = start
+copied (Field.Target ∷ order) parts start = with_target start (target_in parts.0.second parts.0.first)
+copied (field ∷ order) parts start = copied order parts (put_in field start (number_in field parts))
+
+-- what isn't read back from every parts: a target that names nothing, and a word of 32 bits
+abbrev AreRead : List Field → Parts → Type 0
+AreRead [] parts = ⊤
+AreRead (Field.Target ∷ order) parts = let named = target_in parts.0.second parts.0.first in target_of (target_pieces named) ≡ Some named
+AreRead (Field.Wide ∷ order) parts = (parts.1 < 2 ^ 32) × AreRead order parts
+AreRead (field ∷ order) parts = AreRead order parts
+
+field-back : (field : Field) (order : List Field) (parts start : Parts) → number_in field parts < limit_of field → number_in field parts < 2 ^ 64
+    → option_and_then (read_fields order (pieces_in order parts)) (with_word field (decimal (number_in field parts)) start) ≡ read_fields order (pieces_in order parts) (put_in field start (number_in field parts))
+field-back field order parts start fits wide =
+    ap (λ n. option_and_then (read_fields order (pieces_in order parts)) (option_map (put_in field start) n)) (wide_below-decimal (limit_of field) (number_in field parts) fits wide)
+
+fields-back : (order : List Field) (made : Verb) (start : Parts) → FitsVerb made → AreRead order (parts_of made) → read_fields order (pieces_in order (parts_of made)) start ≡ Some (copied order (parts_of made) start)
+fields-back [] made start fits are = refl
+fields-back (Field.Target ∷ order) made start fits are = ap (option_map (with_target start)) are
+fields-back (Field.Wide ∷ order) made start fits are =
+    field-back Field.Wide order (parts_of made) start are.0 (own-fits made fits.own) ∙ fields-back order made (put_in Field.Wide start (number_in Field.Wide (parts_of made))) fits are.1
+fields-back (field ∷ order) made start fits are =
+    let own = own-fits made fits.own in
+    field-back field order (parts_of made) start (omega (arith, fits.small, fits.first, fits.second, own)) (omega (arith, fits.small, fits.first, fits.second, own))
+    ∙ fields-back order made (put_in field start (number_in field (parts_of made))) fits are
+
+are-read : (verb : Verb) → FitsVerb verb → EntersForWord verb → AreRead (row_of verb).order (parts_of verb)
+are-read (verb.Enter p target.None) fits enters = absurd enters
+are-read (verb.Enter p target.Min) fits enters = refl
+are-read (verb.Enter p (target.Place place)) fits enters = ap (option_map target.Place) (of_16-decimal place fits.first)
+are-read (verb.PutMin p number) fits enters = (fits.own, tt)
+are-read (verb.PutSlot p i number value) fits enters = (fits.own, tt)
+are-read verb fits enters = tt
+
+-- a verb's fields are all that there are of it
+all-copied : (verb : Verb) → copied (row_of verb).order (parts_of verb) (fields (fields_of verb).number 0 0 0, 0) ≡ parts_of verb
+all-copied (verb.Enter p target.None) = refl
+all-copied (verb.Enter p target.Min) = refl
+all-copied (verb.Enter p (target.Place place)) = refl
+all-copied verb = refl
+
+-- a verb is read by its own row
+by_row : (verb : Verb) (words : Words) → verb_of ((row_of verb).name ∷ words) ≡ option_map (λ parts. verb_in parts.0 parts.1) (read_fields (row_of verb).order words (fields (fields_of verb).number 0 0 0, 0))
+by_row (verb.Ask p) words = refl
+by_row verb words = refl
+
 -- a step is read back
 verb-back : (made : Verb) → FitsVerb made → EntersForWord made → verb_of (verb_pieces made) ≡ Some made
-verb-back (verb.Ask p) fits enters = ap (option_map verb.Ask) (of_8-decimal p fits)
-verb-back (verb.Fence p) fits enters = ap (option_map verb.Fence) (of_8-decimal p fits)
-verb-back (verb.Min p) fits enters = ap (option_map verb.Min) (of_8-decimal p fits)
-verb-back (verb.Enter p target.None) fits enters = absurd enters
-verb-back (verb.Enter p target.Min) fits enters = two-back verb.Enter (of_8 (decimal p)) (Some target.Min) p target.Min (of_8-decimal p fits.0) refl
-verb-back (verb.Enter p (target.Place place)) fits enters =
-    two-back verb.Enter (of_8 (decimal p)) (option_map target.Place (of_16 (decimal place))) p (target.Place place) (of_8-decimal p fits.0) (ap (option_map target.Place) (of_16-decimal place fits.1))
-verb-back (verb.PutMin p number) fits enters = two-back verb.PutMin (of_8 (decimal p)) (of_32 (decimal number)) p number (of_8-decimal p fits.0) (of_32-decimal number fits.1)
-verb-back (verb.Look p i) fits enters = two-back verb.Look (of_8 (decimal p)) (of_16 (decimal i)) p i (of_8-decimal p fits.0) (of_16-decimal i fits.1)
-verb-back (verb.PutSlot p i number value) fits enters =
-    four-back verb.PutSlot (of_8 (decimal p)) (of_16 (decimal i)) (of_32 (decimal number)) (of_16 (decimal value)) p i number value (of_8-decimal p fits.0) (of_16-decimal i fits.1) (of_32-decimal number fits.2) (of_16-decimal value fits.3)
-verb-back (verb.Fuo p) fits enters = ap (option_map verb.Fuo) (of_8-decimal p fits)
-verb-back (verb.RaiseFuo p fuo) fits enters = two-back verb.RaiseFuo (of_8 (decimal p)) (of_16 (decimal fuo)) p fuo (of_8-decimal p fits.0) (of_16-decimal fuo fits.1)
-verb-back (verb.Head q) fits enters = ap (option_map verb.Head) (of_8-decimal q fits)
-verb-back (verb.ReadBeat q) fits enters = ap (option_map verb.ReadBeat) (of_8-decimal q fits)
-verb-back (verb.WriteRow row word value) fits enters =
-    three-back verb.WriteRow (of_16 (decimal row)) (of_8 (decimal word)) (of_64 (decimal value)) row word value (of_16-decimal row fits.0) (of_8-decimal word fits.1) (of_64-decimal value fits.2)
-verb-back (verb.ReadRow value word) fits enters = two-back verb.ReadRow (of_16 (decimal value)) (of_8 (decimal word)) value word (of_16-decimal value fits.0) (of_8-decimal word fits.1)
-verb-back (verb.RaiseHead head) fits enters = ap (option_map verb.RaiseHead) (of_16-decimal head fits)
-verb-back verb.Beat fits enters = refl
-verb-back (verb.ReadAsk w) fits enters = ap (option_map verb.ReadAsk) (of_8-decimal w fits)
-verb-back verb.Close fits enters = refl
-verb-back verb.LookTarget fits enters = refl
-verb-back verb.Drain fits enters = refl
-verb-back (verb.Grant w) fits enters = ap (option_map verb.Grant) (of_8-decimal w fits)
+verb-back made fits enters =
+    let read = fields-back (row_of made).order made (fields (fields_of made).number 0 0 0, 0) fits (are-read made fits enters) in
+    by_row made (pieces_in (row_of made).order (parts_of made))
+    ∙ ap (option_map (λ (parts : Parts). verb_in parts.0 parts.1)) (read ∙ ap Some (all-copied made))
+    ∙ ap Some (verb_back made 0 fits)
 
 -- the words of a fence
 abbrev fence_pieces : Fence → Words
@@ -206,7 +189,7 @@ fence-spells fence fits =
     let state = state_words fence.closing in
     let first = Spells-join owner grant (owner ∷ []) (grant ∷ []) (Spells-word owner (owner-word fence.owner fits.owner)) (Spells-word grant (one_number fence.grant (omega (arith, fits.grant)))) in
     let second = Spells-join ((owner ++ SPACE ∷ []) ++ grant) state (owner ∷ grant ∷ []) (state ∷ []) first (Spells-word state (state-word fence.closing)) in
-    Spells-join ((((owner ++ SPACE ∷ []) ++ grant) ++ SPACE ∷ []) ++ state) (target_words fence.target) (owner ∷ grant ∷ state ∷ []) (target_pieces fence.target) second (target-pieces fence.target fits.target).spells
+    Spells-join ((((owner ++ SPACE ∷ []) ++ grant) ++ SPACE ∷ []) ++ state) (target_words fence.target) (owner ∷ grant ∷ state ∷ []) (target_pieces fence.target) second (target-spells fence.target fits.target)
 
 lost-spells : (text : List ℕ) (pieces : Words) → Spells text pieces → Spells (codes "lost " ++ text) (codes "lost" ∷ pieces)
 lost-spells text pieces rest = Spells-then (codes "lost") text pieces (written (codes "lost") refl) rest
@@ -252,7 +235,9 @@ answer-spells (Answer.Lost fence) fits = lost-spells (fence_words fence) (fence_
 answer-spells (Answer.Seen fence) fits = seen-spells (fence_words fence) (fence_pieces fence) (fence-spells fence fits)
 answer-spells (Answer.Number number) fits = Spells-word (decimal number) (one_number number fits)
 answer-spells Answer.Empty fits = Spells-word (codes "empty") (written (codes "empty") refl)
-answer-spells (Answer.Entry number value) fits = (two (codes "entry") number value refl refl (omega (arith, fits.0)) (omega (arith, fits.1))).spells
+answer-spells (Answer.Entry number value) fits =
+    let first = Spells-then (codes "entry") (decimal number) (decimal number ∷ []) (written (codes "entry") refl) (Spells-word (decimal number) (one_number number (omega (arith, fits.0)))) in
+    Spells-join (codes "entry " ++ decimal number) (decimal value) (codes "entry" ∷ decimal number ∷ []) (decimal value ∷ []) first (Spells-word (decimal value) (one_number value (omega (arith, fits.1))))
 answer-spells Answer.Past fits = Spells-word (codes "past") (written (codes "past") refl)
 
 -- a number is none of the answers that are names
@@ -304,14 +289,14 @@ equals-between first second front back a b =
 pub event_line-spells : (event : Event) → FitsEvent event → Spells (event_line event) (event_pieces event)
 event_line-spells event fits =
     let by = decimal event.by in
-    let made = Spells-join by (verb_words event.verb) (by ∷ []) (verb_pieces event.verb) (Spells-word by (one_number event.by (omega (arith, fits.by)))) (verb-pieces event.verb fits.verb).spells in
+    let made = Spells-join by (verb_words event.verb) (by ∷ []) (verb_pieces event.verb) (Spells-word by (one_number event.by (omega (arith, fits.by)))) (verb-spells event.verb fits.verb) in
     equals-between ((by ++ SPACE ∷ []) ++ verb_words event.verb) (answer_words event.answer) (by ∷ verb_pieces event.verb) (answer_pieces event.answer) made (answer-spells event.answer fits.answer)
 
 -- the words of an event's line are read back as the event
 pub event-back : (replicas : ℕ) (event : Event) → IsSpelled replicas event → event_of replicas (words (event_line event)) ≡ Some event
 event-back replicas event is =
     let front : NoEquals (decimal event.by ∷ verb_pieces event.verb) =
-    All-cons (λ word. bytes_eq word (codes "=") ≡ false) (decimal event.by) (verb_pieces event.verb) (decimal-is_not event.by (codes "=") (omega (arith, is.fits.by)) refl) (verb-pieces event.verb is.fits.verb).no_equals in
+    All-cons (λ word. bytes_eq word (codes "=") ≡ false) (decimal event.by) (verb_pieces event.verb) (decimal-is_not event.by (codes "=") (omega (arith, is.fits.by)) refl) (no_equals (verb_pieces event.verb) (verb-pieces event.verb is.fits.verb)) in
     ap (event_of replicas) (event_line-spells event is.fits).alone
     ∙ ap (event_between replicas) (sides-front (decimal event.by ∷ verb_pieces event.verb) (answer_pieces event.answer) front)
     ∙ three-back (λ by made answer. let event : Event = record { by = by; verb = made; answer = answer } in event)

@@ -1,8 +1,11 @@
 -- event line: the event that a line `BY VERB = ANSWER` spells.
 use Rattle.std.specs.Prelude.{ℕ, Bool, false, true, List, [], ◌∷◌, codes, None, Some, if◌then◌else◌}
 use Rattle.std.specs.declared.option.Option.{Option}
-use Rattle.std.specs.Option.{option_map}
+use Rattle.std.specs.Option.{option_and_then, option_map}
 use Rattle.std.specs.Str.{bytes_eq}
+use Rattle.mu_events.specs.Table.{Parts, Row, limit_of, put_in, row_named}
+use Rattle.mu_events.specs.declared.table.Field.{Field}
+use Rattle.mu_model.specs.Packing.{fields, target_kind, target_place, verb_in}
 use Rattle.mu_model.specs.declared.event.Answer.{Answer}
 use Rattle.mu_model.specs.declared.event.Event.{Event}
 use Rattle.mu_model.specs.declared.event.Fence.{Fence}
@@ -36,61 +39,37 @@ target_of (word ∷ place ∷ []) =
     if bytes_eq word (codes "place") then option_map target.Place (of_16 place) else None
 target_of _ = None
 
--- a verb of one word
-abbrev pub verb_alone : List ℕ → Option Verb
-verb_alone name =
-    if bytes_eq name (codes "beat") then Some Verb.Beat
-    else if bytes_eq name (codes "close") then Some Verb.Close
-    else if bytes_eq name (codes "looktarget") then Some Verb.LookTarget
-    else if bytes_eq name (codes "drain") then Some Verb.Drain
-    else None
+-- the parts of a verb with a field read from a word
+abbrev pub with_word : Field → List ℕ → Parts → Option Parts
+with_word field word parts =
+    option_map (put_in field parts) (below (limit_of field) (wide_number_of word))
 
--- a verb with one number
-abbrev pub verb_of_one : List ℕ → List ℕ → Option Verb
-verb_of_one name a =
-    if bytes_eq name (codes "ask") then option_map Verb.Ask (of_8 a)
-    else if bytes_eq name (codes "fence") then option_map Verb.Fence (of_8 a)
-    else if bytes_eq name (codes "min") then option_map Verb.Min (of_8 a)
-    else if bytes_eq name (codes "fuo") then option_map Verb.Fuo (of_8 a)
-    else if bytes_eq name (codes "head") then option_map Verb.Head (of_8 a)
-    else if bytes_eq name (codes "readbeat") then option_map Verb.ReadBeat (of_8 a)
-    else if bytes_eq name (codes "raisehead") then option_map Verb.RaiseHead (of_16 a)
-    else if bytes_eq name (codes "readask") then option_map Verb.ReadAsk (of_8 a)
-    else if bytes_eq name (codes "grant") then option_map Verb.Grant (of_8 a)
-    else None
+-- the parts with a target
+abbrev pub with_target : Parts → Target → Parts
+with_target (f, own) target =
+    (fields f.number f.small (target_place target) (target_kind target), own)
 
--- a verb with two numbers, or that enters the minimum
-abbrev pub verb_of_two : List ℕ → List ℕ → List ℕ → Option Verb
-verb_of_two name a b =
-    if bytes_eq name (codes "enter") then of_two Verb.Enter (of_8 a) (target_of (b ∷ []))
-    else if bytes_eq name (codes "putmin") then of_two Verb.PutMin (of_8 a) (of_32 b)
-    else if bytes_eq name (codes "look") then of_two Verb.Look (of_8 a) (of_16 b)
-    else if bytes_eq name (codes "raisefuo") then of_two Verb.RaiseFuo (of_8 a) (of_16 b)
-    else if bytes_eq name (codes "readrow") then of_two Verb.ReadRow (of_16 a) (of_8 b)
-    else None
+-- the parts with these fields read from these words, if they are as many
+abbrev pub read_fields : List Field → List (List ℕ) → Parts → Option Parts
+read_fields [] [] parts = Some parts
+read_fields [] (word ∷ words) parts = None
+read_fields (Field.Target ∷ order) words parts =
+    option_map (with_target parts) (target_of words)
+read_fields (field ∷ order) [] parts = None
+read_fields (field ∷ order) (word ∷ words) parts =
+    option_and_then (read_fields order words) (with_word field word parts)
 
--- a verb with three numbers, or that enters a place
-abbrev pub verb_of_three : List ℕ → List ℕ → List ℕ → List ℕ → Option Verb
-verb_of_three name a b c =
-    if bytes_eq name (codes "enter") then of_two Verb.Enter (of_8 a) (target_of (b ∷ c ∷ []))
-    else if bytes_eq name (codes "writerow")
-    then of_three Verb.WriteRow (of_16 a) (of_8 b) (of_64 c)
-    else None
-
--- a verb with four numbers
-abbrev pub verb_of_four : List ℕ → List ℕ → List ℕ → List ℕ → List ℕ → Option Verb
-verb_of_four name a b c d =
-    if bytes_eq name (codes "putslot")
-    then of_four Verb.PutSlot (of_8 a) (of_16 b) (of_32 c) (of_16 d) else None
+-- the verb of this row that these words behind its name spell
+abbrev pub verb_as : Option Row → List (List ℕ) → Option Verb
+verb_as None words = None
+verb_as (Some row) words =
+    option_map (λ parts. verb_in parts.0 parts.1)
+    (read_fields row.order words (fields row.number 0 0 0, 0))
 
 -- the verb that these words spell, if they spell one
 abbrev pub verb_of : List (List ℕ) → Option Verb
-verb_of (name ∷ []) = verb_alone name
-verb_of (name ∷ a ∷ []) = verb_of_one name a
-verb_of (name ∷ a ∷ b ∷ []) = verb_of_two name a b
-verb_of (name ∷ a ∷ b ∷ c ∷ []) = verb_of_three name a b c
-verb_of (name ∷ a ∷ b ∷ c ∷ d ∷ []) = verb_of_four name a b c d
-verb_of _ = None
+verb_of [] = None
+verb_of (name ∷ words) = verb_as (row_named name) words
 
 -- the replica that a fence lets write: a number, or `none`
 abbrev pub owner_of : List ℕ → Option (Option ℕ)

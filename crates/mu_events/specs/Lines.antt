@@ -1,7 +1,10 @@
 -- lines (of events): how an event is spelled as a line, and which events a line spells.
-use Rattle.std.specs.Prelude.{ℕ, ◌<◌, Bool, false, true, List, ◌++◌, None, Some, codes, ⊤}
+use Rattle.std.specs.Prelude.{ℕ, ◌<◌, Bool, false, true, List, [], ◌∷◌, ◌++◌, None, Some, codes, ⊤}
 use Rattle.std.specs.declared.option.Option.{Option}
 use Rattle.std.specs.Fmt.{decimal}
+use Rattle.mu_events.specs.Table.{Parts, number_in, parts_of, row_of}
+use Rattle.mu_events.specs.declared.table.Field.{Field}
+use Rattle.mu_model.specs.Packing.{target_in}
 use Rattle.mu_model.specs.declared.event.Answer.{Answer}
 use Rattle.mu_model.specs.declared.event.Event.{Event}
 use Rattle.mu_model.specs.declared.event.Fence.{Fence}
@@ -46,32 +49,27 @@ answer_words (Answer.Entry number value) =
     codes "entry " ++ decimal number ++ codes " " ++ decimal value
 answer_words Answer.Past = codes "past"
 
--- the words of a step
+-- a target as words
+abbrev pub target_pieces : Target → List (List ℕ)
+target_pieces target.None = codes "none" ∷ []
+target_pieces target.Min = codes "min" ∷ []
+target_pieces (target.Place place) = codes "place" ∷ decimal place ∷ []
+
+-- the words of these fields
+abbrev pub pieces_in : List Field → Parts → List (List ℕ)
+pieces_in [] parts = []
+pieces_in (Field.Target ∷ order) parts = target_pieces (target_in parts.0.second parts.0.first)
+pieces_in (field ∷ order) parts = decimal (number_in field parts) ∷ pieces_in order parts
+
+-- each of these words after a space
+abbrev pub after_spaces : List (List ℕ) → List ℕ
+after_spaces [] = []
+after_spaces (word ∷ words) = codes " " ++ word ++ after_spaces words
+
+-- the words of a step: the name of the verb, and its fields
 abbrev pub verb_words : Verb → List ℕ
-verb_words (verb.Ask p) = codes "ask " ++ decimal p
-verb_words (verb.Fence p) = codes "fence " ++ decimal p
-verb_words (verb.Min p) = codes "min " ++ decimal p
-verb_words (verb.Enter p target) = codes "enter " ++ decimal p ++ codes " " ++ target_words target
-verb_words (verb.PutMin p number) = codes "putmin " ++ decimal p ++ codes " " ++ decimal number
-verb_words (verb.Look p i) = codes "look " ++ decimal p ++ codes " " ++ decimal i
-verb_words (verb.PutSlot p i number value) =
-    codes "putslot " ++ decimal p ++ codes " " ++ decimal i ++ codes " " ++ decimal number
-    ++ codes " " ++ decimal value
-verb_words (verb.Fuo p) = codes "fuo " ++ decimal p
-verb_words (verb.RaiseFuo p fuo) = codes "raisefuo " ++ decimal p ++ codes " " ++ decimal fuo
-verb_words (verb.Head q) = codes "head " ++ decimal q
-verb_words (verb.ReadBeat q) = codes "readbeat " ++ decimal q
-verb_words (verb.WriteRow row word value) =
-    codes "writerow " ++ decimal row ++ codes " " ++ decimal word ++ codes " " ++ decimal value
-verb_words (verb.ReadRow value word) =
-    codes "readrow " ++ decimal value ++ codes " " ++ decimal word
-verb_words (verb.RaiseHead head) = codes "raisehead " ++ decimal head
-verb_words verb.Beat = codes "beat"
-verb_words (verb.ReadAsk w) = codes "readask " ++ decimal w
-verb_words verb.Close = codes "close"
-verb_words verb.LookTarget = codes "looktarget"
-verb_words verb.Drain = codes "drain"
-verb_words (verb.Grant w) = codes "grant " ++ decimal w
+verb_words verb =
+    (row_of verb).name ++ after_spaces (pieces_in (row_of verb).order (parts_of verb))
 
 -- the line of an event: the replica, its step and the answer
 abbrev pub event_line : Event → List ℕ

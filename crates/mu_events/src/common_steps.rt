@@ -1,14 +1,11 @@
 //! The steps of the verbs that most lines have, each read by a path of its own: the first eight
 //! bytes of a text tell which.
 ghost use Rattle.std.specs.Prelude.{◌≡◌, ◌≢◌, ℕ, List, [], ◌∷◌, ◌++◌, IfSome, MatchOption, Some, codes, false};
-ghost use Rattle.std.specs.Option.{option_map};
 ghost use Rattle.std.specs.Str.{bytes_eq};
-ghost use Rattle.mu_model.specs.declared.event.Verb.{Verb as SomeVerb};
-ghost use Rattle.mu_events.specs.Events.{of_three, of_two, sides};
+ghost use Rattle.mu_events.specs.Events.{sides, verb_of};
 ghost use Rattle.mu_events.specs.Steps.{step_after};
 ghost use Rattle.mu_text.specs.declared.TheConstants.{SPACE};
 ghost use Rattle.mu_text.specs.Lines.{words};
-ghost use Rattle.mu_text.specs.Numbers.{of_8, of_16, of_64};
 
 use crate::events::{found, is_equals, split_first, step_named};
 use mu_model::{Answer, Verb};
@@ -175,7 +172,7 @@ pub(crate) fn read_row_step(text: &[u8]) -> Option<(Verb, Answer)>
 /// A `readrow` of these words.
 #[inline(always)]
 fn read_row_verb(v: &[u8], k: &[u8]) -> Option<Verb>
-    ensures { result ≡ of_two SomeVerb.ReadRow (of_16 v.now) (of_8 k.now) }
+    ensures { result ≡ verb_of (codes "readrow" ∷ v.now ∷ k.now ∷ []) }
 {
     Some(Verb::ReadRow(of_16(v)?, of_8(k)?))
 }
@@ -194,7 +191,7 @@ pub(crate) fn read_ask_step(text: &[u8]) -> Option<(Verb, Answer)>
 /// A `readask` of this word.
 #[inline(always)]
 fn read_ask_verb(w: &[u8]) -> Option<Verb>
-    ensures { result ≡ option_map SomeVerb.ReadAsk (of_8 w.now) }
+    ensures { result ≡ verb_of (codes "readask" ∷ w.now ∷ []) }
 {
     Some(Verb::ReadAsk(of_8(w)?))
 }
@@ -213,7 +210,7 @@ pub(crate) fn read_beat_step(text: &[u8]) -> Option<(Verb, Answer)>
 /// A `readbeat` of this word.
 #[inline(always)]
 fn read_beat_verb(q: &[u8]) -> Option<Verb>
-    ensures { result ≡ option_map SomeVerb.ReadBeat (of_8 q.now) }
+    ensures { result ≡ verb_of (codes "readbeat" ∷ q.now ∷ []) }
 {
     Some(Verb::ReadBeat(of_8(q)?))
 }
@@ -232,7 +229,7 @@ pub(crate) fn write_row_step(text: &[u8]) -> Option<(Verb, Answer)>
 /// A `writerow` of these words.
 #[inline(always)]
 fn write_row_verb(j: &[u8], k: &[u8], x: &[u8]) -> Option<Verb>
-    ensures { result ≡ of_three SomeVerb.WriteRow (of_16 j.now) (of_8 k.now) (of_64 x.now) }
+    ensures { result ≡ verb_of (codes "writerow" ∷ j.now ∷ k.now ∷ x.now ∷ []) }
 {
     Some(Verb::WriteRow(of_16(j)?, of_8(k)?, of_64(x)?))
 }
@@ -251,7 +248,7 @@ pub(crate) fn look_step(text: &[u8]) -> Option<(Verb, Answer)>
 /// A `look` of these words.
 #[inline(always)]
 fn look_verb(p: &[u8], i: &[u8]) -> Option<Verb>
-    ensures { result ≡ of_two SomeVerb.Look (of_8 p.now) (of_16 i.now) }
+    ensures { result ≡ verb_of (codes "look" ∷ p.now ∷ i.now ∷ []) }
 {
     Some(Verb::Look(of_8(p)?, of_16(i)?))
 }

@@ -1,16 +1,18 @@
 //! A step and an event as words of a line, which are read back.
-ghost use Rattle.std.specs.Prelude.{◌≡◌, ◌+◌, ◌<◌, ◌≤◌, ◌++◌, ℕ, length, codes, Some};
+ghost use Rattle.std.specs.Prelude.{◌≡◌, ◌+◌, ◌<◌, ◌≤◌, ◌*◌, ◌++◌, ℕ, length, codes, Some};
 ghost use Rattle.std.specs.Fmt.{decimal};
 ghost use Rattle.mu_text.specs.declared.line_text.TheConstants.{LINE_BYTES};
 ghost use Rattle.mu_events.specs.Events.{event_of};
-ghost use Rattle.mu_events.specs.Lines.{answer_words, verb_words, event_line as event_line_of};
-ghost use Rattle.mu_events.specs.Lines.{IsSpelled};
+ghost use Rattle.mu_events.specs.Lines.{after_spaces, answer_words, pieces_in, verb_words};
+ghost use Rattle.mu_events.specs.Lines.{IsSpelled, event_line as event_line_of};
+ghost use Rattle.mu_events.specs.Table.{most_words, number_in};
 ghost use Rattle.mu_model.specs.Ranges.{FitsAnswer, FitsEvent, FitsVerb};
 ghost use Rattle.mu_model.specs.declared.event.Event.{Event as Made};
 ghost use Rattle.mu_text.specs.Lines.{words};
 
 use crate::answers::{push_answer, push_target};
-use mu_model::{Answer, Event, Verb};
+use crate::table::{Field, row_numbered};
+use mu_model::{Answer, Event, Verb, VerbFields, fields_of, own_word, target_in};
 use mu_text::{Line, SPACE};
 
 /// The line of an event: its replica, its step and the answer.
@@ -73,7 +75,8 @@ pub fn events_are_read_back()
         → event_of replicas (words (event_line_of event)) ≡ Some event }
 {}
 
-/// Adds a step: at most 91 bytes.
+/// Adds a step: at most 91 bytes. Nine of ten that are no beats have one of five verbs, which are
+/// added without a look into the table.
 fn push_verb(line: &mut Line, verb: &Verb)
     requires { length line.old + 91 ≤ LINE_BYTES }
     ensures bytes { line.new ≡ line.old ++ verb_words verb.now }
@@ -81,41 +84,66 @@ fn push_verb(line: &mut Line, verb: &Verb)
     ensures room { length line.new ≤ length line.old + 91 }
 {
     match verb {
-        Verb::Ask(p) => push_one(line, b"ask ", u64::from(*p)),
-        Verb::Fence(p) => push_one(line, b"fence ", u64::from(*p)),
-        Verb::Min(p) => push_one(line, b"min ", u64::from(*p)),
-        Verb::Enter(p, target) => {
-            push_one(line, b"enter ", u64::from(*p));
-            line.push_byte(SPACE);
-            push_target(line, *target);
-        }
-        Verb::PutMin(p, number) => push_two(line, b"putmin ", u64::from(*p), u64::from(*number)),
-        Verb::Look(p, i) => push_two(line, b"look ", u64::from(*p), u64::from(*i)),
-        Verb::PutSlot(p, i, number, value) => {
-            push_two(line, b"putslot ", u64::from(*p), u64::from(*i));
-            push_two(line, b" ", u64::from(*number), u64::from(*value));
-        }
-        Verb::Fuo(p) => push_one(line, b"fuo ", u64::from(*p)),
-        Verb::RaiseFuo(p, fuo) => push_two(line, b"raisefuo ", u64::from(*p), u64::from(*fuo)),
-        Verb::Head(q) => push_one(line, b"head ", u64::from(*q)),
-        Verb::ReadBeat(q) => push_one(line, b"readbeat ", u64::from(*q)),
-        Verb::WriteRow(row, word, value) => {
-            push_two(line, b"writerow ", u64::from(*row), u64::from(*word));
-            push_one(line, b" ", *value);
-        }
         Verb::ReadRow(value, word) => push_two(
             line,
             b"readrow ",
             u64::from(*value),
             u64::from(*word),
         ),
-        Verb::RaiseHead(head) => push_one(line, b"raisehead ", u64::from(*head)),
-        Verb::Beat => line.push(b"beat"),
         Verb::ReadAsk(w) => push_one(line, b"readask ", u64::from(*w)),
-        Verb::Close => line.push(b"close"),
-        Verb::LookTarget => line.push(b"looktarget"),
-        Verb::Drain => line.push(b"drain"),
-        Verb::Grant(w) => push_one(line, b"grant ", u64::from(*w)),
+        Verb::ReadBeat(q) => push_one(line, b"readbeat ", u64::from(*q)),
+        Verb::WriteRow(row, word, value) => {
+            push_two(line, b"writerow ", u64::from(*row), u64::from(*word));
+            push_one(line, b" ", *value);
+        }
+        Verb::Look(p, i) => push_two(line, b"look ", u64::from(*p), u64::from(*i)),
+        _ => push_any_verb(line, *verb),
+    }
+}
+
+/// The same of any verb.
+fn push_any_verb(line: &mut Line, verb: Verb)
+    requires { length line.old + 91 ≤ LINE_BYTES }
+    ensures bytes { line.new ≡ line.old ++ verb_words verb }
+    ensures fits { FitsVerb verb }
+    ensures room { length line.new ≤ length line.old + 91 }
+{
+    let fields = fields_of(verb);
+    let own = own_word(verb).unwrap_or(0);
+    if let Some((_, name, order, _)) = row_numbered(fields.number) {
+        line.push(name);
+        push_fields(line, order, (fields, own));
+    }
+}
+
+/// Adds these fields of a verb, each after a space.
+fn push_fields(line: &mut Line, order: &[Field], parts: (VerbFields, u64))
+    requires { length line.old + 21 * most_words order.now ≤ LINE_BYTES }
+    ensures bytes { line.new ≡ line.old ++ after_spaces (pieces_in order.now parts) }
+    ensures room { length line.new ≤ length line.old + 21 * most_words order.now }
+{
+    match order {
+        [] => {}
+        [Field::Target, ..] => {
+            line.push_byte(SPACE);
+            push_target(line, target_in(parts.0.second, parts.0.first));
+        }
+        [field, order @ ..] => {
+            push_one(line, b" ", number_in(*field, parts));
+            push_fields(line, order, parts);
+        }
+    }
+}
+
+/// The number of a field.
+fn number_in(field: Field, parts: (VerbFields, u64)) -> u64
+    ensures { result ≡ number_in field parts }
+{
+    match field {
+        Field::Small => u64::from(parts.0.small),
+        Field::First => u64::from(parts.0.first),
+        Field::Second => u64::from(parts.0.second),
+        Field::Wide | Field::Word | Field::Target => parts.1,
     }
 }
 

@@ -2,8 +2,7 @@
 ghost use Rattle.std.specs.Prelude.{◌<◌, ◌≡◌, [], ◌∷◌, IfSome, IsTrue, MatchOption, Some, codes, get_or, map, true};
 ghost use Rattle.std.specs.Str.{bytes_eq};
 ghost use Rattle.mu_events.specs.Events.{event_of, sides};
-ghost use Rattle.mu_events.specs.Events.{target_of, verb_alone, verb_of_one, verb_of_two};
-ghost use Rattle.mu_events.specs.Events.{verb_of_three, verb_of_four};
+ghost use Rattle.mu_events.specs.Events.{read_fields, target_of, verb_of, with_target, with_word};
 ghost use Rattle.mu_events.specs.Events.{answer_alone, answer_of, answer_of_many, entry_of};
 ghost use Rattle.mu_events.specs.Events.{fence_of, named_of, owner_of, state_of};
 ghost use Rattle.mu_events.specs.Steps.{both, step_after};
@@ -14,7 +13,10 @@ use crate::common_steps::{
     after_look, after_readask, after_readbeat, after_readrow, after_writerow, is_beat, look_step,
     read_ask_step, read_beat_step, read_row_step, write_row_step,
 };
-use mu_model::{Answer, Event, Fence, Target, Verb};
+use crate::table::{Field, row_named};
+use mu_model::{
+    Answer, Event, Fence, Target, Verb, VerbFields, target_kind, target_place, verb_in,
+};
 use mu_text::{
     MANY_WORDS, NINE, SPACE, ZERO, is_word, of_8, of_16, of_32, of_64, split_word, split_words,
     two_words,
@@ -133,162 +135,86 @@ pub(crate) fn found(verb: Option<Verb>, text: &[u8]) -> Option<(Verb, Answer)>
     Some((verb?, answer_of(text)?))
 }
 
-/// The step of a verb with this name, from what follows the name. It isn't inlined, so that a beat
-/// is read without what other lines want.
+/// The step of a verb with this name, from what follows the name: at most four words, a `=` and the
+/// answer. It isn't inlined, so that a beat is read without what other lines want.
 #[inline(never)]
 pub(crate) fn step_named(name: &[u8], text: &[u8]) -> Option<(Verb, Answer)>
     ensures { result ≡ step_after (name.now ∷ []) (sides (words text.now)) }
 {
-    let (word, rest) = split_word(text);
-    let rest = rest?;
-    if is_equals(word) {
-        found(verb_alone(name), rest)
-    } else {
-        step_of_one(name, word, rest)
+    let mut items = [text; 4];
+    let mut count = 0;
+    let mut rest = text;
+    loop {
+        let (word, behind) = split_word(rest);
+        let behind = behind?;
+        if is_equals(word) {
+            return found(verb_of(name, &items[..count]), behind);
+        }
+        if count == 4 {
+            return None;
+        }
+        items[count] = word;
+        count += 1;
+        rest = behind;
     }
 }
 
-/// The step of a verb with this name and first word, from what follows them.
-fn step_of_one(name: &[u8], a: &[u8], text: &[u8]) -> Option<(Verb, Answer)>
-    ensures { result ≡ step_after (name.now ∷ a.now ∷ []) (sides (words text.now)) }
+/// The verb of this name and these words behind it.
+fn verb_of(name: &[u8], words: &[&[u8]]) -> Option<Verb>
+    ensures { result ≡ verb_of (name.now ∷ map (λ word. word.now) words.now) }
 {
-    let (word, rest) = split_word(text);
-    let rest = rest?;
-    if is_equals(word) {
-        found(verb_of_one(name, a), rest)
-    } else {
-        step_of_two(name, a, word, rest)
+    let (number, _, order, _) = row_named(name)?;
+    let none = VerbFields {
+        number,
+        small: 0,
+        first: 0,
+        second: 0,
+    };
+    let (fields, own) = read_fields(order, words, (none, 0))?;
+    Some(verb_in(fields, own))
+}
+
+/// The parts of a verb with these fields read from these words, if they are as many.
+fn read_fields(
+    order: &[Field],
+    words: &[&[u8]],
+    parts: (VerbFields, u64),
+) -> Option<(VerbFields, u64)>
+    ensures { result ≡ read_fields order.now (map (λ word. word.now) words.now) parts }
+{
+    match (order, words) {
+        ([], []) => Some(parts),
+        ([Field::Target, ..], _) => Some(with_target(parts, target_of(words)?)),
+        ([field, order @ ..], [word, words @ ..]) => {
+            read_fields(order, words, with_word(*field, word, parts)?)
+        }
+        _ => None,
     }
 }
 
-/// The step of a verb with this name and first two words, from what follows them.
-fn step_of_two(name: &[u8], a: &[u8], b: &[u8], text: &[u8]) -> Option<(Verb, Answer)>
-    ensures { result ≡ step_after (name.now ∷ a.now ∷ b.now ∷ []) (sides (words text.now)) }
+/// The parts with a target.
+fn with_target(parts: (VerbFields, u64), target: Target) -> (VerbFields, u64)
+    ensures { result ≡ with_target parts target }
 {
-    let (word, rest) = split_word(text);
-    let rest = rest?;
-    if is_equals(word) {
-        found(verb_of_two(name, a, b), rest)
-    } else {
-        step_of_three(name, a, b, word, rest)
-    }
+    let (mut fields, own) = parts;
+    fields.first = target_place(target);
+    fields.second = target_kind(target);
+    (fields, own)
 }
 
-/// The step of a verb with this name and first three words, from what follows them.
-fn step_of_three(name: &[u8], a: &[u8], b: &[u8], c: &[u8], text: &[u8]) -> Option<(Verb, Answer)>
-    ensures { result
-        ≡ step_after (name.now ∷ a.now ∷ b.now ∷ c.now ∷ []) (sides (words text.now)) }
+/// The parts with one field read from a word.
+fn with_word(field: Field, word: &[u8], parts: (VerbFields, u64)) -> Option<(VerbFields, u64)>
+    ensures { result ≡ with_word field word.now parts }
 {
-    let (word, rest) = split_word(text);
-    let rest = rest?;
-    if is_equals(word) {
-        found(verb_of_three(name, a, b, c), rest)
-    } else {
-        step_of_four(name, a, b, c, word, rest)
+    let (mut fields, mut own) = parts;
+    match field {
+        Field::Small => fields.small = of_8(word)?,
+        Field::First => fields.first = of_16(word)?,
+        Field::Second => fields.second = of_16(word)?,
+        Field::Wide => own = u64::from(of_32(word)?),
+        Field::Word | Field::Target => own = of_64(word)?,
     }
-}
-
-/// The step of a verb with this name and four words, from what follows them.
-fn step_of_four(
-    name: &[u8],
-    a: &[u8],
-    b: &[u8],
-    c: &[u8],
-    d: &[u8],
-    text: &[u8],
-) -> Option<(Verb, Answer)>
-    ensures { result
-        ≡ step_after (name.now ∷ a.now ∷ b.now ∷ c.now ∷ d.now ∷ []) (sides (words text.now)) }
-{
-    let (word, rest) = split_word(text);
-    let rest = rest?;
-    if is_equals(word) {
-        found(verb_of_four(name, a, b, c, d), rest)
-    } else {
-        None
-    }
-}
-
-fn verb_alone(name: &[u8]) -> Option<Verb>
-    ensures { result ≡ verb_alone name.now }
-{
-    if is_word(name, b"beat") {
-        Some(Verb::Beat)
-    } else if is_word(name, b"close") {
-        Some(Verb::Close)
-    } else if is_word(name, b"looktarget") {
-        Some(Verb::LookTarget)
-    } else if is_word(name, b"drain") {
-        Some(Verb::Drain)
-    } else {
-        None
-    }
-}
-
-fn verb_of_one(name: &[u8], a: &[u8]) -> Option<Verb>
-    ensures { result ≡ verb_of_one name.now a.now }
-{
-    if is_word(name, b"ask") {
-        Some(Verb::Ask(of_8(a)?))
-    } else if is_word(name, b"fence") {
-        Some(Verb::Fence(of_8(a)?))
-    } else if is_word(name, b"min") {
-        Some(Verb::Min(of_8(a)?))
-    } else if is_word(name, b"fuo") {
-        Some(Verb::Fuo(of_8(a)?))
-    } else if is_word(name, b"head") {
-        Some(Verb::Head(of_8(a)?))
-    } else if is_word(name, b"readbeat") {
-        Some(Verb::ReadBeat(of_8(a)?))
-    } else if is_word(name, b"raisehead") {
-        Some(Verb::RaiseHead(of_16(a)?))
-    } else if is_word(name, b"readask") {
-        Some(Verb::ReadAsk(of_8(a)?))
-    } else if is_word(name, b"grant") {
-        Some(Verb::Grant(of_8(a)?))
-    } else {
-        None
-    }
-}
-
-fn verb_of_two(name: &[u8], a: &[u8], b: &[u8]) -> Option<Verb>
-    ensures { result ≡ verb_of_two name.now a.now b.now }
-{
-    if is_word(name, b"enter") {
-        Some(Verb::Enter(of_8(a)?, target_of(&[b])?))
-    } else if is_word(name, b"putmin") {
-        Some(Verb::PutMin(of_8(a)?, of_32(b)?))
-    } else if is_word(name, b"look") {
-        Some(Verb::Look(of_8(a)?, of_16(b)?))
-    } else if is_word(name, b"raisefuo") {
-        Some(Verb::RaiseFuo(of_8(a)?, of_16(b)?))
-    } else if is_word(name, b"readrow") {
-        Some(Verb::ReadRow(of_16(a)?, of_8(b)?))
-    } else {
-        None
-    }
-}
-
-fn verb_of_three(name: &[u8], a: &[u8], b: &[u8], c: &[u8]) -> Option<Verb>
-    ensures { result ≡ verb_of_three name.now a.now b.now c.now }
-{
-    if is_word(name, b"enter") {
-        Some(Verb::Enter(of_8(a)?, target_of(&[b, c])?))
-    } else if is_word(name, b"writerow") {
-        Some(Verb::WriteRow(of_16(a)?, of_8(b)?, of_64(c)?))
-    } else {
-        None
-    }
-}
-
-fn verb_of_four(name: &[u8], a: &[u8], b: &[u8], c: &[u8], d: &[u8]) -> Option<Verb>
-    ensures { result ≡ verb_of_four name.now a.now b.now c.now d.now }
-{
-    if is_word(name, b"putslot") {
-        Some(Verb::PutSlot(of_8(a)?, of_16(b)?, of_32(c)?, of_16(d)?))
-    } else {
-        None
-    }
+    Some((fields, own))
 }
 
 /// What these words say that a writer is about to write, if they say so.

@@ -21,7 +21,8 @@ use Rattle.mu_text.proofs.Decimals.{number_of-decimal}
 use Rattle.mu_text.proofs.SpelledWords.{IsOneWord, Spells, Spells-then, Spells-word, written}
 use Rattle.mu_input.specs.Bodies.{body_line, client_line, operation_line}
 use Rattle.mu_input.specs.Fields.{is_key, is_text, is_visible, is_word}
-use Rattle.mu_input.specs.JobLines.{after_spaces, op_words}
+use Rattle.mu_events.specs.Lines.{after_spaces}
+use Rattle.mu_input.specs.JobLines.{op_words}
 use Rattle.mu_input.specs.Operations.{are_texts, arguments_as, is_short_text, judged, made, names_operation, of_kind, operation_of}
 use Rattle.mu_input.specs.Readings.{Line, Says, Wrong}
 use Rattle.mu_input.specs.declared.TheConstants.{MOST_CLIENTS, MOST_COMMANDS}

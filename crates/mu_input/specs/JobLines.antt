@@ -4,18 +4,13 @@ use Rattle.std.specs.Fmt.{decimal}
 use Rattle.kv_store.specs.Commands.{Request}
 use Rattle.kv_store.specs.Kinds.{name_of_kind, parts_of, texts_of}
 use Rattle.kv_store.specs.declared.command.Op.{Op}
-use Rattle.mu_events.specs.Lines.{event_line}
+use Rattle.mu_events.specs.Lines.{after_spaces, event_line}
 use Rattle.mu_model.specs.declared.config.Config.{Config}
 use Rattle.mu_model.specs.declared.event.Event.{Event}
 use Rattle.mu_model.specs.declared.script.Pause.{Pause}
 use Rattle.mu_model.specs.declared.script.Script.{Script}
 use Rattle.mu_model.specs.declared.script.Stop.{Stop}
 use Rattle.mu_input.specs.declared.job.Job.{Job}
-
--- each of these words after a space
-abbrev pub after_spaces : List (List ℕ) → List ℕ
-after_spaces [] = []
-after_spaces (word ∷ words) = codes " " ++ word ++ after_spaces words
 
 -- the words of an operation: its name, its key and its texts
 abbrev pub op_words : Op → List ℕ

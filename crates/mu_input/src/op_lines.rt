@@ -1,7 +1,8 @@
 //! An operation as the line of a job that asks for it.
 ghost use Rattle.std.specs.Prelude.{◌≡◌, ◌+◌, ◌<◌, ◌≤◌, ◌++◌, codes, length};
 ghost use Rattle.kv_store.specs.Kinds.{texts_of};
-ghost use Rattle.mu_input.specs.JobLines.{after_spaces, op_words};
+ghost use Rattle.mu_events.specs.Lines.{after_spaces};
+ghost use Rattle.mu_input.specs.JobLines.{op_words};
 ghost use Rattle.mu_text.specs.declared.line_text.TheConstants.{LINE_BYTES};
 
 use kv_store::{Arguments, Op};

@@ -1,7 +1,10 @@
 -- The lines and words that are left, from one to the next.
-use Rattle.std.proofs.Common.{◌≡◌, ℕ, suc, ◌+◌, ◌==◌, List, [], ◌∷◌, Bor, None, Some, refl, sym, ap, ◌∙◌, length, map, nat_lt, not, if◌then◌else◌}
+use Rattle.std.proofs.Common.{◌≡◌, ◌≤◌, ◌<◌, ◌++◌, ℕ, suc, ◌+◌, ◌==◌, arith, codes, drop, length-append, slice_index_or, List, [], ◌∷◌, Bor, None, Some, refl, sym, ap, ◌∙◌, length, map, nat_lt, not, if◌then◌else◌}
 use Rattle.std.specs.List.{position, position_or_len}
-use Rattle.mu_mistakes.specs.Expected.{clients_in, one_client}
+use Rattle.std.proofs.lemmas.List.{at_drop_more}
+use Rattle.mu_events.specs.Table.{passed}
+use Rattle.mu_events.specs.declared.table.Field.{Field}
+use Rattle.mu_mistakes.specs.Expected.{clients_in, names_words, one_client}
 use Rattle.mu_mistakes.specs.Flaws.{empty_word}
 
 -- the clients of one line more
@@ -22,3 +25,16 @@ empty_word_said words =
     ap (λ k. if nat_lt k (length words) then Some k else None) (sym (same_place words))
     ∙ ap (λ n. if nat_lt (position_or_len (λ (word : List ℕ). length word == 0) (map (λ (word : Bor (List ℕ)). word.now) words)) n
     then Some (position_or_len (λ (word : List ℕ). length word == 0) (map (λ (word : Bor (List ℕ)). word.now) words)) else None) (sym (same_count words))
+
+abbrev pub Passed : Type 0
+Passed = ℕ × Bor (List ℕ) × Bor (List Field) × Bor (List ℕ)
+
+-- a name and what stands before it are no longer than all that will be there
+pub names_left : (before : List ℕ) (given : List Passed) (i : ℕ) (none : Passed) (out old all : List ℕ) → i < length given → out ++ names_words before (map passed (drop i given)) ≡ old ++ all
+    → length out + length before + length (slice_index_or given i none).1.now ≤ length old + length all
+names_left before given i none out old all below same =
+    let name = (slice_index_or given i none).1.now in
+    let rest = names_words (codes ", ") (map passed (drop (i + 1) given)) in
+    let next = at_drop_more (λ left. names_words before (map passed left)) given i none below in
+    let long = ap length (ap (λ text. out ++ text) (sym next) ∙ same) in
+    omega (arith, long, length-append out ((before ++ name) ++ rest), length-append (before ++ name) rest, length-append before name, length-append old all)

@@ -8,11 +8,11 @@ use Rattle.kv_store.specs.Kinds.{name_of_kind, shape_of_kind}
 use Rattle.kv_store.specs.declared.command.OpKind.{OpKind}
 use Rattle.kv_store.specs.declared.command.OpShape.{OpShape}
 use Rattle.kv_store.specs.declared.command.TheConstants.{OP_KINDS}
+use Rattle.mu_events.specs.Table.{Row, row_named, rows}
 use Rattle.mu_input.specs.declared.TheConstants.{MOST_REPLICAS}
 use Rattle.mu_input.specs.declared.cause.TheConstants.{BATCH, CLIENT, EVENT, OPERATION, SCRIPT}
 use Rattle.mu_text.specs.Lines.{is_first, lines, words}
 use Rattle.mu_text.specs.Numbers.{number_of, within}
-use Rattle.mu_mistakes.specs.EventForms.{form_of}
 use Rattle.mu_mistakes.specs.Flaws.{first_words}
 
 -- the line begins with this word
@@ -108,26 +108,29 @@ script_words replicas =
     codes "stop R K, once per R; pause R K M, with K above that of R's last pause; or end. R is "
     ++ below_words replicas ++ codes ", K at most 131071, M from 1 to 10000"
 
--- the names of the verbs
+-- the names of the verbs of these rows with a comma before each but the first, before which this
+-- stands
+abbrev pub names_words : List ℕ → List Row → List ℕ
+names_words before [] = []
+names_words before (row ∷ rows) = before ++ row.name ++ names_words (codes ", ") rows
+
+-- the names of all verbs
 abbrev pub verb_words : List ℕ
-verb_words =
-    codes "BY VERB in small letters: ask, fence, min, enter, putmin, look, putslot, fuo, raisefuo, "
-    ++ codes "head, readbeat, writerow, readrow, raisehead, beat, readask, close, looktarget, "
-    ++ codes "drain, grant"
+verb_words = codes "BY VERB in small letters" ++ names_words (codes ": ") rows
 
 -- an event whose replica is wrong
 abbrev pub replica_words : Option ℕ → List ℕ
 replica_words replicas =
     codes "BY VERB = ANSWER, with BY " ++ below_words replicas ++ codes ", or end"
 
--- how the line of a verb's event reads
-abbrev pub line_of_form : List ℕ → List ℕ
-line_of_form form = codes "BY " ++ form ++ codes "; numbers have no leading zero"
+-- how the line of an event reads whose verb has this row
+abbrev pub line_of_row : Row → List ℕ
+line_of_row row = codes "BY " ++ row.name ++ row.behind ++ codes "; numbers have no leading zero"
 
 -- an event of this verb
-abbrev pub form_words : Option (List ℕ) → List ℕ
-form_words None = verb_words
-form_words (Some form) = line_of_form form
+abbrev pub row_words : Option Row → List ℕ
+row_words None = verb_words
+row_words (Some row) = line_of_row row
 
 -- there is a number, and it is below that of the replicas
 abbrev pub is_replica : Option ℕ → Option ℕ → Bool
@@ -137,7 +140,7 @@ is_replica _ _ = false
 -- an event of these words: its replica is judged first, and then the name of its verb
 abbrev pub event_words : Option ℕ → List (List ℕ) → List ℕ
 event_words replicas (by ∷ name ∷ words) =
-    if is_replica replicas (number_of by) then form_words (form_of name)
+    if is_replica replicas (number_of by) then row_words (row_named name)
     else replica_words replicas
 event_words replicas _ = replica_words replicas
 

@@ -1,6 +1,6 @@
 -- flaw: what the bytes of a line show that no line of an input has (a tab, a carriage return, a
 -- space too many), and the words for it.
-use Rattle.std.specs.Prelude.{ℕ, ◌+◌, ◌==◌, ◌&&◌, Bool, not, if◌then◌else◌, List, [], ◌∷◌, ◌++◌, codes, length, position, slice_index, take, None, Some}
+use Rattle.std.specs.Prelude.{ℕ, ◌+◌, ◌==◌, ◌&&◌, not, if◌then◌else◌, List, [], ◌∷◌, ◌++◌, codes, length, position, slice_index, take, None, Some}
 use Rattle.std.specs.declared.option.Option.{Option}
 use Rattle.std.specs.Fmt.{decimal}
 use Rattle.mu_text.specs.declared.TheConstants.{MANY_WORDS}

@@ -1,5 +1,5 @@
 -- plain, shown: a byte that can be shown; a line in quotes, cut after 64 bytes.
-use Rattle.std.specs.Prelude.{ℕ, Bool, ◌&&◌, if◌then◌else◌, nat_le, nat_lt, List, [], ◌∷◌, ◌++◌, codes, length, map, take}
+use Rattle.std.specs.Prelude.{ℕ, Bool, ◌&&◌, if◌then◌else◌, nat_le, nat_lt, List, [], ◌++◌, codes, length, map, take}
 use Rattle.mu_text.specs.declared.TheConstants.{SPACE}
 use Rattle.mu_mistakes.specs.declared.TheConstants.{SHOWN_BYTES, UNSHOWN, BEYOND_ASCII}
 

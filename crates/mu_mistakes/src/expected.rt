@@ -1,11 +1,12 @@
 //! What is expected in place of a line that leaves the grammar.
-ghost use Rattle.std.specs.Prelude.{◌≡◌, ◌≤◌, ◌<◌, ◌+◌, ◌++◌, length, map, option_map, IfSome};
+ghost use Rattle.std.specs.Prelude.{◌≡◌, ◌≤◌, ◌<◌, ◌+◌, ◌++◌, length, map, option_map, codes, IfSome};
+ghost use Rattle.mu_events.specs.Table.{IsShort, passed};
 ghost use Rattle.mu_input.specs.declared.TheConstants.{TRACE_LIMIT};
-ghost use Rattle.mu_mistakes.specs.Expected.{below_words, cause_words, client_words, command_words, ending_words, event_words, expected_words, form_words, is_line, is_replica, kinds_words, lacks_batch, line_of_form, line_words, missing_words, operations_words, replica_words, script_words, shape_words, verb_words};
+ghost use Rattle.mu_mistakes.specs.Expected.{below_words, cause_words, client_words, command_words, ending_words, event_words, expected_words, is_line, is_replica, kinds_words, lacks_batch, line_words, missing_words, names_words, operations_words, replica_words, row_words, script_words, shape_words, verb_words};
 
-use crate::events::form_of;
 use crate::finding::{begins_with, clients_before, line_at, replicas_in};
 use kv_store::{OP_KINDS, OpShape};
+use mu_events::{VERBS, VerbRow, row_named};
 use mu_input::cause::{BATCH, CLIENT, EVENT, OPERATION, SCRIPT};
 use mu_text::{Line, Words, number};
 
@@ -204,7 +205,7 @@ fn push_event(out: &mut Line, replicas: Option<u32>, words: &[&[u8]])
     ensures room { length out.new ≤ 190 }
 {
     match words {
-        [by, name, ..] if is_replica(replicas, number(by)) => push_form(out, form_of(name)),
+        [by, name, ..] if is_replica(replicas, number(by)) => push_row(out, row_named(name)),
         _ => push_replica(out, replicas),
     }
 }
@@ -230,42 +231,52 @@ fn push_replica(out: &mut Line, replicas: Option<u32>)
     out.push(b", or end");
 }
 
-/// Adds an event of a verb.
-fn push_form(out: &mut Line, form: Option<&'static [u8]>)
+/// Adds an event of the verb with this row, if there is one.
+fn push_row(out: &mut Line, row: Option<VerbRow>)
     requires room { length out.old ≤ 10 }
-    requires short { IfSome form (λ form. length form.now ≤ 120) }
-    ensures bytes { out.new ≡ out.old ++ form_words (option_map (λ form. form.now) form.entry) }
+    requires short { IfSome row (λ row. IsShort (passed row)) }
+    ensures bytes { out.new ≡ out.old ++ row_words (option_map passed row.entry) }
     ensures room { length out.new ≤ 190 }
 {
-    match form {
+    match row {
         None => push_verbs(out),
-        Some(form) => push_line_of(out, form),
+        Some((_, name, _, behind)) => push_line_of(out, name, behind),
     }
 }
 
-/// Adds the names of the verbs.
+/// Adds the names of all verbs.
 fn push_verbs(out: &mut Line)
     requires { length out.old ≤ 10 }
     ensures bytes { out.new ≡ out.old ++ verb_words }
     ensures room { length out.new ≤ 190 }
 {
-    out.push(
-        b"BY VERB in small letters: ask, fence, min, enter, putmin, look, putslot, fuo, raisefuo, ",
-    );
-    out.push(
-        b"head, readbeat, writerow, readrow, raisehead, beat, readask, close, looktarget, drain, ",
-    );
-    out.push(b"grant");
+    out.push(b"BY VERB in small letters");
+    push_names(out, &VERBS);
 }
 
-/// Adds how the line of a verb's event reads.
-fn push_line_of(out: &mut Line, form: &[u8])
+/// Adds the names of the verbs of these rows, with a comma before each but the first.
+fn push_names(out: &mut Line, rows: &[VerbRow])
+    requires { length out.old + length (names_words (codes ": ") (map passed rows.now)) ≤ 190 }
+    ensures bytes { out.new ≡ out.old ++ names_words (codes ": ") (map passed rows.now) }
+{
+    let mut before = b": ";
+    for row in rows {
+        out.push(before);
+        out.push(row.1);
+        before = b", ";
+    }
+}
+
+/// Adds how the line of a verb's event reads, whose name and words behind it these are.
+fn push_line_of(out: &mut Line, name: &[u8], behind: &[u8])
     requires room { length out.old ≤ 10 }
-    requires short { length form.now ≤ 120 }
-    ensures bytes { out.new ≡ out.old ++ line_of_form form.now }
+    requires short { length name.now + length behind.now ≤ 110 }
+    ensures bytes { out.new ≡ out.old ++ codes "BY " ++ name.now ++ behind.now
+        ++ codes "; numbers have no leading zero" }
     ensures room { length out.new ≤ 190 }
 {
     out.push(b"BY ");
-    out.push(form);
+    out.push(name);
+    out.push(behind);
     out.push(b"; numbers have no leading zero");
 }

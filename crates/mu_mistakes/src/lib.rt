@@ -3,7 +3,6 @@
 
 ghost use Rattle.std.specs.Prelude.{◌≡◌};
 
-mod events;
 mod expected;
 mod finding;
 mod flaw;

@@ -11,10 +11,10 @@ use Rattle.mu_model.specs.declared.event.Target.{Target}
 use Rattle.mu_model.specs.declared.event.Verb.{Verb}
 use Rattle.mu_model.specs.declared.packing.VerbFields.{VerbFields}
 use Rattle.mu_model.specs.Answers.{answer_of, drained, put_answer}
-use Rattle.mu_model.specs.Packing.{FitsJournal, IsBare, LeavesRoom, answer_in, answer_number, answer_word, fence_in, fence_word, fields, fields_in, fields_of, first_word, own_word, owner_in, owner_word, packed_of, target_in, target_kind, target_place, unpacked_of, verb_in}
+use Rattle.mu_model.specs.Packing.{FitsJournal, IsBare, LeavesRoom, answer_in, answer_number, answer_word, fence_in, fence_word, fields_in, fields_of, first_word, own_word, owner_in, owner_word, packed_of, target_in, target_kind, target_place, unpacked_of, verb_in}
 use Rattle.mu_model.specs.Ranges.{FitsAnswer, FitsEvent, FitsFence, FitsOwner, FitsTarget, FitsVerb}
 
-target_back : (t : Target) → target_in (target_kind t) (target_place t) ≡ t
+pub target_back : (t : Target) → target_in (target_kind t) (target_place t) ≡ t
 target_back Target.None = refl
 target_back Target.Min = refl
 target_back (Target.Place s) = refl
@@ -99,36 +99,18 @@ second_back : (n a b s i j : ℕ) → n < 32 → a < 16 → b < 256 → s < 256 
 second_back n a b s i j h k l m o p = omega arith
 
 -- fields that a first word has room for
-record AreFields (f : VerbFields) : Type 0 where
-  number : f.number < 32
-  small : f.small < 256
-  first : f.first < 65536
-  second : f.second < 65536
+pub record AreFields (f : VerbFields) : Type 0 where
+  pub number : f.number < 32
+  pub small : f.small < 256
+  pub first : f.first < 65536
+  pub second : f.second < 65536
 
-are_fields : (n s i j : ℕ) → n < 32 → s < 256 → i < 65536 → j < 65536 → AreFields (fields n s i j)
-are_fields n s i j h k l m = record { number = h; small = k; first = l; second = m }
+verb_small : (v : Verb) → (fields_of v).number < 32
+verb_small (Verb.Ask p) = omega arith
+verb_small v = omega arith
 
-of_verb : (v : Verb) → FitsVerb v → AreFields (fields_of v)
-of_verb (Verb.Ask p) h = are_fields 0 p 0 0 (omega arith) (omega arith) (omega arith) (omega arith)
-of_verb (Verb.Fence p) h = are_fields 1 p 0 0 (omega arith) (omega arith) (omega arith) (omega arith)
-of_verb (Verb.Min p) h = are_fields 2 p 0 0 (omega arith) (omega arith) (omega arith) (omega arith)
-of_verb (Verb.Enter p t) h = let k = kind_small t in are_fields 3 p (target_place t) (target_kind t) (omega arith) (omega arith) (place_small t h.1) (omega arith)
-of_verb (Verb.PutMin p b) h = are_fields 4 p 0 0 (omega arith) (omega arith) (omega arith) (omega arith)
-of_verb (Verb.Look p i) h = are_fields 5 p i 0 (omega arith) (omega arith) (omega arith) (omega arith)
-of_verb (Verb.PutSlot p i b v) h = are_fields 6 p i v (omega arith) (omega arith) (omega arith) (omega arith)
-of_verb (Verb.Fuo p) h = are_fields 7 p 0 0 (omega arith) (omega arith) (omega arith) (omega arith)
-of_verb (Verb.RaiseFuo p u) h = are_fields 8 p u 0 (omega arith) (omega arith) (omega arith) (omega arith)
-of_verb (Verb.Head q) h = are_fields 9 q 0 0 (omega arith) (omega arith) (omega arith) (omega arith)
-of_verb (Verb.ReadBeat q) h = are_fields 10 q 0 0 (omega arith) (omega arith) (omega arith) (omega arith)
-of_verb (Verb.WriteRow j k x) h = are_fields 11 k j 0 (omega arith) (omega arith) (omega arith) (omega arith)
-of_verb (Verb.ReadRow v k) h = are_fields 12 k v 0 (omega arith) (omega arith) (omega arith) (omega arith)
-of_verb (Verb.RaiseHead i) h = are_fields 13 0 i 0 (omega arith) (omega arith) (omega arith) (omega arith)
-of_verb Verb.Beat h = are_fields 14 0 0 0 (omega arith) (omega arith) (omega arith) (omega arith)
-of_verb (Verb.ReadAsk w) h = are_fields 15 w 0 0 (omega arith) (omega arith) (omega arith) (omega arith)
-of_verb Verb.Close h = are_fields 16 0 0 0 (omega arith) (omega arith) (omega arith) (omega arith)
-of_verb Verb.LookTarget h = are_fields 17 0 0 0 (omega arith) (omega arith) (omega arith) (omega arith)
-of_verb Verb.Drain h = are_fields 18 0 0 0 (omega arith) (omega arith) (omega arith) (omega arith)
-of_verb (Verb.Grant w) h = are_fields 19 w 0 0 (omega arith) (omega arith) (omega arith) (omega arith)
+pub of_verb : (v : Verb) → FitsVerb v → AreFields (fields_of v)
+of_verb v h = record { number = verb_small v; small = h.small; first = h.first; second = h.second }
 
 -- fields are those that their word shows
 fields_back : (f : VerbFields) (a b : ℕ) → AreFields f → a < 16 → b < 256 → fields_in (first_word f a b) ≡ f
@@ -141,63 +123,31 @@ fields_back f a b are h k =
     ) refl
 
 -- a verb is that of its fields and the second word, if it is the verb's own
-verb_back : (v : Verb) (word : ℕ) → FitsVerb v → verb_in (fields_of v) (unwrap_or (own_word v) word) ≡ v
-verb_back (Verb.Ask p) word h = refl
-verb_back (Verb.Fence p) word h = refl
-verb_back (Verb.Min p) word h = refl
+pub verb_back : (v : Verb) (word : ℕ) → FitsVerb v → verb_in (fields_of v) (unwrap_or (own_word v) word) ≡ v
 verb_back (Verb.Enter p t) word h = ap (Verb.Enter p) (target_back t)
-verb_back (Verb.PutMin p b) word h = ap (Verb.PutMin p) (let e : b % 4294967296 ≡ b = omega arith in e)
-verb_back (Verb.Look p i) word h = refl
-verb_back (Verb.PutSlot p i b v) word h = ap (λ n. Verb.PutSlot p i n v) (let e : b % 4294967296 ≡ b = omega arith in e)
-verb_back (Verb.Fuo p) word h = refl
-verb_back (Verb.RaiseFuo p u) word h = refl
-verb_back (Verb.Head q) word h = refl
-verb_back (Verb.ReadBeat q) word h = refl
-verb_back (Verb.WriteRow j k x) word h = refl
-verb_back (Verb.ReadRow v k) word h = refl
-verb_back (Verb.RaiseHead i) word h = refl
-verb_back Verb.Beat word h = refl
-verb_back (Verb.ReadAsk w) word h = refl
-verb_back Verb.Close word h = refl
-verb_back Verb.LookTarget word h = refl
-verb_back Verb.Drain word h = refl
-verb_back (Verb.Grant w) word h = refl
+verb_back (Verb.PutMin p b) word h = let few = h.own in ap (Verb.PutMin p) (let e : b % 4294967296 ≡ b = omega (arith, few) in e)
+verb_back (Verb.PutSlot p i b v) word h = let few = h.own in ap (λ n. Verb.PutSlot p i n v) (let e : b % 4294967296 ≡ b = omega (arith, few) in e)
+verb_back v word h = refl
 
 number_small : (a : Answer) → answer_number a < 16
 number_small Answer.Done = omega arith
-number_small Answer.Missed = omega arith
-number_small Answer.Entered = omega arith
-number_small (Answer.Lost f) = omega arith
-number_small (Answer.Seen f) = omega arith
-number_small (Answer.Number n) = omega arith
-number_small Answer.Empty = omega arith
-number_small (Answer.Entry b v) = omega arith
-number_small Answer.Past = omega arith
+number_small a = omega arith
 
 -- an answer is that of its number and its word, and of its number alone if it carries nothing
 carried_back : (a : Answer) → FitsAnswer a → answer_in (answer_number a) (answer_word a) ≡ a
-carried_back Answer.Done h = refl
-carried_back Answer.Missed h = refl
-carried_back Answer.Entered h = refl
 carried_back (Answer.Lost f) h = ap Answer.Lost (fence_back f h)
 carried_back (Answer.Seen f) h = ap Answer.Seen (fence_back f h)
-carried_back (Answer.Number n) h = refl
-carried_back Answer.Empty h = refl
 carried_back (Answer.Entry b v) h =
     ap (λ n. Answer.Entry n ((b + v * 4294967296) / 4294967296 % 65536)) (let e : (b + v * 4294967296) % 4294967296 ≡ b = omega arith in e)
     ∙ ap (Answer.Entry b) (let e : (b + v * 4294967296) / 4294967296 % 65536 ≡ v = omega arith in e)
-carried_back Answer.Past h = refl
+carried_back a h = refl
 
 bare_back : (a : Answer) (word : ℕ) → IsBare a → answer_in (answer_number a) word ≡ a
-bare_back Answer.Done word h = refl
-bare_back Answer.Missed word h = refl
-bare_back Answer.Entered word h = refl
 bare_back (Answer.Lost f) word h = absurd h
 bare_back (Answer.Seen f) word h = absurd h
 bare_back (Answer.Number n) word h = absurd h
-bare_back Answer.Empty word h = refl
 bare_back (Answer.Entry b v) word h = absurd h
-bare_back Answer.Past word h = refl
+bare_back a word h = refl
 
 kept_back : (own : Option ℕ) (a : Answer) → LeavesRoom own a → FitsAnswer a → answer_in (answer_number a) (unwrap_or own (answer_word a)) ≡ a
 kept_back None a room fits = carried_back a fits

@@ -1,6 +1,7 @@
 -- ranges: the numbers of an event fit their types.
 use Rattle.std.specs.Prelude.{ℕ, ◌<◌, ◌^◌, None, Some, ⊤}
 use Rattle.std.specs.declared.option.Option.{Option}
+use Rattle.mu_model.specs.Packing.{fields_of}
 use Rattle.mu_model.specs.declared.event.Answer.{Answer}
 use Rattle.mu_model.specs.declared.event.Event.{Event}
 use Rattle.mu_model.specs.declared.event.Fence.{Fence}
@@ -14,30 +15,20 @@ abbrev pub FitsTarget : Target → Type 0
 FitsTarget (target.Place place) = place < 2 ^ 16
 FitsTarget _ = ⊤
 
+-- the number of a step that has no room among its fields: proposal numbers have 32 bits, words 64
+abbrev pub FitsOwn : Verb → Type 0
+FitsOwn (verb.PutMin p number) = number < 2 ^ 32
+FitsOwn (verb.PutSlot p i number value) = number < 2 ^ 32
+FitsOwn (verb.WriteRow row word value) = value < 2 ^ 64
+FitsOwn _ = ⊤
+
 -- the numbers of a step fit their types: replicas, regions and places of words have 8 bits,
--- positions, rows, payload numbers and heads 16, proposal numbers 32 and words 64
-abbrev pub FitsVerb : Verb → Type 0
-FitsVerb (verb.Ask p) = p < 2 ^ 8
-FitsVerb (verb.Fence p) = p < 2 ^ 8
-FitsVerb (verb.Min p) = p < 2 ^ 8
-FitsVerb (verb.Enter p target) = (p < 2 ^ 8) × FitsTarget target
-FitsVerb (verb.PutMin p number) = (p < 2 ^ 8) × (number < 2 ^ 32)
-FitsVerb (verb.Look p i) = (p < 2 ^ 8) × (i < 2 ^ 16)
-FitsVerb (verb.PutSlot p i number value) =
-    (p < 2 ^ 8) × (i < 2 ^ 16) × (number < 2 ^ 32) × (value < 2 ^ 16)
-FitsVerb (verb.Fuo p) = p < 2 ^ 8
-FitsVerb (verb.RaiseFuo p fuo) = (p < 2 ^ 8) × (fuo < 2 ^ 16)
-FitsVerb (verb.Head q) = q < 2 ^ 8
-FitsVerb (verb.ReadBeat q) = q < 2 ^ 8
-FitsVerb (verb.WriteRow row word value) = (row < 2 ^ 16) × (word < 2 ^ 8) × (value < 2 ^ 64)
-FitsVerb (verb.ReadRow value word) = (value < 2 ^ 16) × (word < 2 ^ 8)
-FitsVerb (verb.RaiseHead head) = head < 2 ^ 16
-FitsVerb verb.Beat = ⊤
-FitsVerb (verb.ReadAsk w) = w < 2 ^ 8
-FitsVerb verb.Close = ⊤
-FitsVerb verb.LookTarget = ⊤
-FitsVerb verb.Drain = ⊤
-FitsVerb (verb.Grant w) = w < 2 ^ 8
+-- positions, rows, payload numbers, heads and places of a ring 16
+pub record FitsVerb (verb : Verb) : Type 0 where
+  pub small : (fields_of verb).small < 2 ^ 8
+  pub first : (fields_of verb).first < 2 ^ 16
+  pub second : (fields_of verb).second < 2 ^ 16
+  pub own : FitsOwn verb
 
 -- the replica that a fence lets write has 8 bits
 abbrev pub FitsOwner : Option ℕ → Type 0

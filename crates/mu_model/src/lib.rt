@@ -26,6 +26,7 @@ pub use contents::{
 pub use event::{Answer, Event, Fence, Target, Verb};
 pub use journal::Journal;
 pub use numbers::{majority, next_number};
+pub use packing::{VerbFields, fields_of, own_word, target_in, target_kind, target_place, verb_in};
 pub use reason::Reason;
 pub use rooms::{push_within, reserve_to};
 pub use rows::Rows;

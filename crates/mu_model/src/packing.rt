@@ -57,17 +57,22 @@ pub(crate) struct EventWords {
     second: u64,
 }
 
-/// The number of a verb, and its numbers that the first word has.
+/// The number of a verb, and its numbers that the first word has. The place and the kind of a
+/// target stand in the numbers of 16 bits.
 #[derive(Clone, Copy)]
-pub(crate) struct VerbFields {
-    number: u8,
-    small: u8,
-    first: u16,
-    second: u16,
+pub struct VerbFields {
+    /// Which verb it is.
+    pub number: u8,
+    /// Its number of 8 bits.
+    pub small: u8,
+    /// The first of its numbers of 16 bits.
+    pub first: u16,
+    /// The second of them.
+    pub second: u16,
 }
 
 /// Which kind of target it is.
-fn target_kind(target: Target) -> u16
+pub fn target_kind(target: Target) -> u16
     ensures kind { result ≡ kind_of_target target }
     ensures few { result < 3 }
 {
@@ -79,7 +84,7 @@ fn target_kind(target: Target) -> u16
 }
 
 /// The place that a target names, if it names one.
-fn target_place(target: Target) -> u16
+pub fn target_place(target: Target) -> u16
     ensures place { result ≡ place_of_target target }
     ensures fits { FitsTarget target }
 {
@@ -91,7 +96,7 @@ fn target_place(target: Target) -> u16
 
 /// The target of this kind and place.
 #[inline(always)]
-fn target_in(kind: u16, place: u16) -> Target
+pub fn target_in(kind: u16, place: u16) -> Target
     ensures { result ≡ target_of kind place }
 {
     match kind {
@@ -116,7 +121,7 @@ fn fields(number: u8, small: u8, first: u16, second: u16) -> VerbFields
 
 /// The number of a verb, and its numbers that the first word has.
 #[inline(always)]
-fn fields_of(verb: Verb) -> VerbFields
+pub fn fields_of(verb: Verb) -> VerbFields
     ensures fields { result ≡ fields_of_verb verb }
     ensures fits { FitsVerb verb }
 {
@@ -146,7 +151,7 @@ fn fields_of(verb: Verb) -> VerbFields
 
 /// The number of a verb that only the second word has room for.
 #[inline(always)]
-fn own_word(verb: Verb) -> Option<u64>
+pub fn own_word(verb: Verb) -> Option<u64>
     ensures { result ≡ word_of_verb verb }
 {
     match verb {
@@ -159,7 +164,7 @@ fn own_word(verb: Verb) -> Option<u64>
 
 /// The verb of these fields and this second word.
 #[inline(always)]
-fn verb_in(fields: VerbFields, word: u64) -> Verb
+pub fn verb_in(fields: VerbFields, word: u64) -> Verb
     ensures { result ≡ verb_of_fields fields word }
 {
     match fields.number {
