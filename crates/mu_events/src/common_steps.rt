@@ -104,6 +104,47 @@ pub(crate) fn after_look(text: &[u8]) -> Option<&[u8]>
     }
 }
 
+/// What follows `head` in a text, if it begins so.
+#[inline(always)]
+pub(crate) fn after_head(text: &[u8]) -> Option<&[u8]>
+    ensures { IfSome result (λ rest. words text.now ≡ codes "head" ∷ words rest.now) }
+{
+    match text {
+        [b'h', b'e', b'a', b'd', SPACE, rest @ ..] => Some(rest),
+        _ => None,
+    }
+}
+
+/// What follows `fuo` in a text, if it begins so.
+#[inline(always)]
+pub(crate) fn after_fuo(text: &[u8]) -> Option<&[u8]>
+    ensures { IfSome result (λ rest. words text.now ≡ codes "fuo" ∷ words rest.now) }
+{
+    match text {
+        [b'f', b'u', b'o', SPACE, rest @ ..] => Some(rest),
+        _ => None,
+    }
+}
+
+/// What follows `raisefuo` in a text, if it begins so.
+#[inline(always)]
+pub(crate) fn after_raisefuo(text: &[u8]) -> Option<&[u8]>
+    ensures { IfSome result (λ rest. words text.now ≡ codes "raisefuo" ∷ words rest.now) }
+{
+    after_space(after_eight(text, *b"raisefuo")?)
+}
+
+/// What follows `raisehead` in a text, if it begins so.
+#[inline(always)]
+pub(crate) fn after_raisehead(text: &[u8]) -> Option<&[u8]>
+    ensures { IfSome result (λ rest. words text.now ≡ codes "raisehead" ∷ words rest.now) }
+{
+    match after_eight(text, *b"raisehea")? {
+        [b'd', SPACE, rest @ ..] => Some(rest),
+        _ => None,
+    }
+}
+
 /// What follows the `=` of a text, if it begins with one.
 #[inline(always)]
 fn after_equals(text: &[u8]) -> Option<&[u8]>
@@ -251,4 +292,80 @@ fn look_verb(p: &[u8], i: &[u8]) -> Option<Verb>
     ensures { result ≡ verb_of (codes "look" ∷ p.now ∷ i.now ∷ []) }
 {
     Some(Verb::Look(of_8(p)?, of_16(i)?))
+}
+
+/// The step of a `head`, from what follows the name.
+#[inline(never)]
+pub(crate) fn head_step(text: &[u8]) -> Option<(Verb, Answer)>
+    ensures { result ≡ step_after (codes "head" ∷ []) (sides (words text.now)) }
+{
+    match one_before(text) {
+        Some((q, answer)) => found(head_verb(q), answer),
+        None => step_named(b"head", text),
+    }
+}
+
+/// A `head` of this word.
+#[inline(always)]
+fn head_verb(q: &[u8]) -> Option<Verb>
+    ensures { result ≡ verb_of (codes "head" ∷ q.now ∷ []) }
+{
+    Some(Verb::Head(of_8(q)?))
+}
+
+/// The step of a `fuo`, from what follows the name.
+#[inline(never)]
+pub(crate) fn fuo_step(text: &[u8]) -> Option<(Verb, Answer)>
+    ensures { result ≡ step_after (codes "fuo" ∷ []) (sides (words text.now)) }
+{
+    match one_before(text) {
+        Some((p, answer)) => found(fuo_verb(p), answer),
+        None => step_named(b"fuo", text),
+    }
+}
+
+/// A `fuo` of this word.
+#[inline(always)]
+fn fuo_verb(p: &[u8]) -> Option<Verb>
+    ensures { result ≡ verb_of (codes "fuo" ∷ p.now ∷ []) }
+{
+    Some(Verb::Fuo(of_8(p)?))
+}
+
+/// The step of a `raisehead`, from what follows the name.
+#[inline(never)]
+pub(crate) fn raise_head_step(text: &[u8]) -> Option<(Verb, Answer)>
+    ensures { result ≡ step_after (codes "raisehead" ∷ []) (sides (words text.now)) }
+{
+    match one_before(text) {
+        Some((head, answer)) => found(raise_head_verb(head), answer),
+        None => step_named(b"raisehead", text),
+    }
+}
+
+/// A `raisehead` of this word.
+#[inline(always)]
+fn raise_head_verb(head: &[u8]) -> Option<Verb>
+    ensures { result ≡ verb_of (codes "raisehead" ∷ head.now ∷ []) }
+{
+    Some(Verb::RaiseHead(of_16(head)?))
+}
+
+/// The step of a `raisefuo`, from what follows the name.
+#[inline(never)]
+pub(crate) fn raise_fuo_step(text: &[u8]) -> Option<(Verb, Answer)>
+    ensures { result ≡ step_after (codes "raisefuo" ∷ []) (sides (words text.now)) }
+{
+    match two_before(text) {
+        Some((p, fuo, answer)) => found(raise_fuo_verb(p, fuo), answer),
+        None => step_named(b"raisefuo", text),
+    }
+}
+
+/// A `raisefuo` of these words.
+#[inline(always)]
+fn raise_fuo_verb(p: &[u8], fuo: &[u8]) -> Option<Verb>
+    ensures { result ≡ verb_of (codes "raisefuo" ∷ p.now ∷ fuo.now ∷ []) }
+{
+    Some(Verb::RaiseFuo(of_8(p)?, of_16(fuo)?))
 }

@@ -10,8 +10,9 @@ ghost use Rattle.mu_text.specs.Lines.{words};
 ghost use Rattle.mu_text.specs.Numbers.{below, is_digit, wide_number_of};
 
 use crate::common_steps::{
-    after_look, after_readask, after_readbeat, after_readrow, after_writerow, is_beat, look_step,
-    read_ask_step, read_beat_step, read_row_step, write_row_step,
+    after_fuo, after_head, after_look, after_raisefuo, after_raisehead, after_readask,
+    after_readbeat, after_readrow, after_writerow, fuo_step, head_step, is_beat, look_step,
+    raise_fuo_step, raise_head_step, read_ask_step, read_beat_step, read_row_step, write_row_step,
 };
 use crate::table::{Field, row_named};
 use mu_model::{
@@ -112,6 +113,26 @@ fn step_of_other(text: &[u8]) -> Option<(Verb, Answer)>
     }
     if let Some(rest) = after_look(text) {
         return look_step(rest);
+    }
+    step_of_rarer(text)
+}
+
+/// The same of any text. Most of the lines that are left have one of these four verbs.
+#[inline(never)]
+fn step_of_rarer(text: &[u8]) -> Option<(Verb, Answer)>
+    ensures { result ≡ step_after [] (sides (words text.now)) }
+{
+    if let Some(rest) = after_head(text) {
+        return head_step(rest);
+    }
+    if let Some(rest) = after_fuo(text) {
+        return fuo_step(rest);
+    }
+    if let Some(rest) = after_raisefuo(text) {
+        return raise_fuo_step(rest);
+    }
+    if let Some(rest) = after_raisehead(text) {
+        return raise_head_step(rest);
     }
     let (name, rest) = split_word(text);
     step_named(name, rest?)
