@@ -43,8 +43,8 @@ moved : (p q : PortValue) (P : Config → ℕ → Type 0) → IsSamePort p q →
 moved p q P same held = subst (λ k. P k q.id) (sym same.config) (subst (λ i. P p.config i) (sym same.id) held)
 
 -- a branch after a turn
-pub turned_on : (script : Script) (p q : PortValue) (old new : Node) (turn : Turn) → Drives script (record { node = old; port = p }) → IsSamePort p q → StandsForNode q.config q.id q.part new → new.stops ≡ old.stops → new.zeal ≡ old.zeal
-    → IsTurn p.config script p.id p.part q.part None None turn → Drives script (record { node = new; port = q })
+pub turned_on : (script : Script) (p q : PortValue) (old new : Node) (turn : Turn) → Drives script old p → IsSamePort p q → StandsForNode q.config q.id q.part new → new.stops ≡ old.stops → new.zeal ≡ old.zeal
+    → IsTurn p.config script p.id p.part q.part None None turn → Drives script new q
 turned_on script p q old new turn was same stands stops zeal told = record {
   config = moved p q (λ k i. IsConfig k) same was.config;
   goes = record {
@@ -63,7 +63,7 @@ pub same_same : (p q s : PortValue) → IsSamePort p q → IsSamePort q s → Is
 same_same p q s a b = record { table = b.table ∙ a.table; config = b.config ∙ a.config; id = b.id ∙ a.id }
 
 -- a branch before any step
-pub first_drives : (c : Config) (script : Script) (r : ℕ) (p : PortValue) (node : Node) → IsConfig c → IsFreshPort c r p → StandsForNode c p.id [] node → node.stops.items ≡ script.stops → node.zeal ≡ Zeal.Eager → Drives script (record { node = node; port = p })
+pub first_drives : (c : Config) (script : Script) (r : ℕ) (p : PortValue) (node : Node) → IsConfig c → IsFreshPort c r p → StandsForNode c p.id [] node → node.stops.items ≡ script.stops → node.zeal ≡ Zeal.Eager → Drives script node p
 first_drives c script r p node good fresh stands stops zeal = record {
   config = subst (λ k. IsConfig k) (sym fresh.config) good;
   goes = subst (λ k. Goes k script p.id p.part node) (sym fresh.config)

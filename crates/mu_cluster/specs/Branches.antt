@@ -27,20 +27,20 @@ pub record Goes (c : Config) (script : Script) (r : ℕ) (mine : List Event)
 abbrev pub HasEnd : Config → Script → ℕ → List Event → Type 0
 HasEnd c script r mine = (end : End) × EndsBy c script r mine end
 
--- the node of a branch stands for the part of its port
-pub record Drives (script : Script) (b : Branch) : Type 0 where
-  pub config : IsConfig b.port.config
-  pub goes : Goes b.port.config script b.port.id b.port.part b.node
+-- the node stands for the part of its port
+pub record Drives (script : Script) (node : Node) (port : PortValue) : Type 0 where
+  pub config : IsConfig port.config
+  pub goes : Goes port.config script port.id port.part node
 
 -- the same, before any step
 pub record Starts (script : Script) (b : Branch) : Type 0 where
-  pub drives : Drives script b
+  pub drives : Drives script b.node b.port
   pub empty : b.port.part ≡ []
 
 -- the branch at its end: the same port, and a part that has an end
 pub record IsDriven (script : Script) (b d : Branch) : Type 0 where
   pub same : IsSamePort b.port d.port
-  pub drives : Drives script d
+  pub drives : Drives script d.node d.port
   pub ends : HasEnd d.port.config script d.port.id d.port.part
 
 -- a port of r before any step

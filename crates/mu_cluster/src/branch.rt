@@ -30,11 +30,16 @@ use std::sync::Wait;
 use std::thread::Threads;
 use std::time::Clock;
 
+/// Two cache lines, which stand between two replicas in their list.
+const BETWEEN: [u64; 16] = [0; 16];
+
 /// A replica with a port of its own.
 #[derive(Drop)]
 pub(crate) struct Branch {
     node: Node,
     port: SharedPort,
+    /// So that no thread writes into a cache line in which the next replica begins.
+    between: [u64; 16],
 }
 
 /// The next turn of a replica that let the others on as its script and its last step have it, and
@@ -73,7 +78,11 @@ fn drive<R: Wait + Clock, G: Gate>(rt: &R, branch: &mut Branch, script: &Script,
     requires { Starts script.now branch.old }
     ensures { IsDriven script.now branch.old branch.new }
 {
-    let Branch { node, port } = branch;
+    let Branch {
+        node,
+        port,
+        between: _,
+    } = branch;
     let mut silences = Silences::new();
     let mut idling = Idling::new();
     let pauses = script.pauses.as_slice();
@@ -147,7 +156,11 @@ pub(crate) fn branches(
     let mut branches = Vec::with_capacity(alloc, ports.len())?;
     for port in ports {
         let node = Node::new(alloc, job, port.id(), Zeal::Eager)?;
-        branches.push_reserved(Branch { node, port });
+        branches.push_reserved(Branch {
+            node,
+            port,
+            between: BETWEEN,
+        });
     }
     Ok(branches)
 }
@@ -164,7 +177,11 @@ pub(crate) fn parted(
     ensures ports { result.1.items ≡ map (λ b. b.port) branches.items }
 {
     for branch in branches {
-        let Branch { node, port } = branch;
+        let Branch {
+            node,
+            port,
+            between: _,
+        } = branch;
         nodes.push_reserved(node);
         ports.push_reserved(port);
     }

@@ -4,6 +4,7 @@ use Rattle.std.specs.Vec.Iter.{into_iter_items}
 use Rattle.mu_node.specs.Node.{StandsForNode}
 use Rattle.shared_fabric.proofs.Gathers.{get_middle, map_snoc}
 use Rattle.mu_cluster.specs.declared.branch.Branch.{Branch}
+use Rattle.mu_cluster.specs.declared.branch.TheConstants.{BETWEEN}
 use Rattle.mu_cluster.specs.Branches.{Starts}
 use Rattle.mu_cluster.proofs.Branching.{first_drives}
 use Rattle.std.proofs.lemmas.List.Elements.{All-push}
@@ -21,7 +22,7 @@ loop-port-preserved c =
     let whole : c.args.ports.items ≡ at.yielded ++ x ∷ into_iter_items c.next.new.self = inv.2 ∙ ap (λ l. at.yielded ++ l) steps in
     let its : slice_get c.args.ports.items (length at.yielded) ≡ Some x = ap (λ l. slice_get l (length at.yielded)) whole ∙ get_middle at.yielded (into_iter_items c.next.new.self) x in
     let fresh = c.requires.fresh (length at.yielded) x its in
-    let b : Branch = record { node = c.in_ok-node.node; port = x } in
+    let b : Branch = record { node = c.in_ok-node.node; port = x; between = BETWEEN } in
     let drives = first_drives job.config job.script (length at.yielded) x c.in_ok-node.node c.requires.good fresh (subst (λ i. StandsForNode job.config i [] c.in_ok-node.node) c.id.ensures.number c.in_ok-node.ensures.stands) c.in_ok-node.ensures.stops c.in_ok-node.ensures.zeal in
     let ready : Starts job.script b = record { drives = drives; empty = fresh.empty } in (
       tt,

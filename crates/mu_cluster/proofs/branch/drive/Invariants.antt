@@ -9,7 +9,7 @@ use Rattle.mu_cluster.proofs.branch.drive.Given as goal
 abbrev pub invariant-loop : goal.invariant-loop
 invariant-loop g l =
     (goal.iterator-loop g).can_next l.iterator' × (goal.iterator-loop g).is_finite l.iterator'
-    × Drives l.script (record { node = l.node; port = l.port })
+    × Drives l.script l.node l.port
     × IsSamePort l.initial.port l.port
     × StandsForSilences l.port.part l.silences
     × StandsForIdling l.port.id l.port.part l.idling
