@@ -3,6 +3,7 @@ mod Widening
 pub mod Fetched
 pub mod Filled
 pub mod Firsts
+mod Inserted
 pub mod Lasts
 mod Learning
 pub mod NextRows

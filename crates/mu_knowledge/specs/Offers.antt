@@ -1,6 +1,6 @@
 -- batch of a client, clients below: the row of a client's next batch, given the known values; one
 -- more than the greatest client.
-use Rattle.std.specs.Prelude.{Bool, List, None, Some, false, if◌then◌else◌, length, max, nat_lt, suc, true, zero, ℕ, ◌&&◌, ◌+◌, ◌-◌, ◌<◌, ◌==◌, ◌≡◌, ◌≤◌}
+use Rattle.std.specs.Prelude.{Bool, List, None, Some, false, if◌then◌else◌, length, nat_lt, suc, true, zero, ℕ, ◌&&◌, ◌+◌, ◌-◌, ◌<◌, ◌==◌, ◌≡◌, ◌≤◌}
 use Rattle.std.specs.declared.option.Option.{Option}
 use Rattle.std.specs.List.{slice_get}
 use Rattle.mu_model.specs.declared.config.Config.{Config}
@@ -55,18 +55,6 @@ clients_below c zero = 0
 clients_below c (suc j) =
     if nat_lt (clients_below c j) (client_of c j + 1) then client_of c j + 1 else clients_below c j
 
--- the greatest number of a row of the client among the first n rows
-abbrev pub last_below : Config → ℕ → ℕ → ℕ
-last_below c client zero = 0
-last_below c client (suc j) =
-    if client_of c j == client then max (last_below c client j) (number_of c j)
-    else last_below c client j
-
--- for each client the greatest number of its rows, among the first n
-abbrev pub HaveLasts : Config → ℕ → List ℕ → Type 0
-HaveLasts c n lasts =
-    (client : ℕ) → client < 256 → slice_get lasts client ≡ Some (last_below c client n)
-
 -- how many of the first n rows are of clients below this one
 abbrev pub rows_below : Config → ℕ → ℕ → ℕ
 rows_below c client zero = 0
@@ -94,6 +82,13 @@ place_of c j =
 abbrev pub StandAtPlaces : Config → ℕ → List ℕ → Type 0
 StandAtPlaces c n rows = (j : ℕ) → j < n → slice_get rows (place_of c j) ≡ Some j
 
+-- the rows of all clients greater than this one begin one place further
+pub record BeginLater (client : ℕ) (old new : List ℕ) : Type 0 where
+  pub later :
+      (start k : ℕ) → client < k → k ≤ 256 → slice_get old k ≡ Some start → start < 65535
+      → slice_get new k ≡ Some (start + 1)
+  pub others : (k : ℕ) → k ≤ client → slice_get new k ≡ slice_get old k
+
 -- the row at a place that many after a start, if it is before the end
 abbrev pub row_between : List ℕ → Option ℕ → Option ℕ → ℕ → Option ℕ
 row_between rows None end count = None
@@ -107,17 +102,12 @@ noted_row state client count =
     row_between state.rows.items (slice_get state.starts.items client)
     (slice_get state.starts.items (client + 1)) count
 
--- each row is noted as the one after those of its client before it: the next row is found at once
-abbrev pub LeadsToRows : Config → ClientRows → Type 0
-LeadsToRows c state =
-    (j : ℕ) → j < row_count c
-    → noted_row state (client_of c j) (rows_before c (client_of c j) j) ≡ Some j
-
--- what is kept of the rows of each client is that of the job's rows, and no more
+-- what is kept of the rows of each client is that of the job's rows, and no more; they stand client
+-- by client, so the one after those of its client before it is found at once
 pub record StandsForClientRows (c : Config) (state : ClientRows) : Type 0 where
   pub clients : state.clients ≡ clients_below c (row_count c)
   pub few : state.clients ≤ 256
-  pub lasts : HaveLasts c (row_count c) state.lasts.items
-  pub one_each : length state.lasts.items ≡ 256
   pub bounds : length state.starts.items ≡ 257
   pub places : length state.rows.items ≡ row_count c
+  pub begins : HaveStarts c state.starts.items
+  pub stand : StandAtPlaces c (row_count c) state.rows.items

@@ -15,7 +15,7 @@ returns c r =
         marks = λ q small. get_replicate 7 q false small;
         counts = λ client small. rw zeros (get_replicate 256 client 0 small);
         rows = refl;
-        by_client = c.in_ok-new.ensures.stands;
+        by_client = c.in_ok-new.ensures;
       };
       fuos = λ p small. get_replicate 7 p 0 small;
       positions = rw unset (length-replicate c.positions_in-positions.result false ∙ c.positions_in-positions.ensures.count);
