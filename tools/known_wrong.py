@@ -93,7 +93,10 @@ SAYS_NO_MEMORY = ("use mu_model::NoMemory;\nimpl From<AllocError> for End {\n   
                   "        Err(Refusal::Full) => Ok(0),\n        Err(Refusal::NoMemory) => Err(NoMemory),\n    }\n}\n")
 MADE_UP = [("Err(NoMemory)", "Err(_)"), ("use mu_model::NoMemory;\n", ""), ("_failed: AllocError", "_failed: Failed"),
            ("Said::Made(made)", "Said::NoMemory"), ("match made()", "match Err(AllocError)"), ("Ok(0)", "Err(NoMemory)"),
-           ("use mu_model", "use std::alloc::AllocError as Refused;\nuse mu_model")]
+           ("use mu_model", "use std::alloc::AllocError as Refused;\nuse mu_model"),
+           ("use mu_model", "use mu_model::NoMemory as Refused;\nuse mu_model"),
+           ("Err(Refusal::NoMemory) => Err(NoMemory)", "Err(Refusal::Full | Refusal::NoMemory) => Err(NoMemory)"),
+           ("fn told()", "const TEXT: &str = \"a \\\n  b\";\nfn gone() -> End {\n    End::NoMemory\n}\nfn told()")]
 # A page, what stands in it, and what would be stale.
 WRONG_FIGURES = [
     ("docs/ALIVE.md", "| 580 / 1,078 + 166 |", "| 580 / 1,078 + 167 |"),

@@ -45,16 +45,16 @@ MADE_UP = {("mu_io", "read_all"), ("mu_drawing", "unread"), ("mu_top", "end_with
 # What is left as it is until its crate is proved anew for another reason.
 LEFT = set()
 # What is no code: comments, texts, ghost items, and imports; and where a clause begins.
-NO_CODE = re.compile(r'//[^\n]*|b?"(?:[^"\\]|\\.)*"|\bghost use [^;]*;|\b(?:pub )?use [^;]*;')
+NO_CODE = re.compile(r'//[^\n]*|b?"(?:[^"\\]|\\(?s:.))*"|b?\'(?:[^\'\\\n]|\\[^\n]{1,4})\'|\bghost use [^;]*;|\b(?:pub )?use [^;]*;')
 CLAUSE = re.compile(r"\b(?:(?:requires|ensures)\*?(?: \w+)? \{|ghost [\w ]+(?: =|:) \{)")
 HEADER = re.compile(r"\b(?:fn|impl|enum)\b[^{;]*")
 REFUSAL = re.compile(r"(?<![\w:])((?:\w+::)*)(AllocError|AllocFailed|NoMemory)\b(?!\s*>|<|::from\b)")
 # What stands behind a pattern, and before what an arm on want of memory answers.
 IN_PATTERN = re.compile(r"[\s)]*(?:\|[^=;]*)?=(?!=)")
-IN_ARM = re.compile(r"\b(?:AllocError|NoMemory)\)*\s*=>\s*(?:return )?[\w:(]*$")
+IN_ARM = re.compile(r"(?:^|[{,}])\s*[^{},;|]*\b(?:AllocError|NoMemory)\)*\s*=>\s*(?:return )?[\w:(]*$")
 GIVEN = re.compile(r":\s*(?:AllocError|AllocFailed<\w+>|NoMemory)\s*[,)]")
 IMPORTS = re.compile(r"^(?:pub )?use ([^;]*);", re.MULTILINE)
-RENAMED = re.compile(r"\bAlloc(?:Error|Failed) as (?!NoMemory\b)\w+")
+RENAMED = re.compile(r"^(?!ghost )[^\n]*\b(?:Alloc(?:Error|Failed) as (?!NoMemory\b)|NoMemory as )\w+", re.MULTILINE)
 
 
 def sources(crate):

@@ -29,6 +29,8 @@ PAUSED_JOB = b"mu 1\nreplicas 1\nring 8\nbudget 1000\nclient 0\nput a 5\nscript\
 # end in time.
 LEAST_SLEEPS, REST_SECONDS = 100, 60
 LONELY_JOB = b"mu 1\nreplicas 2\nring 8\nbudget 10000\nclient 0\nput a 5\nscript\nstop 1 0\nend\n"
+# How many runs are counted, if there is a C compiler.
+COUNT = 6
 JOB = ("mu 1\nreplicas 3\nring 64\nbudget 131071\nclient 0\n" + "put key value\n" * COMMANDS_OF_JOB + "end\n").encode()
 
 

@@ -43,23 +43,23 @@ pub(crate) struct Branch {
 }
 
 /// The next turn of a replica that let the others on as its script and its last step have it, and
-/// passed the gate.
+/// passed the gate. It uses up both, so each turn has its own.
 fn turn_rested(
     node: &mut Node,
     port: &mut SharedPort,
     script: &Script,
-    rested: &Rested,
-    passed: &Passed,
+    rested: Rested,
+    passed: Passed,
 ) -> Turn
     requires config { IsConfig port.old.config }
-    requires thread { passed.now.thread ≡ port.old.id }
-    requires step { passed.now.step ≡ length port.old.part }
+    requires thread { passed.thread ≡ port.old.id }
+    requires step { passed.step ≡ length port.old.part }
     requires stands { StandsForNode port.old.config port.old.id port.old.part node.old }
-    requires yields { rested.now.yields.count
+    requires yields { rested.yields.count
         ≡ rounds_paused_of script.now.pauses port.old.id (length port.old.part)
         + yields_for (silence_of port.old.part) }
     requires slept { IsNap (silence_of port.old.part) (idle_ended port.old.id port.old.part)
-        (as_nanos rested.now.slept.nap) }
+        (as_nanos rested.slept.nap) }
     ensures stands { StandsForNode port.new.config port.new.id port.new.part node.new }
     ensures same { IsSamePort port.old port.new }
     ensures stops { node.new.stops ≡ node.old.stops }
@@ -92,7 +92,7 @@ fn drive<R: Wait + Clock, G: Gate>(rt: &R, branch: &mut Branch, script: &Script,
         let paused = rounds_at(next, steps);
         let rested = rest(rt, paused, silences.shown(), idling.ended());
         let passed = Passed::through(gate, node.id(), steps);
-        match turn_rested(node, port, script, &rested, &passed) {
+        match turn_rested(node, port, script, rested, passed) {
             Turn::Took(_) => {
                 let newest = port.newest();
                 silences.take(newest);

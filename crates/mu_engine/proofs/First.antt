@@ -34,7 +34,7 @@ pub none_spelled : (shape : Shape) → AreSpelled (first_config shape) []
 none_spelled shape = record { count = refl; each = λ j command at. cc }
 
 -- a node before any event sits at its place
-pub sits_first : (c : Config) (r : ℕ) (node : Node) (hold : Hold) → StandsForNode c r [] node → node.stops.items ≡ [] → node.zeal ≡ Zeal.Plain → Sits c r [] (record { node = node; hold = hold })
+pub sits_first : (c : Config) (r : ℕ) (node : Node) (hold : Hold) → StandsForNode c r [] node → node.stops.items ≡ [] → node.zeal ≡ Zeal.Eager → Sits c r [] (record { node = node; hold = hold })
 sits_first c r node hold stands stops zeal = record { lives = as_far true c r [] node stands; stops = stops; zeal = zeal }
 
 -- one copy more at the end

@@ -22,7 +22,7 @@ hold_of seat = seat.hold
 pub record Sits (c : Config) (r : ℕ) (events : List Event) (seat : Seat) : Type 0 where
   pub lives : LivesForNode c r (part_of r events) seat.node
   pub stops : seat.node.stops.items ≡ []
-  pub zeal : seat.node.zeal ≡ Zeal.Plain
+  pub zeal : seat.node.zeal ≡ Zeal.Eager
 
 -- each node sits at its place
 pub record AreSeated (c : Config) (events : List Event) (seats : List Seat) : Type 0 where

@@ -78,7 +78,7 @@ pub(crate) fn seats(alloc: Global, job: &Job) -> Result<Vec<Seat>, NoMemory>
     let mut seats = Vec::with_capacity(alloc, usize::from(job.config.replicas))?;
     for id in 0..job.config.replicas {
         seats.push_reserved(Seat {
-            node: Node::new(alloc, job, id, Zeal::Plain)?,
+            node: Node::new(alloc, job, id, Zeal::Eager)?,
             hold: Hold {
                 stopped: false,
                 rounds: 0,

@@ -61,28 +61,25 @@ pub(crate) fn watchers(
     Ok(watchers)
 }
 
-/// Gets the key, and notes what it saw, once the reader of this number passed the gate for that.
-fn see_behind(
-    reader: &mut SnapReader,
-    key: &Key,
-    sights: &mut Vec<Sight>,
-    _number: u8,
-    _passed: Passed,
-)
-    requires thread { _passed.thread ≡ _number }
-    requires step { _passed.step ≡ length sights.old.items }
-    requires room { vec_len sights.old < vec_capacity sights.old }
-    requires right { AreRight reader.old.seen sights.old.items }
-    requires rise { NeverFall 0 sights.old.items }
-    ensures same { reader.new ≡ record reader.old { seen = reader.new.seen } }
-    ensures seen { IsPrefixOf reader.old.seen reader.new.seen }
-    ensures sight { (sight : SomeSight) × (sights.new.items ≡ sights.old.items ++ sight ∷ [])
-        × (sight.key ≡ key.now) × (sight.seen.upto ≡ length reader.new.seen) }
-    ensures right { AreRight reader.new.seen sights.new.items }
-    ensures rise { NeverFall 0 sights.new.items }
-    ensures room { vec_capacity sights.new ≡ vec_capacity sights.old }
+/// Gets the key, and notes what it saw, once the reader passed the gate for that.
+fn see_behind(watcher: &mut Watcher, key: &Key, _passed: Passed)
+    requires thread { _passed.thread ≡ watcher.old.number }
+    requires step { _passed.step ≡ length watcher.old.sights.items }
+    requires room { vec_len watcher.old.sights < vec_capacity watcher.old.sights }
+    requires right { AreRight watcher.old.reader.seen watcher.old.sights.items }
+    requires rise { NeverFall 0 watcher.old.sights.items }
+    ensures number { watcher.new.number ≡ watcher.old.number }
+    ensures same { watcher.new.reader
+        ≡ record watcher.old.reader { seen = watcher.new.reader.seen } }
+    ensures seen { IsPrefixOf watcher.old.reader.seen watcher.new.reader.seen }
+    ensures sight { (sight : SomeSight)
+        × (watcher.new.sights.items ≡ watcher.old.sights.items ++ sight ∷ [])
+        × (sight.key ≡ key.now) × (sight.seen.upto ≡ length watcher.new.reader.seen) }
+    ensures right { AreRight watcher.new.reader.seen watcher.new.sights.items }
+    ensures rise { NeverFall 0 watcher.new.sights.items }
+    ensures room { vec_capacity watcher.new.sights ≡ vec_capacity watcher.old.sights }
 {
-    see(reader, key, sights);
+    see(&mut watcher.reader, key, &mut watcher.sights);
 }
 
 /// Gets keys round the list, each get behind the gate; none if there is no key.
@@ -93,14 +90,9 @@ fn watch<G: Gate>(gate: &G, watcher: &mut Watcher, keys: &[Key])
     if keys.is_empty() {
         return;
     }
-    let Watcher {
-        number,
-        reader,
-        sights,
-    } = watcher;
     for k in 0..GETS {
-        let passed = Passed::through(gate, *number, k as u32);
-        see_behind(reader, &keys[k % keys.len()], sights, *number, passed);
+        let passed = Passed::through(gate, watcher.number, k as u32);
+        see_behind(watcher, &keys[k % keys.len()], passed);
     }
 }
 

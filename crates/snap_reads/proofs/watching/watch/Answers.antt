@@ -18,5 +18,5 @@ pub returns : goal.returns
 returns g c =
     let some = not_empty c.args.keys.now c.is_empty.result c.is_empty.ensures c.if-is_empty.false in
     let all = gets_some c.args.keys.now some in
-    subst (λ n. HasWatched c.args.watcher.now.reader c.args.keys.now n (record { number = c.args.watcher.now.number; reader = c.loop-k.reader; sights = c.loop-k.sights }))
+    subst (λ n. HasWatched c.args.watcher.now.reader c.args.keys.now n c.loop-k.watcher)
     (omega (arith, all, c.loop-k-test.false, c.loop-k.auto.k-end)) c.loop-k.invariant
