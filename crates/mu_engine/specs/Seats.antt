@@ -18,7 +18,7 @@ part_of r events = part r (history events)
 abbrev pub hold_of : Seat → Hold
 hold_of seat = seat.hold
 
--- the node lives for the events of r, is plain, and no script stops it
+-- the node lives for the events of r, is eager, and no script stops it
 pub record Sits (c : Config) (r : ℕ) (events : List Event) (seat : Seat) : Type 0 where
   pub lives : LivesForNode c r (part_of r events) seat.node
   pub stops : seat.node.stops.items ≡ []
