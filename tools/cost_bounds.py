@@ -26,16 +26,16 @@ FEW_STEPS = {
     "1x1500, few steps": job(1, even(1500), budget=1000),
 }
 # Of each run the words, the input (a row of tools/measure_speed.py or one of few steps, or none), and its bound in
-# kB: less than 4 % above what it needed on 30 November 2026, so that stores of twice the size are above it. A book of
+# kB: less than 4 % above what it needed on 1 December 2026, so that stores of twice the size are above it. A book of
 # twice the size takes 2 % more of its run, so this bound is 1 % above. A change that needs more for a reason measures
 # anew, and so does one that needs less.
 RUNS = [
-    (["replay"], "7x1500", 49_900),
-    (["replay"], "3x1500", 24_100),
-    (["replay"], "7x1500, few steps", 12_900),
-    (["book"], "1x1500, few steps", 5_915),
-    (["bulk", "1500"], None, 22_900),
-    (["trace"], "7x400", 43_500),
+    (["replay"], "7x1500", 25_300),
+    (["replay"], "3x1500", 13_500),
+    (["replay"], "7x1500, few steps", 10_550),
+    (["book"], "1x1500, few steps", 5_505),
+    (["bulk", "1500"], None, 12_350),
+    (["trace"], "7x400", 20_500),
     (["check"], "check", 77_500),
 ]
 # Two rows of which the first takes less time than the other, and how many times that it may take. If
