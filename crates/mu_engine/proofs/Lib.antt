@@ -1,9 +1,10 @@
 mod Adding
 mod Asking
-mod First
-mod Going
+pub mod First
+pub mod Going
 mod Holds
-mod Linear
+pub mod Lasting
+pub mod Linear
 mod Seating
 mod Stepping
 mod Taking

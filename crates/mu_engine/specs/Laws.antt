@@ -1,5 +1,6 @@
--- sequential, linear: the replies of a session are those of one store that takes its commands one
--- by one; and the order of its commands respects real time.
+-- sequential, linear, replies stay, replies last: the replies of a session are those of one store
+-- that takes its commands one by one; the order of its commands respects real time; and what was
+-- told of a row stays.
 use Rattle.std.specs.Prelude.{List, Some, ℕ, ◌<◌, ◌≡◌, ◌≤◌}
 use Rattle.std.specs.List.{slice_get}
 use Rattle.kv_store.specs.Commands.{Request}
@@ -70,3 +71,11 @@ RepliesStay =
     → GoesOn job events later after → r < job.config.replicas → s < later.config.replicas
     → reply_told job events r row ≡ Some first → reply_told later after s row ≡ Some second
     → first ≡ second
+
+-- and the replica that told it tells it at each later moment: so there is a reply from then on
+abbrev pub RepliesLast : Type 0
+RepliesLast =
+    (job : Job) (events : List Event) (later : Job) (after : List Event) (r row : ℕ)
+    (reply : Reply) → IsMoment job events → IsMoment later after
+    → GoesOn job events later after → reply_told job events r row ≡ Some reply
+    → reply_told later after r row ≡ Some reply

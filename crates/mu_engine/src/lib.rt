@@ -5,7 +5,7 @@
 //! are a legal list of that job at every moment. So each law of a legal list holds at every moment.
 #![tactic(auto)]
 
-ghost use Rattle.mu_engine.specs.Laws.{GoesFurther, RepliesStay, SessionsAreLinear};
+ghost use Rattle.mu_engine.specs.Laws.{GoesFurther, RepliesLast, RepliesStay, SessionsAreLinear};
 
 mod engine;
 mod growing;
@@ -34,6 +34,12 @@ pub fn sessions_are_linear()
 /// A reply that was told of a row is the one that is told of it later, by whichever replica.
 pub fn replies_stay()
     ensures { RepliesStay }
+{}
+
+/// A replica that told a reply tells it at each later moment: once there is a reply to a row, there
+/// is one from then on.
+pub fn replies_last()
+    ensures { RepliesLast }
 {}
 
 /// Of three moments of a session the last goes on from the first.

@@ -8,7 +8,7 @@ mod Diligent
 mod Failing
 pub mod Fetching
 pub mod FewRows
-mod Growing
+pub mod Growing
 pub mod HeadRaises
 mod Heads
 mod Later
