@@ -1,8 +1,7 @@
 -- A reply that was told is told at each later moment.
-use Rattle.std.proofs.Common.{◌≡◌, ◌∙◌, ℕ, suc, zero, ◌-◌, ◌==◌, Bool, true, false, List, [], ◌∷◌, ◌++◌, Some, ap, append-nil, append_assoc, drop, length, refl, subst, sym, take}
+use Rattle.std.proofs.Common.{◌≡◌, ◌∙◌, ℕ, suc, zero, ◌==◌, Bool, true, false, List, [], ◌∷◌, ◌++◌, ap, append-nil, append_assoc, drop, length, refl, subst, sym, take}
 use Rattle.std.specs.Prelude.{if◌then◌else◌}
 use Rattle.std.proofs.lemmas.List.{reverse-append, take-append-drop}
-use Rattle.kv_store.specs.declared.store.Reply.{Reply}
 use Rattle.mu_input.specs.declared.job.Job.{Job}
 use Rattle.mu_model.specs.declared.config.Config.{Config}
 use Rattle.mu_model.specs.declared.config.Row.{Row}

@@ -1,7 +1,9 @@
 mod FirstWords
 mod Going
 mod Held
+mod Linear
 mod LinesSoFar
+mod Onward
 mod Served
 mod Stops
 mod Talking

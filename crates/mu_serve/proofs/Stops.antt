@@ -2,6 +2,7 @@
 use Rattle.std.proofs.Common.{◌≡◌, List, [], Result, Ok, Err, ap, subst, ◌∙◌}
 use Rattle.std.specs.Prelude.{IfOk}
 use Rattle.mu_engine.specs.Live.{Live}
+use Rattle.mu_engine.specs.Moments.{IsMoment}
 use Rattle.mu_input.specs.declared.job.Job.{Job}
 use Rattle.mu_model.specs.declared.event.Event.{Event}
 use Rattle.mu_model.specs.declared.script.Pause.{Pause}
@@ -28,12 +29,14 @@ is_job_so_far live job stops pauses same are none =
 
 -- what an account tells of the job so far
 pub comes_to_of : {E : Type 0} (live : Live) (job : Job) (events : List Event)
-    (result : Result Account E) → job ≡ job_so_far live → events ≡ live.events
+    (result : Result Account E) → IsMoment live.job live.events → job ≡ job_so_far live
+    → events ≡ live.events
     → IfOk result (λ account. account.outcome.job ≡ job) → IfOk result (IsAccount events)
     → IfOk result (λ account. Agrees account.outcome) → IfOk result (ComesTo live)
-comes_to_of live job events (Ok account) of these is so agrees = record {
+comes_to_of live job events (Ok account) at of these is so agrees = record {
+  moment = at;
   job = is ∙ of;
   is = subst (λ l. IsAccount l account) these so;
   agrees = agrees;
 }
-comes_to_of live job events (Err e) of these is so agrees = tt
+comes_to_of live job events (Err e) at of these is so agrees = tt

@@ -3,6 +3,7 @@ use Rattle.std.specs.Prelude.{Bool, List, None, Some, [], false, length, true, â
 use Rattle.std.specs.declared.option.Option.{Option}
 use Rattle.std.specs.List.{slice_get}
 use Rattle.mu_engine.specs.Live.{Live}
+use Rattle.mu_engine.specs.Moments.{IsMoment}
 use Rattle.mu_input.specs.declared.job.Job.{Job}
 use Rattle.mu_model.specs.Histories.{history, part}
 use Rattle.mu_model.specs.declared.event.Event.{Event}
@@ -34,8 +35,10 @@ job_so_far live = record {
   script = record { stops = stops_so_far live; pauses = [] };
 }
 
--- this is what the events so far come to: logs, commits and replies, and how each replica has ended
+-- the events so far are a legal list of the commands, and this is what they come to: logs, commits
+-- and replies, and how each replica has ended
 pub record ComesTo (live : Live) (account : Account) : Type 0 where
+  pub moment : IsMoment live.job live.events
   pub job : account.outcome.job â‰¡ job_so_far live
   pub is : IsAccount live.events account
   pub agrees : Agrees account.outcome

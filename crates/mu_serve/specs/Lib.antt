@@ -1,5 +1,6 @@
 pub mod Closing
 pub mod Incoming
+pub mod Laws
 pub mod NextLines
 pub mod Serving
 pub mod SessionLines

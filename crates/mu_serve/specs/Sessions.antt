@@ -5,6 +5,7 @@ use Rattle.std.specs.List.{slice_get}
 use Rattle.kv_store.specs.declared.command.Op.{Op}
 use Rattle.kv_store.specs.declared.store.Reply.{Reply}
 use Rattle.mu_engine.specs.Live.{Live, after_round, changed_at, first_live, next_command, paused, stopped, submitted}
+use Rattle.mu_engine.specs.Moments.{IsMoment}
 use Rattle.mu_engine.specs.Telling.{TellsNow}
 use Rattle.mu_engine.specs.Rounds.{IsRound}
 use Rattle.mu_engine.specs.declared.hold.Hold.{Hold}
@@ -152,12 +153,13 @@ own_waiting own (Some reply) = []
 
 -- a command that was just submitted is served: rounds go on until there is a reply to it, and
 -- WAIT_ROUNDS at most; then the replies are told that came to earlier commands, and its own, or that
--- there is none yet
+-- there is none yet; at that moment the events are a legal list of the commands
 pub record Serves (before : Talk) (own : Waiting) (responses : List Response)
     (after : Talk) : Type 0 where
   pub reply : Option Reply
   pub known : List (Option Reply)
   pub waited : HasWaited own.row before.live after.live reply
+  pub moment : IsMoment after.live.job after.live.events
   pub are : AreKnown after.live.job after.live.events before.waiting known
   pub tells : responses ≡ told_of before.waiting known ++ own_response own reply ∷ []
   pub still : after.waiting ≡ still_of before.waiting known ++ own_waiting own reply

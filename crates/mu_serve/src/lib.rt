@@ -2,6 +2,8 @@
 //! answered before the next is read.
 #![tactic(auto)]
 
+ghost use Rattle.mu_serve.specs.Laws.{ReportsAreLinear, TalksAreLinear};
+
 mod answering;
 mod closing;
 mod incoming;
@@ -15,3 +17,15 @@ pub use serving::serve;
 
 /// The most bytes of the input of a session.
 pub const SESSION_LIMIT: usize = 1_048_576;
+
+/// Every session is linear, from any line of it to any later one: each reply that was told is that
+/// of one store that takes the commands one by one, each client's in order and once, and a command
+/// that is submitted after a reply was told stands behind that reply's.
+pub fn talks_are_linear()
+    ensures { TalksAreLinear }
+{}
+
+/// The same up to the moment of which the report of a session tells.
+pub fn reports_are_linear()
+    ensures { ReportsAreLinear }
+{}

@@ -195,6 +195,8 @@ impl Session {
         ensures { IfOk result (λ responses. Serves self.old own responses.items self.new) }
     {
         let reply = reply_in_time(&mut self.engine, own.row);
+        // The events are a legal list of the commands.
+        self.engine.events();
         let Sorted { told, still } = sorted_by_reply(
             self.alloc,
             &self.engine,

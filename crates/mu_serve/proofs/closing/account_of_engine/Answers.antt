@@ -11,7 +11,7 @@ returns-clause-comes_to c =
     let legal = subst (λ (l : List Event). IsLegal live.job.config l) (c.into_session-config.ensures.events ∙ sym same) c.into_session-config.ensures.moment.legal in
     let held = c.in_ok-walk.ensures.legal legal in
     let events = c.as_slice-2.result.now in
-    comes_to_of c.args.engine _ _ c.account_of.result
+    comes_to_of c.args.engine _ _ c.account_of.result c.events.ensures.moment
     (is_job_so_far c.args.engine live.job _ _
     c.into_session-config.ensures.job (c.from_vec.ensures ∙ c.in_ok-stops.ensures)
     (c.from_vec-2.ensures ∙ c.new.ensures.items))
