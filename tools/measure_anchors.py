@@ -1,7 +1,7 @@
 #!/usr/bin/env python3
 """Measures the built program beside plain Rust programs, and prints the tables of docs/MEASURED.md.
 
-    tools/measure_anchors.py [--program out/bin/mu] [--runs 9] [TABLES]     TABLES: one, run
+    tools/measure_anchors.py [--program out/bin/mu] [--runs 9] [TABLES]     TABLES: one, many, run
 
 The plain programs are in tools/anchors, and need rustc. plain_mu is the same protocol without proofs: it has
 to write the same bytes as the built program (tools/second_program.py compares them). `keep` is its replay
@@ -15,7 +15,9 @@ take turns, so that what else the machine does meets all alike; with first rank 
 permitted. On threads the time of the threads alone stands beside it, from when the first is made until the last has
 ended, if there is a C compiler. Of the anchors without Mu's protocol it is the time that they tell themselves, from the first
 command to the last one applied; how long the others take without a command stands below their table. Above
-the tables stand the processors and the load. `one` is the table of the commands that take no threads.
+the tables stand the processors and the load. `one` is the table of the commands that take no threads. `many` has
+replays of jobs of many kinds: the instructions of an event, and the least time of a processor beside that of plain_mu,
+which keeps its events too.
 """
 import argparse
 import itertools
@@ -48,6 +50,27 @@ JOBS = (
     ("check", "`check` of the trace of `tools/long_trace.py`, 14.5 MB", ("check", "check")),
     ("broken", "the same read and not judged, since its first event isn't allowed", ("check", "read")),
 )
+
+
+# Replays of other kinds.
+MANY = {
+    **{f"a leader stopped, {commands:,}": job(5, even(commands, 5), ring=1024, stops=[(0, 500)])
+       for commands in (125, 250, 500, 1000)},
+    "three of seven stopped": job(7, even(1490, 5), 2, 1, 1024, [(0, 500), (1, 4000), (2, 9000)]),
+    **{f"{count} pauses": job(3, even(400), pauses=[(place % 3, 100 + 60 * place, 5) for place in range(count)])
+       for count in (10, 30, 100)},
+    "no majority": job(5, even(900, 5), stops=[(2, 10), (3, 10), (4, 10)]),
+    "two replicas": job(2, even(400)),
+    "four replicas": job(4, even(900)),
+    "six replicas": job(6, even(700)),
+    "long texts": job(3, even(600), line="put " + "k" * 10 + "{0:04} " + "v" * 28 + "{0:04}"),
+    "gets and swaps": job(5, even(400), line="swap a{0} v\nget b"),
+    "a ring of 8": job(5, even(500), ring=8),
+    "one command": job(7, even(1)),
+    "a leader stopped at once": job(7, even(700), ring=1024, stops=[(0, 1)]),
+    "two of five stopped, batches": job(5, even(900), 2, 4, stops=[(0, 2000), (3, 5000)]),
+    "a leader away": job(3, even(900), ring=1024, pauses=[(0, 3000, 2000)]),
+}
 
 
 def take_first_rank():
@@ -124,6 +147,36 @@ def one_thread(paths, program, count):
         print(f"| {title} | {events:,} | {' | '.join(cells)} |{end}", flush=True)
 
 
+def processor_seconds(words, given):
+    """The time of a processor that a run takes."""
+    with tempfile.TemporaryFile() as read:
+        read.write(given)
+        read.seek(0)
+        child = subprocess.Popen(words, stdin=read, stdout=subprocess.DEVNULL, stderr=subprocess.DEVNULL)
+        usage = os.wait4(child.pid, 0)[2]
+        child.returncode = 0
+        return usage.ru_utime + usage.ru_stime
+
+
+def many_kinds(paths, program, count):
+    """The table of replays of many kinds, those of `one` among them, and how the times compare in sum."""
+    told = ["job", "events", "instructions", "with events kept", "ms", "with events kept", "times"]
+    print(f"\n| {' | '.join(told)} |\n{'|---' * len(told)}|", flush=True)
+    jobs = {title: input_of(name) for name, title, words in JOBS if words == REPLAYS}
+    sums = [0, 0]
+    for title, given in {**jobs, **MANY}.items():
+        commands = [[program, "replay"], [paths["plain_mu"], "keep"]]
+        traced = subprocess.run([program, "trace"], input=given, stdout=subprocess.PIPE, check=False).stdout
+        instructions = [counted(*words, given)[0] / traced.count(b" = ") for words in commands]
+        turns = [[processor_seconds(words, given) for words in commands] for _ in range(count)]
+        least = [1000 * min(own) for own in zip(*turns)]
+        sums = [sum(both) for both in zip(sums, least)]
+        cells = [f"{instructions[0]:.0f}", f"{instructions[1]:.0f}", f"{least[0]:.1f}", f"{least[1]:.1f}",
+                 f"{least[0] / least[1]:.2f}"]
+        print(f"| {title} | {traced.count(b' = '):,} | {' | '.join(cells)} |", flush=True)
+    print(f"\nin sum {sums[0] / sums[1]:.2f} times over {len(jobs) + len(MANY)} jobs", flush=True)
+
+
 def time_of_threads(runs, commands):
     """The time of a command, of the whole process and of its threads alone, which one replica has none of."""
     whole = least_and_middle([1e9 * run.seconds / commands for run in runs], ",.0f")
@@ -159,7 +212,7 @@ def threads(paths, program, count):
         print(f"without a command, {replicas} replicas: {' and '.join(times)} milliseconds", flush=True)
 
 
-TABLES = {"one": one_thread, "run": threads}
+TABLES = {"one": one_thread, "many": many_kinds, "run": threads}
 
 
 def main():

@@ -21,23 +21,26 @@ TOP = os.path.dirname(os.path.dirname(os.path.abspath(__file__)))
 RING, BUDGET = 64, 131071
 
 
-def job(replicas, shares, version=1, batch=None, ring=RING, stops=(), budget=BUDGET):
-    """A job of clients that send `put kK K`, with K counted over all commands as they come in turn.
+def job(replicas, shares, version=1, batch=None, ring=RING, stops=(), budget=BUDGET, pauses=(), line="put k{0} {0}"):
+    """A job of clients that send `put kK K`, or another line, with K counted over all commands as they come in turn.
 
-    shares has the number of commands of each client, stops the replicas that stop and after how many steps.
+    shares has the number of commands of each client, stops the replicas that stop and after how many steps, pauses
+    those that pause, after how many steps and for how many rounds.
     """
     sent = [[] for _ in shares]
     count = 0
     while any(len(own) < share for own, share in zip(sent, shares)):
         for own, share in zip(sent, shares):
             if len(own) < share:
-                own.append(f"put k{count} {count}")
+                own.append(line.format(count))
                 count += 1
     lines = [f"mu {version}", f"replicas {replicas}", f"ring {ring}", f"budget {budget}"]
     lines += [f"batch {batch}"] if batch else []
     for client, own in enumerate(sent):
         lines += [f"client {client}", *own]
-    lines += ["script", *(f"stop {replica} {steps}" for replica, steps in stops)] if stops else []
+    script = [f"stop {replica} {steps}" for replica, steps in stops]
+    script += [f"pause {replica} {steps} {rounds}" for replica, steps, rounds in pauses]
+    lines += ["script", *script] if script else []
     return "\n".join([*lines, "end", ""]).encode()
 
 
