@@ -3,4 +3,10 @@
 #![tactic(auto)]
 
 #[cfg(test)]
+mod chance;
+#[cfg(test)]
+mod playing;
+#[cfg(test)]
 mod sessions;
+#[cfg(test)]
+mod store;
