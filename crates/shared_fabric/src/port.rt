@@ -79,7 +79,7 @@ impl Port for SharedPort {
     fn ask(&mut self, p: u8) -> Answer {
         let by = self.seat.id();
         let verb = Verb::Ask(p);
-        let answer = self.seat.add(&self.words, verb);
+        let answer = self.seat.step(&self.words, verb);
         self.newest = Some(Event { by, verb, answer });
         answer
     }
@@ -108,30 +108,28 @@ fn stepped(words: &Words, seat: &mut PortSeat, verb: Verb) -> Answer
     // The verb is named in each arm, so the compiler settles its word, what it expects, its
     // answer and what is noted.
     match verb {
-        Verb::WriteRow(row, word, content) => {
-            seat.store(words, Verb::WriteRow(row, word, content))
-        }
-        Verb::RaiseFuo(p, fuo) => seat.raise(words, Verb::RaiseFuo(p, fuo)),
-        Verb::RaiseHead(head) => seat.raise(words, Verb::RaiseHead(head)),
-        Verb::Ask(p) => seat.add(words, Verb::Ask(p)),
-        Verb::Beat => seat.add(words, Verb::Beat),
-        Verb::Enter(p, target) => seat.enter(words, Verb::Enter(p, target)),
-        Verb::PutMin(p, number) => seat.put_min(words, Verb::PutMin(p, number)),
+        Verb::WriteRow(row, word, content) => seat.step(words, Verb::WriteRow(row, word, content)),
+        Verb::RaiseFuo(p, fuo) => seat.step(words, Verb::RaiseFuo(p, fuo)),
+        Verb::RaiseHead(head) => seat.step(words, Verb::RaiseHead(head)),
+        Verb::Ask(p) => seat.step(words, Verb::Ask(p)),
+        Verb::Beat => seat.step(words, Verb::Beat),
+        Verb::Enter(p, target) => seat.step(words, Verb::Enter(p, target)),
+        Verb::PutMin(p, number) => seat.step(words, Verb::PutMin(p, number)),
         Verb::PutSlot(p, position, number, value) => {
             let verb = Verb::PutSlot(p, position, number, value);
-            seat.put_slot(words, verb)
+            seat.step(words, verb)
         }
-        Verb::Close => seat.close(words, Verb::Close),
-        Verb::Drain => seat.drain(words, Verb::Drain),
-        Verb::Grant(owner) => seat.grant(words, Verb::Grant(owner)),
-        Verb::Fence(p) => seat.load(words, Verb::Fence(p)),
-        Verb::Min(p) => seat.load(words, Verb::Min(p)),
-        Verb::Look(p, position) => seat.load(words, Verb::Look(p, position)),
-        Verb::Fuo(p) => seat.load(words, Verb::Fuo(p)),
-        Verb::Head(q) => seat.load(words, Verb::Head(q)),
-        Verb::ReadBeat(q) => seat.load(words, Verb::ReadBeat(q)),
-        Verb::ReadRow(value, word) => seat.load(words, Verb::ReadRow(value, word)),
-        Verb::ReadAsk(w) => seat.load(words, Verb::ReadAsk(w)),
-        Verb::LookTarget => seat.load(words, Verb::LookTarget),
+        Verb::Close => seat.step(words, Verb::Close),
+        Verb::Drain => seat.step(words, Verb::Drain),
+        Verb::Grant(owner) => seat.step(words, Verb::Grant(owner)),
+        Verb::Fence(p) => seat.step(words, Verb::Fence(p)),
+        Verb::Min(p) => seat.step(words, Verb::Min(p)),
+        Verb::Look(p, position) => seat.step(words, Verb::Look(p, position)),
+        Verb::Fuo(p) => seat.step(words, Verb::Fuo(p)),
+        Verb::Head(q) => seat.step(words, Verb::Head(q)),
+        Verb::ReadBeat(q) => seat.step(words, Verb::ReadBeat(q)),
+        Verb::ReadRow(value, word) => seat.step(words, Verb::ReadRow(value, word)),
+        Verb::ReadAsk(w) => seat.step(words, Verb::ReadAsk(w)),
+        Verb::LookTarget => seat.step(words, Verb::LookTarget),
     }
 }

@@ -1,6 +1,5 @@
 -- What the steps of a seat ask, and what they leave.
-use Rattle.std.proofs.Common.{◌≡◌, ℕ, true, slice_index, ◌<◌, ◌==◌, List, [], ◌∷◌, sym, ap, subst, ◌∙◌, arith}
-use prog.Atomic.{either}
+use Rattle.std.proofs.Common.{◌≡◌, ℕ, slice_index, ◌<◌, List, [], ◌∷◌, sym, ap, subst, ◌∙◌, arith}
 use Rattle.atomic_table.specs.Table.{Allows, Me, carried_after}
 use Rattle.mu_model.specs.declared.config.Config.{Config}
 use Rattle.mu_model.specs.declared.event.Answer.{Answer}
@@ -14,7 +13,7 @@ use Rattle.mu_words.specs.declared.layout.Name.{Name}
 use Rattle.mu_words.specs.Finding.{expected, loaded_by, name_at, name_of}
 use Rattle.mu_words.specs.Founds.{FoundIs, IsPrepared, Notes}
 use Rattle.mu_words.specs.Places.{IsName, place_of}
-use Rattle.mu_words.specs.Steps.{VerbFits, WordFits, answer_from, exchanged, granted, is_exchange}
+use Rattle.mu_words.specs.Steps.{VerbFits, answer_from}
 use Rattle.mu_words.proofs.Fitting.{place_named, verb_fits}
 use Rattle.mu_words.proofs.Limits.{Limits, config_is_limited}
 use Rattle.mu_words.proofs.Places.{places_inside_law}
@@ -24,10 +23,11 @@ use Rattle.shared_steps.specs.declared.seat.PortSeat.TheInside as seat
 use Rattle.shared_steps.specs.declared.words.Words.TheInside as words
 use Rattle.shared_steps.specs.Insides.{IsBoard, IsPort, Seated, board_of, mine_of, port_of}
 use Rattle.shared_steps.specs.Rule.{Holds, Told, event_at, layout_of, part_in, single}
-use Rattle.shared_steps.specs.Seats.{Board, IsOf, Port, granted_to, is_store}
-use Rattle.shared_steps.proofs.Effects.{exchanges, false_true, grants}
+use Rattle.shared_steps.specs.Moves.{IsMove, left_by, told_by}
+use Rattle.shared_steps.specs.Seats.{Board, IsOf, Port}
+use Rattle.shared_steps.specs.declared.moves.Move.{Move}
+use Rattle.shared_steps.proofs.Effects.{does}
 use Rattle.shared_steps.proofs.Keeps.{Does, layout_is, steps}
-use Rattle.mu_model.specs.Steps.{is_granting_verb}
 
 -- a seat of these words, and a verb that is allowed after its part
 pub record Ready (w : words.Inside) (s : seat.Inside) (v : Verb) : Type 0 where
@@ -88,19 +88,20 @@ place_is_inside w s v i r is =
     let count = r.board.count in
     omega (arith, there, at, count)
 
--- a step that is no exchange expects nothing
-pub plain_expects_nothing : (w : words.Inside) (s : seat.Inside) (v : Verb) (r : Ready w s v) → ((c : Config) (q : ℕ) (mine : List Event) (seen : List (Event × ℕ)) → 0 ≡ expected c q mine seen v)
-    → 0 ≡ expected w.table.shared.key s.id (mine_of s) (seated w s v r).seen v
-plain_expects_nothing w s v r none = none w.table.shared.key s.id (mine_of s) (seated w s v r).seen
-
 -- what is kept of the words found tells what an exchange expects
-pub exchange_expects_kept : (w : words.Inside) (s : seat.Inside) (v : Verb) (r : Ready w s v) (x : ℕ) → ((c : Config) (mine : List Event) (seen : List (Event × ℕ)) → FoundIs c s.id s.found mine seen → IsPrepared c mine v → x ≡ expected c s.id mine seen v)
+pub expects_kept : (w : words.Inside) (s : seat.Inside) (v : Verb) (r : Ready w s v) (x : ℕ) → ((c : Config) (mine : List Event) (seen : List (Event × ℕ)) → FoundIs c s.id s.found mine seen → IsPrepared c mine v → x ≡ expected c s.id mine seen v)
     → x ≡ expected w.table.shared.key s.id (mine_of s) (seated w s v r).seen v
-exchange_expects_kept w s v r x tells = tells w.table.shared.key (mine_of s) (seated w s v r).seen (seated w s v r).found_is (prepared w s v r)
+expects_kept w s v r x tells = tells w.table.shared.key (mine_of s) (seated w s v r).seen (seated w s v r).found_is (prepared w s v r)
 
-store_told : (v : Verb) → is_store v ≡ true → (me : Me (Unit {0}) View) (n new : ℕ) (after : Me (Unit {0}) View) → Told v me n after → Told v me new after
-store_told (Verb.WriteRow j k x) h me n new after told = λ c r mine seen is. let g = told c r mine seen is in record { is = g.is; possible = g.possible }
-store_told v h me n new after told = absurd (false_true h)
+-- what a step of the verb tells, by the word that its move tells
+told_as : (ring grant : ℕ) (v : Verb) (x : ℕ) (m : Move) → IsMove ring grant v x m → (me : Me (Unit {0}) View) (n : ℕ) (after : Me (Unit {0}) View) → Told v me n after → Told v me (told_by m n) after
+told_as ring grant (Verb.WriteRow j k y) x m is me n after told =
+    subst (λ o. Told (Verb.WriteRow j k y) me (told_by o n) after) (sym is) (λ c r mine seen so. let g = told c r mine seen so in record { is = g.is; possible = g.possible })
+told_as ring grant (Verb.Enter p t) x m is me n after told = subst (λ o. Told (Verb.Enter p t) me (told_by o n) after) (sym is.1) told
+told_as ring grant (Verb.PutMin p b) x m is me n after told = subst (λ o. Told (Verb.PutMin p b) me (told_by o n) after) (sym is.1) told
+told_as ring grant (Verb.PutSlot p i b v) x m is me n after told = subst (λ o. Told (Verb.PutSlot p i b v) me (told_by o n) after) (sym is.1) told
+told_as ring grant Verb.Drain x m is me n after told = subst (λ o. Told Verb.Drain me (told_by o n) after) (sym is.1) told
+told_as ring grant v x m is me n after told = subst (λ o. Told v me (told_by o n) after) (sym is) told
 
 -- what `steps` asks, at the seat as the port has it
 pub allows : (w : words.Inside) (s : seat.Inside) (v : Verb) (i : ℕ) (f : ℕ → ℕ) → (r : Ready w s v) → i ≡ place_of w.layout (name_at w.layout.ring s.id s.found.close_target v)
@@ -112,35 +113,17 @@ allows w s v i f r is does =
     subst (λ (k : ℕ × Me (Unit {0}) View). Allows (Holds key) k.0 s.seat.id k.1 i f (Told v k.1)) (λ j. ((sym r.board.slots) j, (sym now.is_single) j))
     (steps key s.seat.id s.id (mine_of s) now.seen v i f (place_is w s v i r is) r.allowed does)
 
--- the same if what the step does rests only on the verb
-pub allows_plain : (w : words.Inside) (s : seat.Inside) (v : Verb) (i : ℕ) (f : ℕ → ℕ) → Ready w s v → i ≡ place_of w.layout (name_at w.layout.ring s.id s.found.close_target v)
-    → ((c : Config) (q : ℕ) (mine : List Event) (seen : List (Event × ℕ)) → Does c q mine seen v f)
-    → Allows (Holds w.table.shared.key) w.table.shared.table_id.slots s.seat.id s.seat.me i f (Told v s.seat.me)
-allows_plain w s v i f r is does = allows w s v i f r is (does w.table.shared.key s.id (mine_of s) (seated w s v r).seen)
-
--- the same for a store, which tells of the word that it writes
-pub allows_store : (w : words.Inside) (s : seat.Inside) (v : Verb) (i new : ℕ) → is_store v ≡ true → Ready w s v → i ≡ place_of w.layout (name_at w.layout.ring s.id s.found.close_target v)
-    → ((c : Config) (q : ℕ) (mine : List Event) (seen : List (Event × ℕ)) → Does c q mine seen v (λ n. new))
-    → Allows (Holds w.table.shared.key) w.table.shared.table_id.slots s.seat.id s.seat.me i (λ n. new) (λ n. Told v s.seat.me new)
-allows_store w s v i new h r is does t held slots at bound =
-    let k = allows_plain w s v i (λ n. new) r is does t held slots at bound in
-    (k.0, k.1, k.2, k.3, store_told v h s.seat.me (slice_index t.words i) new (k.0, carried_after s.seat.me.1 k.1) k.4)
-
--- the same for an exchange, which expects what is kept
-pub allows_exchange : (w : words.Inside) (s : seat.Inside) (v : Verb) (i x new : ℕ) → is_exchange v ≡ true → Ready w s v → i ≡ place_of w.layout (name_at w.layout.ring s.id s.found.close_target v)
+-- the same of the move of the verb, if what is kept of the words found tells what it expects
+pub allows_move : (w : words.Inside) (s : seat.Inside) (v : Verb) (i x : ℕ) (m : Move) → Ready w s v → i ≡ place_of w.layout (name_at w.layout.ring s.id s.found.close_target v)
     → ((c : Config) (mine : List Event) (seen : List (Event × ℕ)) → FoundIs c s.id s.found mine seen → IsPrepared c mine v → x ≡ expected c s.id mine seen v)
-    → (WordFits v x → new ≡ exchanged w.layout.ring v x)
-    → Allows (Holds w.table.shared.key) w.table.shared.table_id.slots s.seat.id s.seat.me i (λ n. either (n == x) new n) (Told v s.seat.me)
-allows_exchange w s v i x new h r is tells makes =
-    allows w s v i (λ n. either (n == x) new n) r is
-    (exchanges v x new h w.table.shared.key s.id (mine_of s) (seated w s v r).seen (λ fits. makes fits ∙ (λ j. exchanged ((r.board.layout j).ring) v x)) (exchange_expects_kept w s v r x tells))
-
--- the same for a grant, which counts on from the grant that the last `Close` found
-pub allows_grant : (w : words.Inside) (s : seat.Inside) (v : Verb) (i new : ℕ) → is_granting_verb v ≡ true → Ready w s v → i ≡ place_of w.layout (name_at w.layout.ring s.id s.found.close_target v) → new ≡ granted s.found.close_grant (granted_to v)
-    → Allows (Holds w.table.shared.key) w.table.shared.table_id.slots s.seat.id s.seat.me i (λ n. new) (Told v s.seat.me)
-allows_grant w s v i new h r is next =
+    → IsMove w.layout.ring s.found.close_grant v x m
+    → Allows (Holds w.table.shared.key) w.table.shared.table_id.slots s.seat.id s.seat.me i (left_by m) (λ n. Told v s.seat.me (told_by m n))
+allows_move w s v i x m r is tells makes t held slots at bound =
+    let key = w.table.shared.key in
     let now = seated w s v r in
-    allows w s v i (λ n. new) r is (grants v new h w.table.shared.key s.id (mine_of s) now.seen r.board.is_config r.allowed (next ∙ ap (λ g. granted g (granted_to v)) now.found_is.close_grant))
+    let here = subst (λ (k : ℕ × ℕ). IsMove k.0 k.1 v x m) (λ j. ((r.board.layout j).ring, now.found_is.close_grant j)) makes in
+    let k = allows w s v i (left_by m) r is (does key s.id (mine_of s) now.seen v x m r.board.is_config r.allowed (expects_kept w s v r x tells) here) t held slots at bound in
+    (k.0, k.1, k.2, k.3, told_as _ _ v x m makes s.seat.me (slice_index t.words i) (k.0, carried_after s.seat.me.1 k.1) k.4)
 
 -- a seat s that made the step of v, expected x, found n and answered a, is s' now
 pub record Made (w : words.Inside) (s : seat.Inside) (v : Verb) (r : Ready w s v) (s' : seat.Inside) (n x : ℕ) (a : Answer) : Type 0 where

@@ -1,4 +1,5 @@
 pub mod Rule
 pub mod Insides
+pub mod Moves
 pub mod Opening
 pub mod Seats

@@ -1,6 +1,5 @@
--- board, port, root, kinds of steps: the words and the seats as contracts see them, and which verbs
--- each call is for.
-use Rattle.std.specs.Prelude.{Bool, List, Some, false, true, ℕ, ◌∷◌, ◌≡◌}
+-- board, port, root: the words and the seats as contracts see them.
+use Rattle.std.specs.Prelude.{List, Some, ℕ, ◌∷◌, ◌≡◌}
 use Rattle.std.specs.declared.option.Option.{Option}
 use Rattle.atomic_table.specs.Seated.{TableId}
 use Rattle.mu_model.specs.declared.config.Config.{Config}
@@ -46,56 +45,3 @@ opening_root t c = record { table = t; config = Some c; entries = empty_entries 
 pub record IsRootOf (b : Board) (s : Root) : Type 0 where
   pub table : s.table ≡ b.table
   pub config : s.config ≡ Some b.key
-
--- the step stores a word
-abbrev pub is_store : Verb → Bool
-is_store (Verb.WriteRow j k x) = true
-is_store _ = false
-
--- the word that it stores
-abbrev pub stored : Verb → ℕ
-stored (Verb.WriteRow j k x) = x
-stored _ = 0
-
--- the step raises a word
-abbrev pub is_raise : Verb → Bool
-is_raise (Verb.RaiseFuo p u) = true
-is_raise (Verb.RaiseHead h) = true
-is_raise _ = false
-
--- the least that the word is after it
-abbrev pub raised_to : Verb → ℕ
-raised_to (Verb.RaiseFuo p u) = u
-raised_to (Verb.RaiseHead h) = h
-raised_to _ = 0
-
--- the step adds 1 to a word
-abbrev pub is_add : Verb → Bool
-is_add (Verb.Ask p) = true
-is_add Verb.Beat = true
-is_add _ = false
-
--- the step exchanges a fence
-abbrev pub is_enter : Verb → Bool
-is_enter (Verb.Enter p t) = true
-is_enter _ = false
-
--- the step exchanges a minimum
-abbrev pub is_put_min : Verb → Bool
-is_put_min (Verb.PutMin p b) = true
-is_put_min _ = false
-
--- the step sets a bit of the replica's own fence
-abbrev pub is_close : Verb → Bool
-is_close Verb.Close = true
-is_close _ = false
-
--- the step exchanges the word that was looked at for the same with the next stamp
-abbrev pub is_drain : Verb → Bool
-is_drain Verb.Drain = true
-is_drain _ = false
-
--- the replica to which it grants
-abbrev pub granted_to : Verb → ℕ
-granted_to (Verb.Grant w) = w
-granted_to _ = 0

@@ -1,13 +1,14 @@
-//! One atomic step each, which tells of the verb that it is for.
-ghost use Rattle.std.specs.Prelude.{[], max, ◌%◌, ◌+◌, ◌<◌, ◌==◌, ◌^◌, ◌≡◌};
-ghost use Rattle.std.specs.Int.Bits.{bit_or};
-ghost use prog.Atomic.{either};
+//! One atomic step, which tells of the verb that it is for.
+ghost use Rattle.std.specs.Prelude.{[], ◌<◌, ◌≡◌};
 ghost use Rattle.atomic_table.specs.Table.{Allows, Splits};
+ghost use Rattle.mu_words.specs.Steps.{VerbFits};
+ghost use Rattle.shared_steps.specs.Moves.{IsMove, left_by, told_by};
 ghost use Rattle.shared_steps.specs.Rule.{Holds, Told, only_view, without_view};
 
 use crate::rule::{Cut, NamesReplica, NamesVerb, OneListRule, VerbStep, View};
 use atomic_table::{Seat, Shared};
 use mu_model::{Config, Verb};
+use mu_words::{CLOSING, Found, Layout};
 
 /// The words of all replicas, under the rule.
 pub(crate) type Board = Shared<(), View, Config, OneListRule>;
@@ -15,126 +16,83 @@ pub(crate) type Board = Shared<(), View, Config, OneListRule>;
 /// The seat of a thread, with what it knows.
 pub(crate) type ViewSeat = Seat<(), View>;
 
-/// Loads the word.
-pub(crate) fn load<N: NamesVerb>(board: &Board, seat: &mut ViewSeat, word: usize, verb: Verb) -> u64
-    requires named { verb ≡ N.verb }
-    requires fits { seat.old.table_id ≡ board.now.table_id }
-    requires inside { word < board.now.table_id.words }
-    requires rule { Allows (Holds board.now.key) board.now.table_id.slots seat.old.id seat.old.me
-        word (λ n. n) (Told verb seat.old.me) }
-    ensures same { (seat.new.table_id ≡ seat.old.table_id) × (seat.new.id ≡ seat.old.id) }
-    ensures grown { Told verb seat.old.me result seat.new.me }
-{
-    board.load::<VerbStep<N>>(seat, word)
+/// What an atomic step does to its word.
+#[derive(Clone, Copy)]
+pub(crate) enum Move {
+    /// Loads it.
+    Load,
+    /// Stores this one.
+    Store(u64),
+    /// Raises it to this number, unless it is greater.
+    Raise(u64),
+    /// Adds 1 to it.
+    Add,
+    /// Sets these bits of it.
+    SetBits(u64),
+    /// Puts the second in its place, if it still is the first. It is tried once.
+    Exchange(u64, u64),
+    /// Puts this one in its place.
+    Swap(u64),
 }
 
-/// Stores a word.
-pub(crate) fn store<N: NamesVerb>(
+/// What the step of the verb does, whose exchange expects this word.
+#[inline(always)]
+pub(crate) fn move_of(layout: &Layout, found: &Found, verb: &Verb, expected: u64) -> Move
+    requires ring { 0 < layout.now.ring }
+    requires fields { VerbFits layout.now.ring verb.now }
+    ensures { IsMove layout.now.ring found.now.close_grant verb.now expected result }
+{
+    match *verb {
+        Verb::WriteRow(_, _, content) => Move::Store(content),
+        Verb::RaiseFuo(_, fuo) => Move::Raise(u64::from(fuo)),
+        Verb::RaiseHead(head) => Move::Raise(u64::from(head)),
+        Verb::Ask(_) | Verb::Beat => Move::Add,
+        Verb::Close => Move::SetBits(CLOSING),
+        Verb::Grant(owner) => Move::Swap(layout.granted(found.close_grant(), owner)),
+        Verb::Enter(_, _) | Verb::PutMin(_, _) | Verb::PutSlot(_, _, _, _) | Verb::Drain => {
+            Move::Exchange(expected, layout.exchanged(verb, expected))
+        }
+        Verb::Fence(_)
+        | Verb::Min(_)
+        | Verb::Look(_, _)
+        | Verb::Fuo(_)
+        | Verb::Head(_)
+        | Verb::ReadBeat(_)
+        | Verb::ReadRow(_, _)
+        | Verb::ReadAsk(_)
+        | Verb::LookTarget => Move::Load,
+    }
+}
+
+/// Makes the step. Gives the word that it found, but of a store the word that it stored.
+#[inline(always)]
+pub(crate) fn make<N: NamesVerb>(
     board: &Board,
     seat: &mut ViewSeat,
     word: usize,
-    new: u64,
-    verb: Verb,
-)
-    requires named { verb ≡ N.verb }
-    requires fits { seat.old.table_id ≡ board.now.table_id }
-    requires inside { word < board.now.table_id.words }
-    requires rule { Allows (Holds board.now.key) board.now.table_id.slots seat.old.id seat.old.me
-        word (λ _. new) (λ _. Told verb seat.old.me new) }
-    ensures same { (seat.new.table_id ≡ seat.old.table_id) × (seat.new.id ≡ seat.old.id) }
-    ensures grown { Told verb seat.old.me new seat.new.me }
-{
-    board.store::<VerbStep<N>>(seat, word, new)
-}
-
-/// Raises the word to a number, unless it is greater.
-pub(crate) fn raise<N: NamesVerb>(
-    board: &Board,
-    seat: &mut ViewSeat,
-    word: usize,
-    least: u64,
-    verb: Verb,
-) -> u64
-    requires named { verb ≡ N.verb }
-    requires fits { seat.old.table_id ≡ board.now.table_id }
-    requires inside { word < board.now.table_id.words }
-    requires rule { Allows (Holds board.now.key) board.now.table_id.slots seat.old.id seat.old.me
-        word (λ n. max n least) (Told verb seat.old.me) }
-    ensures same { (seat.new.table_id ≡ seat.old.table_id) × (seat.new.id ≡ seat.old.id) }
-    ensures grown { Told verb seat.old.me result seat.new.me }
-{
-    board.fetch_max::<VerbStep<N>>(seat, word, least)
-}
-
-/// Adds 1 to the word.
-pub(crate) fn add<N: NamesVerb>(board: &Board, seat: &mut ViewSeat, word: usize, verb: Verb) -> u64
-    requires named { verb ≡ N.verb }
-    requires fits { seat.old.table_id ≡ board.now.table_id }
-    requires inside { word < board.now.table_id.words }
-    requires rule { Allows (Holds board.now.key) board.now.table_id.slots seat.old.id seat.old.me
-        word (λ n. (n + 1) % 2 ^ 64) (Told verb seat.old.me) }
-    ensures same { (seat.new.table_id ≡ seat.old.table_id) × (seat.new.id ≡ seat.old.id) }
-    ensures grown { Told verb seat.old.me result seat.new.me }
-{
-    board.fetch_add::<VerbStep<N>>(seat, word, 1)
-}
-
-/// Exchanges the old word for the new one, if it still is the old one. It is tried once.
-pub(crate) fn exchange<N: NamesVerb>(
-    board: &Board,
-    seat: &mut ViewSeat,
-    word: usize,
-    old: u64,
-    new: u64,
+    step: Move,
     verb: Verb,
 ) -> u64
     requires named { verb ≡ N.verb }
     requires fits { seat.old.table_id ≡ board.now.table_id }
     requires inside { word < board.now.table_id.words }
     requires rule { Allows (Holds board.now.key) board.now.table_id.slots seat.old.id seat.old.me
-        word (λ n. either (n == old) new n) (Told verb seat.old.me) }
+        word (left_by step) (λ n. Told verb seat.old.me (told_by step n)) }
     ensures same { (seat.new.table_id ≡ seat.old.table_id) × (seat.new.id ≡ seat.old.id) }
     ensures grown { Told verb seat.old.me result seat.new.me }
 {
-    board.compare_exchange::<VerbStep<N>>(seat, word, old, new)
-}
-
-/// Sets bits of the word.
-pub(crate) fn set_bits<N: NamesVerb>(
-    board: &Board,
-    seat: &mut ViewSeat,
-    word: usize,
-    bits: u64,
-    verb: Verb,
-) -> u64
-    requires named { verb ≡ N.verb }
-    requires fits { seat.old.table_id ≡ board.now.table_id }
-    requires inside { word < board.now.table_id.words }
-    requires rule { Allows (Holds board.now.key) board.now.table_id.slots seat.old.id seat.old.me
-        word (λ n. bit_or n bits) (Told verb seat.old.me) }
-    ensures same { (seat.new.table_id ≡ seat.old.table_id) × (seat.new.id ≡ seat.old.id) }
-    ensures grown { Told verb seat.old.me result seat.new.me }
-{
-    board.fetch_or::<VerbStep<N>>(seat, word, bits)
-}
-
-/// Swaps the word for another.
-pub(crate) fn swap<N: NamesVerb>(
-    board: &Board,
-    seat: &mut ViewSeat,
-    word: usize,
-    new: u64,
-    verb: Verb,
-) -> u64
-    requires named { verb ≡ N.verb }
-    requires fits { seat.old.table_id ≡ board.now.table_id }
-    requires inside { word < board.now.table_id.words }
-    requires rule { Allows (Holds board.now.key) board.now.table_id.slots seat.old.id seat.old.me
-        word (λ _. new) (Told verb seat.old.me) }
-    ensures same { (seat.new.table_id ≡ seat.old.table_id) × (seat.new.id ≡ seat.old.id) }
-    ensures grown { Told verb seat.old.me result seat.new.me }
-{
-    board.swap::<VerbStep<N>>(seat, word, new)
+    match step {
+        Move::Load => board.load::<VerbStep<N>>(seat, word),
+        Move::Store(new) => {
+            board.store::<VerbStep<N>>(seat, word, new);
+            new
+        }
+        Move::Raise(least) => board.fetch_max::<VerbStep<N>>(seat, word, least),
+        Move::Add => board.fetch_add::<VerbStep<N>>(seat, word, 1),
+        Move::SetBits(bits) => board.fetch_or::<VerbStep<N>>(seat, word, bits),
+        Move::Exchange(old, new) => board.compare_exchange::<VerbStep<N>>(seat, word, old, new),
+        Move::Swap(new) => board.swap::<VerbStep<N>>(seat, word, new),
+    }
 }
 
 /// Cuts off a seat with the entry of one replica.
