@@ -40,7 +40,7 @@ MOST_WORDS = {
     "docs/AGREEMENT.md": 1_300,
     "docs/ALIVE.md": 2_900,
     "docs/DECISIONS.md": 2_280,
-    "docs/ENGINE.md": 1_180,
+    "docs/ENGINE.md": 1_260,
     "docs/FORMATS.md": 3_860,
     "docs/MEASURED.md": 1_800,
     "docs/PACE.md": 1_750,
