@@ -7,7 +7,13 @@ import subprocess
 # The statuses of c/mu.h.
 DONE, USAGE, REFUSED, UNFINISHED, FULL, STOPPED, MIXED = 0, 1, 2, 3, 9, 10, 11
 REPLIES = {b"done": 1, b"value": 2, b"none": 3, b"kept": 4}
-BUDGET, COMMANDS, WAITS = 60_000, 24, 400
+BUDGET, COMMANDS, MOST_PAUSE = 60_000, 24, 3_000
+# For how many rounds replies are waited for, and after how many it is mostly looked for them.
+MOST_ROUNDS, ROUNDS = 20_000, 50
+# The rings: the smallest, and one that has room for all commands and two marks of each replica.
+SMALL, LARGE = 8, 64
+# After such a pause of replica 0, right at first, a region goes astray: so many replicas, and for how many rounds.
+ASTRAY = [(3, 1_050), (5, 1_000)]
 BAD_LINES = [b"", b"get", b"put a", b"get a b", b"PUT a 5", b"put  a 5", b"cas a " + b"x" * 33 + b" y", b"get " + b"k" * 25]
 
 
@@ -122,9 +128,11 @@ def some_command(chance):
 class Session:
     """One session: what was submitted, and what the replies have to be."""
 
-    def __init__(self, tried, engine, name, chance):
+    def __init__(self, tried, engine, name, chance, replicas, ring):
         self.tried, self.engine, self.name, self.chance = tried, engine, name, chance
-        self.replicas, self.stopped, self.lines, self.clients = chance.choice([1, 3, 3, 5]), set(), [], []
+        self.replicas, self.ring, self.stopped, self.disturbed = replicas, ring, set(), set()
+        # The commands, their clients, and how many of the first ones have their replies.
+        self.lines, self.clients, self.replied = [], [], 0
 
     def expect(self, what, found, wanted):
         self.tried.expect(f"{self.name}: {what}", found, wanted)
@@ -140,16 +148,25 @@ class Session:
         for replica in self.stopped:
             self.expect("a stopped replica", (engine.stop(replica), engine.pause(replica, 3)), (STOPPED, STOPPED))
 
+    def are_few(self, replicas):
+        return 2 * len(replicas) < self.replicas
+
+    def may_disturb(self, replica):
+        """In a small ring fewer than half of the replicas stop or pause: one that is away for long is marked as gone,
+        and then it is as good as stopped."""
+        return replica not in self.stopped and (self.ring == LARGE or self.are_few(self.disturbed | {replica}))
+
     def disturb(self):
         """Stops a replica, as long as a majority stays, or pauses one."""
         replica = self.chance.randrange(self.replicas)
-        if replica in self.stopped:
+        if not self.may_disturb(replica):
             return
-        if self.chance.random() < 0.4 and 2 * (len(self.stopped) + 1) < self.replicas:
+        self.disturbed.add(replica)
+        if self.chance.random() < 0.4 and self.are_few(self.stopped | {replica}):
             self.expect("a stop", self.engine.stop(replica), DONE)
             self.stopped.add(replica)
         else:
-            self.expect("a pause", self.engine.pause(replica, self.chance.randrange(200)), DONE)
+            self.expect("a pause", self.engine.pause(replica, self.chance.randint(0, MOST_PAUSE)), DONE)
 
     def submit(self, client):
         line = some_command(self.chance)
@@ -157,12 +174,14 @@ class Session:
         self.lines.append(line)
         self.clients.append(client)
 
-    def answered(self):
+    def answered(self, rounds=ROUNDS):
         """Whether each row has its reply, after rounds for these."""
-        for _ in range(WAITS):
-            if all(self.engine.reply(row)[0] == DONE for row in range(len(self.lines))):
+        for _ in range(MOST_ROUNDS // rounds):
+            while self.replied < len(self.lines) and self.engine.reply(self.replied)[0] == DONE:
+                self.replied += 1
+            if self.replied == len(self.lines):
                 return True
-            self.engine.rounds(50)
+            self.engine.rounds(rounds)
         return False
 
     def judged(self, library):
@@ -179,10 +198,22 @@ class Session:
             if status != UNFINISHED:
                 self.expect(f"the reply to {line}", (status, which, found), (DONE, REPLIES[kind], text))
 
+    def begin(self):
+        self.expect("an engine", self.engine.new(self.replicas, self.ring, BUDGET, COMMANDS), DONE)
+
+    def end(self, library):
+        """The last commands get their replies, the list is legal, and then there is no engine."""
+        self.expect("too many", self.engine.submit(0, b"get a"), (FULL, 0))
+        self.expect("each reply", self.answered(), True)
+        self.judged(library)
+        self.expect("let go", self.engine.free(), DONE)
+        self.expect("no engine", (self.engine.rounds(1), self.engine.submit(0, b"get a"), self.engine.stop(0)), (USAGE, (USAGE, 0), USAGE))
+        self.expect("no engine that tells", (self.engine.reply(0), self.engine.trace()), ((USAGE, 0, b""), (USAGE, b"")))
+
     def run(self, library, clients):
         """Commands of one client come in bursts; those of several wait for each reply, so that a store
         takes them in the order in which they came."""
-        self.expect("an engine", self.engine.new(self.replicas, self.chance.choice([8, 64]), BUDGET, COMMANDS), DONE)
+        self.begin()
         while len(self.lines) < COMMANDS:
             self.submit(self.chance.randrange(clients))
             if clients > 1:
@@ -195,18 +226,27 @@ class Session:
                 self.refusals()
             if self.chance.random() < 0.15:
                 self.judged(library)
-        self.expect("too many", self.engine.submit(0, b"get a"), (FULL, 0))
-        self.expect("each reply", self.answered(), True)
-        self.judged(library)
-        self.expect("let go", self.engine.free(), DONE)
-        self.expect("no engine", (self.engine.rounds(1), self.engine.submit(0, b"get a"), self.engine.stop(0)), (USAGE, (USAGE, 0), USAGE))
-        self.expect("no engine that tells", (self.engine.reply(0), self.engine.trace()), ((USAGE, 0, b""), (USAGE, b"")))
+        self.end(library)
+
+    def run_after_pause(self, library, rounds):
+        """Replica 0 pauses at first; each command is submitted as soon as the one before has its reply."""
+        self.begin()
+        self.expect("a pause", self.engine.pause(0, rounds), DONE)
+        while len(self.lines) < COMMANDS:
+            self.submit(0)
+            self.expect("a reply", self.answered(1), True)
+        self.end(library)
 
 
 def try_sessions(tried, library, engines, count):
-    """As many sessions in each language, and the same ones."""
+    """As many sessions in each language, and the same ones; and those after a pause."""
     for language, make in engines:
         engine = make()
         for seed in range(count):
-            Session(tried, engine, f"session {seed} in {language}", random.Random(seed)).run(library, 1 + 2 * (seed % 2))
+            chance = random.Random(seed)
+            shape = chance.choice([1, 3, 3, 5]), chance.choice([SMALL, LARGE])
+            Session(tried, engine, f"session {seed} in {language}", chance, *shape).run(library, 1 + 2 * (seed % 2))
+        for replicas, rounds in ASTRAY:
+            name = f"{replicas} replicas after a pause in {language}"
+            Session(tried, engine, name, random.Random(rounds), replicas, SMALL).run_after_pause(library, rounds)
         tried.expect(f"the end in {language}", engine.end(), 0)

@@ -74,6 +74,9 @@ WRONG_ANSWERS = [
     ("1 1.1 get a\n2 1.2 del a\n", "1 1.2 del a\n2 1.1 get a\n"), ("2 1.2 del a", "2 1.2 del b"), ("2 1.2 del a\n", ""),
     ("replies 3\n0.1 done", "replies 3\n0.1 none"), ("status 0", "status 3"), ("report 2", "report 1"),
 ]
+# What stands there of replica 1, and how it looks if that one stays behind.
+BEHIND = ("log 1 entries 3 commits 0 finished\n0 0.1 put a 5\n1 1.1 get a\n2 1.2 del a\n",
+          "log 1 entries 2 commits 0 running\n0 0.1 put a 5\n1 1.1 get a\n")
 # A program that answers each line at once, and one that answers only at the end of its input.
 LINE_ANSWERER = "#!/bin/sh\nwhile read -r line; do echo done; done\necho status 0\n"
 END_ANSWERER = "#!/bin/sh\ncat | sed 's/.*/done/'\necho status 0\n"
@@ -244,7 +247,8 @@ def tells_reports():
 
 
 def tells_sessions():
-    """Each line has its answer, the report is of these, and each line is answered before the next is given."""
+    """Each line has its answer, the report is of these, after enough quiet lines no replica stays behind, and each line
+    is answered before the next is given."""
     def accepts_session(answers, status=0):
         try:
             serve_sessions.check(3, LINES, answers.splitlines(), status)
@@ -255,6 +259,13 @@ def tells_sessions():
     yield accepts_session(ANSWERS) and not accepts_session(ANSWERS, 3)
     for old, new in WRONG_ANSWERS:
         yield old in ANSWERS and not accepts_session(ANSWERS.replace(old, new, 1))
+    behind = ANSWERS.replace(*BEHIND)
+    yield behind != ANSWERS and accepts_session(behind)
+    with mock.patch.object(serve_sessions, "QUIET", 1):
+        yield accepts_session(ANSWERS) and not accepts_session(behind)
+        yield accepts_session(behind.replace("running", "outrun 1 1"))
+    with mock.patch.object(serve_sessions, "QUIET", 2):
+        yield accepts_session(behind)
     case = trying.Case("a talk", [], b"one\ntwo\n", b"done\ndone\nstatus 0\n", 0)
     other = trying.Case("another", [], b"one\n", b"no\nstatus 0\n", 0)
     with tempfile.TemporaryDirectory() as room, mock.patch.object(talks, "MOST_SECONDS", 1):

@@ -30,6 +30,9 @@ REPLICAS, COMMANDS = 3, 6
 # Jobs of which the whole run is long: seven replicas and the most commands of four clients, and how many steps each
 # replica makes then, as an independent program counts them.
 LARGEST_REPLICAS, LARGEST_CLIENTS, LARGEST_STEPS = 7, 4, 120_887
+# Sessions in which a region goes astray: how many replicas, for how many rounds the first one pauses, and how many commands
+# follow, more than the ring of a session has places.
+ASTRAY_SESSIONS = [(5, 1_000, 1_034), (3, 1_076, 1_045)]
 REFUSED, UNFINISHED, TOO_LONG = 2, 3, 8
 
 
@@ -111,6 +114,15 @@ def fullest_session():
                                 replies + b"refused line %d cause 9\nreport 2\n" % (MOST_COMMANDS + 1), 0)
 
 
+def astray_sessions():
+    """Sessions in which the first replica pauses before any command: each command is answered."""
+    for replicas, rounds, commands in ASTRAY_SESSIONS:
+        lines = b"pause 0 %d\n" % rounds + b"".join(b"put b %d\n" % number for number in range(commands))
+        replies = b"".join(b"0.%d done\n" % number for number in range(1, commands + 1))
+        yield trying.BeginningCase(f"a pause of {rounds} rounds before {commands} commands", ["serve", str(replicas)], lines,
+                                   b"replica 0 pauses for %d rounds\n" % rounds + replies + b"report 2\n", 0)
+
+
 class LargestCase(trying.Case):
     """The trace of the largest job: how many steps each replica made."""
 
@@ -127,12 +139,12 @@ class LargestCase(trying.Case):
 
 
 def made_cases():
-    """All but the largest job and the fullest session, which take a minute each without the proved program."""
+    """All but the largest job and the longest sessions, which take up to a minute each without the proved program."""
     return [*prefixes(), *at_limits(), *stops()]
 
 
 def main():
-    return trying.run_or_write(sys.argv[1:], [*made_cases(), fullest_session(), LargestCase()], "made")
+    return trying.run_or_write(sys.argv[1:], [*made_cases(), fullest_session(), *astray_sessions(), LargestCase()], "made")
 
 
 if __name__ == "__main__":

@@ -3,15 +3,17 @@
 
     tools/serve_sessions.py [COUNT [SEED]]    100 sessions if no number is given; the last line is `N passed, M failed`
 
-A session has one to seven replicas, clients that take turns, bad lines, pauses, and stops. Some are held line by line: the
-answer is read before the next line is written. It is checked that
+A session has one to seven replicas, clients that take turns, bad lines, pauses, and stops. At its end it may have quiet
+lines, which are commands alone: some, or more than the ring has places. Some sessions are held line by line: the answer
+is read before the next line is written. It is checked that
 
   - each line is answered, in order: a command by its reply or `no reply`, after replies that came late;
   - of any two logs of the report one is a prefix of the other, with each client's commands in order and once;
   - the replies of the report are those of a store of a few lines (tools/moments.py) over the longest log;
   - each reply that was told is the one of the report;
   - a command that was given after a reply was told stands after that reply's command in every log;
-  - if less than half of the replicas were stopped, every command is in the longest log.
+  - if less than half of the replicas were stopped or outrun, every command is in the longest log, and after enough quiet
+    lines in the log of each other replica.
 """
 import random
 import subprocess
@@ -23,12 +25,17 @@ from moments import reply_to
 from programs import tell
 
 SESSIONS, SEED = 100, 20
-MOST_LINES, MOST_PAUSE = 40, 300
+MOST_LINES, MOST_PAUSE = 60, 3_000
+# How many quiet lines may follow. Each takes some 50 rounds: after the fewer ones pauses are over, and who was away has
+# caught up. The more are only for so few replicas that no budget is spent by then.
+QUIET, MANY_QUIET, MOST_REPLICAS_OF_MANY = 100, 1_050, 5
 KEYS, TEXTS, CLIENTS = ["a", "b", "k1"], ["1", "2", "x"], 3
 # An answer that takes longer is none.
 ANSWER_SECONDS = 60
 # The statuses of a report.
 DONE, UNFINISHED = 0, 3
+# The ends after which a replica takes part no more.
+LOST = {"stopped", "outrun"}
 # Of so many sessions one is held line by line.
 ONE_BY_LINE = 4
 BAD_LINES = ["", "put a", "gets a", "stop 7", "pause 0 0", "client 16", "stop", "put a " + "x" * 65, "pause 0 1 2"]
@@ -49,8 +56,14 @@ def random_command(chance):
     return " ".join([kind, key, *(chance.choice(TEXTS) for _ in range(texts))])
 
 
+def quiet_lines(chance, replicas):
+    """The quiet lines of a session."""
+    counts = [0, QUIET, MANY_QUIET if replicas <= MOST_REPLICAS_OF_MANY else QUIET]
+    return [random_command(chance) for _ in range(chance.choice(counts))]
+
+
 def random_lines(chance, replicas):
-    """The lines of a session: most are commands."""
+    """The lines of a session before the quiet ones: most are commands."""
     lines, stopped = [], set()
     for _ in range(chance.randint(1, MOST_LINES)):
         draw = chance.random()
@@ -76,6 +89,8 @@ class Session:
     def __init__(self, replicas):
         self.replicas = replicas
         self.client, self.counts, self.stopped = 0, {}, set()
+        # How many commands came after the last stop or pause.
+        self.quiet = 0
         # The commands by name, those that wait, what was told, and how many commands there were when it was.
         self.commands, self.waiting, self.told, self.before = {}, [], {}, {}
         # Whether the report has every command.
@@ -94,8 +109,10 @@ class Session:
             ensure(answer == line, f"{answer!r} to {line!r}")
         elif words[0] == "stop":
             self.stopped.add(int(words[1]))
+            self.quiet = 0
             ensure(answer == f"replica {words[1]} stops", f"{answer!r} to {line!r}")
         elif words[0] == "pause":
+            self.quiet = 0
             ensure(answer == f"replica {words[1]} pauses for {words[2]} rounds", f"{answer!r} to {line!r}")
         else:
             return self.takes_reply(line, answer)
@@ -108,6 +125,7 @@ class Session:
         if is_own:
             self.counts[self.client] = self.counts.get(self.client, 0) + 1
             self.commands[name] = line
+            self.quiet += 1
         else:
             self.waiting.remove(name)
         if is_own and reply == "no reply":
@@ -120,8 +138,9 @@ class Session:
 
     def check_report(self, lines):
         """The report at the end, in which every replica has its log."""
-        logs, stopped, replies = read_report(lines)
+        logs, ends, replies = read_report(lines)
         ensure(len(logs) == self.replicas, "a log is missing")
+        stopped = {replica for replica, end in enumerate(ends) if end == "stopped"}
         ensure(stopped == self.stopped, f"{stopped} are told as stopped")
         longest = max(logs, key=len)
         for log in logs:
@@ -139,8 +158,10 @@ class Session:
         ensure(all(found.get(name) == reply for name, reply in self.told.items()), "another reply than was told")
         self.check_order(names)
         self.is_done = len(names) == len(self.commands)
-        if 2 * len(self.stopped) < self.replicas:
+        going = [log for log, end in zip(logs, ends) if end not in LOST]
+        if 2 * len(going) > self.replicas:
             ensure(self.is_done, "not every command got done")
+            ensure(self.quiet < QUIET or all(log == longest for log in going), "a replica stays behind")
 
     def check_order(self, names):
         """A command that came after a reply was told stands after that reply's command."""
@@ -152,7 +173,7 @@ class Session:
 
 
 def read_report(lines):
-    """The entries of each log, the replicas that are told as stopped, and the replies."""
+    """The entries of each log, how each replica has ended, and the replies."""
     ensure(lines and lines[0] == "report 2", f"{lines[:1]} in place of a report")
     logs, ends, replies, entries = [], [], [], None
     for line in lines[1:-1]:
@@ -166,7 +187,7 @@ def read_report(lines):
         elif words[0] != "replies":
             entries.append(line if entries is replies else line.split(" ", 1)[1])
     ensure(all(count == len(them) for count, them in logs), "another number of entries")
-    return [them for _, them in logs], {replica for replica, end in enumerate(ends) if end == "stopped"}, replies
+    return [them for _, them in logs], ends, replies
 
 
 def answers_at_once(path, replicas, lines):
@@ -225,7 +246,7 @@ def tried(path, count, seed):
     for index in range(count):
         chance = random.Random(f"{seed} {index}")
         replicas = chance.randint(1, 7)
-        lines = random_lines(chance, replicas)
+        lines = random_lines(chance, replicas) + quiet_lines(chance, replicas)
         hold = answers_by_line if index % ONE_BY_LINE == 0 else answers_at_once
         try:
             check(replicas, lines, *hold(path, replicas, lines))

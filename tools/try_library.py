@@ -33,6 +33,8 @@ HEADER, ARCHIVE = os.path.join(TOP, "c"), os.path.join(TOP, "out", "libmu.a")
 NO_EVENT, NO_END, AFTER_END = b"13", b"11", b"12"
 MEMORY_BYTES = 64 << 20
 SESSIONS = 20
+# A number that has more than 32 bits, and the greatest that hasn't.
+TOO_LARGE, LARGEST = 4_294_967_296, 4_294_967_295
 # What the example of an engine has to print: its store's replies, and a stop between them.
 EXAMPLE = b"""0 put a 5 -> done
 1 get a -> value 5
@@ -88,6 +90,41 @@ def try_engines(tried, library, folder, compiler):
     tried.expect("engine.py", (run.returncode, run.stdout), (0, EXAMPLE + b"legal\n"))
     engines = [(language, lambda program=program: ByLines(program)) for language, program in in_both(folder, compiler, "sessions")]
     try_sessions(tried, library, [*engines, ("Python", lambda: ByTypes(library))], SESSIONS)
+
+
+def raised(mu_library, call, *given):
+    """What a call of the Python layer raises: a ValueError, the status of a refusal, or nothing."""
+    try:
+        call(*given)
+    except mu_library.Refused as refused:
+        return refused.status
+    except ValueError:
+        return ValueError
+    return None
+
+
+def try_python(tried, mu_library):
+    """The Python layer takes no number for another one, and waits no longer for a reply than it is told."""
+    usage = mu_library.USAGE
+    with mu_library.Engine(replicas=3, ring=8, budget=9_999, commands=3) as engine:
+        for name, call, given in [
+                ("submit", engine.submit, [0, b"get a"]), ("stop", engine.stop, [0]), ("pause", engine.pause, [0, 5]),
+                ("reply", engine.reply, [0]), ("show", mu_library.show, [b"", 0]), ("draw", mu_library.draw, [b"", 0, 0]),
+                ("Engine", mu_library.Engine, [3, 8, 9_999, 3])]:
+            for place in (k for k, value in enumerate(given) if isinstance(value, int)):
+                for value in (-1, TOO_LARGE, TOO_LARGE + given[place], -TOO_LARGE):
+                    other = [*given[:place], value, *given[place + 1:]]
+                    tried.expect(f"{name} of {other}", raised(mu_library, call, *other), ValueError)
+        for name, call, given in [("submit", engine.submit, (LARGEST, b"get a")), ("client 16", engine.submit, (16, b"get a")),
+                                  ("stop", engine.stop, (LARGEST,)), ("pause", engine.pause, (3, 5)), ("reply", engine.reply, (0,))]:
+            tried.expect(f"{name} of {given}", raised(mu_library, call, *given), usage)
+        # Nothing was taken, and nobody was stopped. A leader goes on in the regions that it was granted.
+        tried.expect("a put", engine.reply_in_time(engine.submit(0, b"put a 5")), b"done")
+        engine.stop(1)
+        engine.stop(2)
+        tried.expect("a get of a leader alone", engine.reply_in_time(engine.submit(1, b"get a")), b"value 5")
+        engine.stop(0)
+        tried.expect("a get of nobody", engine.reply_in_time(engine.submit(2, b"get a"), rounds=50), None)
 
 
 def try_own(tried, folder, compiler):
@@ -201,6 +238,7 @@ def main():
     with tempfile.TemporaryDirectory() as folder:
         try_calls(tried, folder, compiler)
         try_engines(tried, mu_library, folder, compiler)
+        try_python(tried, mu_library)
         try_own(tried, folder, compiler)
     try_traces(tried, mu_library, stored_traces([os.path.join(TOP, "cases", "trace"), *sys.argv[1:]]))
     for wrong in tried.wrong:

@@ -5,13 +5,6 @@ from mu_library import Engine, answer
 COMMANDS = [b"put a 5", b"get a", b"swap a 6", b"get a", b"cas a 6 7", b"del a", b"get a"]
 
 
-def reply_in_time(engine, row):
-    """Plays rounds until the reply to a row is there."""
-    while (reply := engine.reply(row)) is None:
-        engine.round()
-    return reply
-
-
 def main():
     with Engine(replicas=3, commands=len(COMMANDS)) as engine:
         for number, line in enumerate(COMMANDS):
@@ -19,7 +12,8 @@ def main():
                 engine.stop(0)
                 print("replica 0 is stopped")
             row = engine.submit(0, line)
-            print(row, line.decode(), "->", reply_in_time(engine, row).decode())
+            reply = engine.reply_in_time(row)
+            print(row, line.decode(), "->", (reply or b"no reply").decode())
         status, verdict = answer("check", engine.trace())
     print(verdict.decode().split()[0])
     return status

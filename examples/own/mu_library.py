@@ -6,7 +6,7 @@ DONE, USAGE, REFUSED, UNFINISHED, NO_MEMORY, ILLEGAL, TOO_LONG = 0, 1, 2, 3, 6, 
 FULL, STOPPED, MIXED = 9, 10, 11
 REPLIES = {1: "done", 2: "value", 3: "none", 4: "kept"}
 TASKS = {"replay": 1, "trace": 2, "check": 3, "why": 4, "book": 5, "bulk": 6, "tell": 7, "attest": 8}
-LAST_STEP = 9_999_999
+LAST_STEP, LAST_NUMBER = 9_999_999, 4_294_967_295
 TOP = os.path.dirname(os.path.dirname(os.path.dirname(os.path.abspath(__file__))))
 SIZE, TEXT, NUMBER = ctypes.c_size_t, ctypes.c_char_p, ctypes.c_uint32
 
@@ -44,6 +44,13 @@ for name, given in {
 library.mu_judge_free.restype = library.mu_engine_free.restype = None
 
 
+def number(value):
+    """The number, if it has no more than 32 bits: ctypes would cut it off."""
+    if not 0 <= value <= LAST_NUMBER:
+        raise ValueError(f"{value} isn't a number from 0 to {LAST_NUMBER}")
+    return value
+
+
 def told(call, *given, room=4096):
     """The status and the whole text of a call, with more room if the first wasn't enough."""
     taken = SIZE()
@@ -62,12 +69,12 @@ def answer(task, given):
 
 def show(given, events=LAST_STEP):
     """What `mu show EVENTS` says of a trace, and its status."""
-    return told(library.mu_show_answer, events, given, len(given))
+    return told(library.mu_show_answer, number(events), given, len(given))
 
 
 def draw(given, first=0, last=LAST_STEP):
     """What `mu_draw FIRST LAST` says of a trace, and its status."""
-    return told(library.mu_draw_answer, first, last, given, len(given))
+    return told(library.mu_draw_answer, number(first), number(last), given, len(given))
 
 
 class Judge:
@@ -113,12 +120,12 @@ class Engine:
 
     def __init__(self, replicas, ring=64, budget=131_071, commands=1_500):
         self.held = Held()
-        accepted(library.mu_engine_new(self.held, replicas, ring, budget, commands))
+        accepted(library.mu_engine_new(self.held, *map(number, (replicas, ring, budget, commands))))
 
     def submit(self, client, line):
         """Takes the next command of a client, and gives its row."""
         row = NUMBER()
-        accepted(library.mu_engine_submit(self.held, client, line, len(line), ctypes.byref(row)))
+        accepted(library.mu_engine_submit(self.held, number(client), line, len(line), ctypes.byref(row)))
         return row.value
 
     def round(self):
@@ -127,20 +134,27 @@ class Engine:
 
     def stop(self, replica):
         """Stops a replica for good."""
-        accepted(library.mu_engine_stop(self.held, replica))
+        accepted(library.mu_engine_stop(self.held, number(replica)))
 
     def pause(self, replica, rounds):
         """Pauses a replica for so many rounds."""
-        accepted(library.mu_engine_pause(self.held, replica, rounds))
+        accepted(library.mu_engine_pause(self.held, number(replica), number(rounds)))
 
     def reply(self, row):
         """The reply to the command of a row, as in a report, or None as long as there is none."""
         reply = NUMBER()
-        status, text = told(library.mu_engine_reply, self.held, row, ctypes.byref(reply), room=64)
+        status, text = told(library.mu_engine_reply, self.held, number(row), ctypes.byref(reply), room=64)
         if status == UNFINISHED:
             return None
         accepted(status)
         return b" ".join([REPLIES[reply.value].encode(), *([text] if text else [])])
+
+    def reply_in_time(self, row, rounds=10_000):
+        """The reply to the command of a row once it is there, or None after so many rounds."""
+        while (reply := self.reply(row)) is None and rounds > 0:
+            self.round()
+            rounds -= 1
+        return reply
 
     def trace(self):
         """The commands and the events so far, as a trace."""

@@ -1,7 +1,6 @@
 //! The calls of a live engine, without their contracts.
-ghost use Rattle.kv_store.specs.Commands.{HasShortTexts};
-
-use kv_store::{Op, Reply};
+use crate::store::{Ask, operation};
+use kv_store::Reply;
 use mu_check::check;
 use mu_engine::{Engine, Shape};
 use mu_outcome::Verdict;
@@ -11,12 +10,12 @@ use std::test::Fail;
 /// For how many rounds a command waits for its reply: more than the worst that was seen.
 const WAIT_ROUNDS: u32 = 6_000;
 
-/// An engine with the smallest ring, and with room for so many commands.
-pub(crate) fn started(alloc: Global, replicas: u8, room: u8) -> Result<Engine, Fail> {
+/// An engine before any command, with this ring and room for so many commands.
+pub(crate) fn started(alloc: Global, replicas: u8, ring: u16, room: u8) -> Result<Engine, Fail> {
     let shape = Shape {
         replicas,
-        ring: 8,
-        budget: 60_000,
+        ring,
+        budget: 40_000,
         room: u16::from(room),
     };
     if !shape.is_allowed() {
@@ -36,19 +35,22 @@ fn reply_in_time(engine: &mut Engine, row: u16) -> Option<Reply> {
     None
 }
 
-/// The reply to a command that one of eight clients gives now.
-pub(crate) fn reply_to_next(engine: &mut Engine, client: u8, op: Op) -> Option<Reply>
-    requires { HasShortTexts op }
-{
+/// The reply to the next command of one of eight clients, given before another one comes.
+pub(crate) fn reply_to_next(engine: &mut Engine, client: u8, ask: Ask) -> Option<Reply> {
+    let op = operation(ask)?;
     match engine.submit(client % 8, op) {
         Ok(row) => reply_in_time(engine, row),
         Err(_) => None,
     }
 }
 
-/// Whether a replica takes turns no more; so of a number that none has.
+/// Whether a replica has stopped, or there is none of this number.
 pub(crate) fn is_stopped(engine: &Engine, replica: u8) -> bool {
-    replica >= engine.config().replicas || engine.hold_of(replica).stopped
+    if replica < engine.config().replicas {
+        engine.hold_of(replica).stopped
+    } else {
+        true
+    }
 }
 
 /// Stops a replica, if there is one of this number.
