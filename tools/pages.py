@@ -55,7 +55,7 @@ MOST_WORDS = {
 }
 COUNTED_BARE = {"README.md"}
 # The most words of all pages together, as `wc -w README.md docs/*.md` counts them.
-MOST_IN_SUM = 42_900
+MOST_IN_SUM = 43_000
 
 
 def files():
