@@ -335,28 +335,16 @@ PutsEntry c (Verb.PutSlot p i b v) = StandsForEntry c v
 PutsEntry c _ = Unit {0}
 
 needs_kept : (c : Config) (more : List Row) (r : ℕ) (past : List Event) (verb : Verb) → IsConfig c → IsConfig (with_more c more) → AllStand c (known c r past) → PutsEntry c verb → Needs c r past verb → Needs (with_more c more) r past verb
-needs_kept c more r past (Verb.Ask p) g h s e n = n
-needs_kept c more r past (Verb.Fence p) g h s e n = n
-needs_kept c more r past (Verb.Min p) g h s e n = n
 needs_kept c more r past (Verb.Enter p t) g h s e n = (n.0, enter_kept c more r past p t n.1)
-needs_kept c more r past (Verb.PutMin p b) g h s e n = n
 needs_kept c more r past (Verb.Look p i) g h s e n = (n.0, ((let l = n.1.0 in let m = more_rows c more in omega (arith, l, m)), n.1.1))
 needs_kept c more r past (Verb.PutSlot p i b v) g h s e n = put_points (with_more c more) r past p i b v n.0 (let l = n.1.0 in let m = more_rows c more in omega (arith, l, m)) (put_kept c more r p i b v past g h s e (put_facts c r past p i b v n))
-needs_kept c more r past (Verb.Fuo p) g h s e n = n
 needs_kept c more r past (Verb.RaiseFuo p u) g h s e n =
     raise_points (with_more c more) r past p u n.0 (subst (λ vs. u ≤ length vs) (sym (known_kept c more r past)) n.1.0)
     (all_same u (is_filled (with_more c more) r p past) (is_filled c r p past) (λ j l. filled_kept c more r p past j) ∙ raise_facts c r past p u n)
-needs_kept c more r past (Verb.Head q) g h s e n = n
-needs_kept c more r past (Verb.ReadBeat q) g h s e n = n
 needs_kept c more r past (Verb.WriteRow j k x) g h s e n = ((let l = n.0 in let m = more_rows c more in omega (arith, l, m)), (n.1.0, (n.1.1.0 ∙ sym (word_kept c more j k n.0), n.1.1.1)))
 needs_kept c more r past (Verb.ReadRow v k) g h s e n = (n.0, ((let l = n.1.0 in let m = more_rows c more in omega (arith, l, m)), n.1.1))
 needs_kept c more r past (Verb.RaiseHead u) g h s e n = head_points (with_more c more) r past u (subst (λ vs. u ≤ length vs) (sym (applied_kept c more r past g h s)) (head_applied c r past u n)) (head_reached c r past u n)
-needs_kept c more r past Verb.Beat g h s e n = n
-needs_kept c more r past (Verb.ReadAsk w) g h s e n = n
-needs_kept c more r past Verb.Close g h s e n = n
-needs_kept c more r past Verb.LookTarget g h s e n = n
-needs_kept c more r past Verb.Drain g h s e n = n
-needs_kept c more r past (Verb.Grant w) g h s e n = n
+needs_kept c more r past verb g h s e n = n
 
 puts_entry : (c : Config) (r : ℕ) (past : List Event) (verb : Verb) → IsLegalHistory c past → Needs c r (part r past) verb → PutsEntry c verb
 puts_entry c r past (Verb.PutSlot p i b v) h n = let s = put_sound c r p i b v past h (all_sound c past h) (put_facts c r (part r past) p i b v n) in fits_stands c v s.values past s.fits
