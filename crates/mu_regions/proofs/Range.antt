@@ -7,19 +7,7 @@ use Rattle.mu_model.specs.Allowed.{Allowed, Needs}
 use Rattle.mu_regions.specs.Range.{InRange, IsNear, read_at}
 
 read_allowed : (c : Config) (r : ℕ) (mine : List Event) (verb : Verb) → r < c.replicas → Needs c r mine verb → read_at r verb < c.replicas
-read_allowed c r mine (Verb.Ask p) here needs = needs.0
-read_allowed c r mine (Verb.Fence p) here needs = needs.0
-read_allowed c r mine (Verb.Min p) here needs = needs.0
-read_allowed c r mine (Verb.Enter p t) here needs = needs.0
-read_allowed c r mine (Verb.PutMin p b) here needs = needs.0
-read_allowed c r mine (Verb.Look p i) here needs = needs.0
-read_allowed c r mine (Verb.PutSlot p i b v) here needs = needs.0
-read_allowed c r mine (Verb.Fuo p) here needs = needs.0
-read_allowed c r mine (Verb.RaiseFuo p u) here needs = needs.0
-read_allowed c r mine (Verb.Head q) here needs = needs.0
-read_allowed c r mine (Verb.ReadBeat q) here needs = needs.0
 read_allowed c r mine (Verb.WriteRow j k x) here needs = here
-read_allowed c r mine (Verb.ReadRow v k) here needs = needs.0
 read_allowed c r mine (Verb.RaiseHead h) here needs = here
 read_allowed c r mine Verb.Beat here needs = here
 read_allowed c r mine (Verb.ReadAsk w) here needs = here
@@ -27,28 +15,14 @@ read_allowed c r mine Verb.Close here needs = here
 read_allowed c r mine Verb.LookTarget here needs = here
 read_allowed c r mine Verb.Drain here needs = here
 read_allowed c r mine (Verb.Grant w) here needs = here
+read_allowed c r mine verb here needs = needs.0
 
 near_allowed : (c : Config) (r : ℕ) (mine : List Event) (verb : Verb) → Needs c r mine verb → IsNear c verb
 near_allowed c r mine (Verb.PutSlot p i b v) needs = needs.1.0
 near_allowed c r mine (Verb.WriteRow j k x) needs = (needs.0, needs.1.0)
 near_allowed c r mine (Verb.ReadRow v k) needs = (needs.1.0, needs.1.1.0)
 near_allowed c r mine (Verb.ReadAsk w) needs = needs.0
-near_allowed c r mine (Verb.Ask p) needs = tt
-near_allowed c r mine (Verb.Fence p) needs = tt
-near_allowed c r mine (Verb.Min p) needs = tt
-near_allowed c r mine (Verb.Enter p t) needs = tt
-near_allowed c r mine (Verb.PutMin p b) needs = tt
-near_allowed c r mine (Verb.Look p i) needs = tt
-near_allowed c r mine (Verb.Fuo p) needs = tt
-near_allowed c r mine (Verb.RaiseFuo p u) needs = tt
-near_allowed c r mine (Verb.Head q) needs = tt
-near_allowed c r mine (Verb.ReadBeat q) needs = tt
-near_allowed c r mine (Verb.RaiseHead h) needs = tt
-near_allowed c r mine Verb.Beat needs = tt
-near_allowed c r mine Verb.Close needs = tt
-near_allowed c r mine Verb.LookTarget needs = tt
-near_allowed c r mine Verb.Drain needs = tt
-near_allowed c r mine (Verb.Grant w) needs = tt
+near_allowed c r mine verb needs = tt
 
 -- what an allowed step names is there
 pub in_range : (c : Config) (r : ℕ) (mine : List Event) (verb : Verb) → Allowed c r mine verb → InRange c r verb

@@ -8,7 +8,7 @@ ghost use Rattle.mu_model.specs.Contents.{row_count};
 ghost use Rattle.mu_model.specs.Leaderships.{noted_grant};
 ghost use Rattle.mu_model.specs.Room.{reserve};
 ghost use Rattle.mu_model.specs.Regions.{asks, fence, region_log, row_word};
-ghost use Rattle.mu_regions.specs.Range.{InRange, IsNear, is_read_alone, read_at};
+ghost use Rattle.mu_regions.specs.Range.{InRange, IsNear, is_first, is_read_alone, read_at};
 ghost use Rattle.mu_regions.specs.Stands.{Holds};
 ghost use Rattle.mu_model.specs.Steps.{is_beat_verb};
 
@@ -33,6 +33,39 @@ pub struct Region {
     noted: [Option<u32>; 7],
     drained: [bool; 7],
     words: Vec<u64>,
+}
+
+/// The region that a step of `by` reads.
+#[inline(always)]
+pub(crate) fn region_read(by: u8, verb: &Verb) -> u16
+    ensures { result ≡ read_at by verb.now }
+{
+    match *verb {
+        Verb::Ask(p)
+        | Verb::Fence(p)
+        | Verb::Min(p)
+        | Verb::Enter(p, _)
+        | Verb::PutMin(p, _)
+        | Verb::Look(p, _)
+        | Verb::PutSlot(p, _, _, _)
+        | Verb::Fuo(p)
+        | Verb::RaiseFuo(p, _)
+        | Verb::Head(p)
+        | Verb::ReadBeat(p) => u16::from(p),
+        Verb::ReadRow(v, _) => v / PAYLOADS,
+        _ => u16::from(by),
+    }
+}
+
+/// Whether the verb begins a leadership: then all regions change what its replica has noted.
+#[inline(always)]
+pub(crate) fn is_first(verb: &Verb) -> bool
+    ensures { result ≡ is_first verb.now }
+{
+    match *verb {
+        Verb::Ask(p) => p == 0,
+        _ => false,
+    }
 }
 
 /// Whether the verb only reads: no region changes.
@@ -164,14 +197,7 @@ impl Region {
             Verb::ReadBeat(_) => Answer::Number(self.beats),
             Verb::ReadRow(v, k) => Answer::Number(self.word_at(v, k)),
             Verb::ReadAsk(w) => Answer::Number(self.asks_of(w)),
-            Verb::Ask(_)
-            | Verb::RaiseFuo(_, _)
-            | Verb::WriteRow(_, _, _)
-            | Verb::RaiseHead(_)
-            | Verb::Beat
-            | Verb::LookTarget
-            | Verb::Drain
-            | Verb::Grant(_) => Answer::Done,
+            _ => Answer::Done,
         }
     }
 

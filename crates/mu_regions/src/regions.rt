@@ -4,11 +4,11 @@ ghost use Rattle.mu_model.specs.declared.config.Config.{Config};
 ghost use Rattle.mu_model.specs.declared.event.Event.{Event};
 ghost use Rattle.mu_model.specs.Answers.{answer_of};
 ghost use Rattle.mu_model.specs.Contents.{IsConfig};
-ghost use Rattle.mu_regions.specs.Range.{InRange, IsNear, is_first, read_at};
+ghost use Rattle.mu_regions.specs.Range.{InRange, IsNear};
 ghost use Rattle.mu_regions.specs.Stands.{HoldsEach, Stands};
 
-use crate::region::Region;
-use mu_model::{Answer, Config, Event, NoMemory, PAYLOADS, Verb};
+use crate::region::{Region, is_first, region_read};
+use mu_model::{Answer, Config, Event, NoMemory, Verb};
 use std::alloc::Global;
 
 /// What all regions hold after a list of events, kept up to date event by event. An answer and an
@@ -17,46 +17,6 @@ use std::alloc::Global;
 pub struct Regions {
     ring: u16,
     regions: Vec<Region>,
-}
-
-/// The region that a step of `by` reads.
-#[inline(always)]
-fn region_read(by: u8, verb: &Verb) -> u16
-    ensures { result ≡ read_at by verb.now }
-{
-    match *verb {
-        Verb::Ask(p)
-        | Verb::Fence(p)
-        | Verb::Min(p)
-        | Verb::Enter(p, _)
-        | Verb::PutMin(p, _)
-        | Verb::Look(p, _)
-        | Verb::PutSlot(p, _, _, _)
-        | Verb::Fuo(p)
-        | Verb::RaiseFuo(p, _)
-        | Verb::Head(p)
-        | Verb::ReadBeat(p) => u16::from(p),
-        Verb::ReadRow(v, _) => v / PAYLOADS,
-        Verb::WriteRow(_, _, _)
-        | Verb::RaiseHead(_)
-        | Verb::Beat
-        | Verb::ReadAsk(_)
-        | Verb::Close
-        | Verb::LookTarget
-        | Verb::Drain
-        | Verb::Grant(_) => u16::from(by),
-    }
-}
-
-/// Whether the verb begins a leadership: then all regions change what its replica has noted.
-#[inline(always)]
-fn is_first(verb: &Verb) -> bool
-    ensures { result ≡ is_first verb.now }
-{
-    match *verb {
-        Verb::Ask(p) => p == 0,
-        _ => false,
-    }
 }
 
 /// Takes the event at each region.
