@@ -1,15 +1,14 @@
-//! What a step answers, computed from the list of events so far.
+//! What steps find: what a region holds, computed from the list of events so far.
 ghost use Rattle.std.specs.List.{slice_get};
 ghost use Rattle.std.specs.Prelude.{List, [], if◌then◌else◌, length, set, ℕ, ◌++◌, ◌<◌, ◌==◌, ◌^◌, ◌∷◌, ◌≡◌};
-ghost use Rattle.mu_model.specs.Answers.{answer_of, drained};
+ghost use Rattle.mu_model.specs.Answers.{drained};
 ghost use Rattle.mu_model.specs.Histories.{history};
 ghost use Rattle.mu_model.specs.Regions.{asks, beats, fence, fence_grant, region_fuo, region_head, region_log, region_min, row_word};
 
-use crate::leadership::grant_noted;
-use mu_model::{Answer, Config, Event, Fence, PAYLOADS, Target, Verb};
+use mu_model::{Answer, Event, Fence, PAYLOADS, Target, Verb};
 
 /// The fence of `p`.
-fn fence_of(p: u8, events: &[Event]) -> Fence
+pub(crate) fn fence_of(p: u8, events: &[Event]) -> Fence
     requires { fence_grant p (history events.now) < 2 ^ 32 }
     ensures { result ≡ fence p (history events.now) }
 {
@@ -46,7 +45,7 @@ fn fence_of(p: u8, events: &[Event]) -> Fence
 }
 
 /// The minimum of `p`.
-fn minimum_of(p: u8, events: &[Event]) -> u32
+pub(crate) fn minimum_of(p: u8, events: &[Event]) -> u32
     ensures { result ≡ region_min p (history events.now) }
 {
     let mut minimum = 0;
@@ -61,7 +60,7 @@ fn minimum_of(p: u8, events: &[Event]) -> u32
 }
 
 /// The FUO of `p`.
-fn fuo_of(p: u8, events: &[Event]) -> u16
+pub(crate) fn fuo_of(p: u8, events: &[Event]) -> u16
     ensures { result ≡ region_fuo p (history events.now) }
 {
     let mut fuo: u16 = 0;
@@ -76,7 +75,7 @@ fn fuo_of(p: u8, events: &[Event]) -> u16
 }
 
 /// The head of `p`.
-fn head_of(p: u8, events: &[Event]) -> u16
+pub(crate) fn head_of(p: u8, events: &[Event]) -> u16
     ensures { result ≡ region_head p (history events.now) }
 {
     let mut head: u16 = 0;
@@ -91,7 +90,7 @@ fn head_of(p: u8, events: &[Event]) -> u16
 }
 
 /// How many beats `q` made.
-fn beats_of(q: u8, events: &[Event]) -> u64
+pub(crate) fn beats_of(q: u8, events: &[Event]) -> u64
     ensures { result ≡ beats q (history events.now) }
 {
     let mut count: u64 = 0;
@@ -106,7 +105,7 @@ fn beats_of(q: u8, events: &[Event]) -> u64
 }
 
 /// How often `w` asked `p`.
-fn asks_of(w: u8, p: u8, events: &[Event]) -> u64
+pub(crate) fn asks_of(w: u8, p: u8, events: &[Event]) -> u64
     ensures { result ≡ asks w p (history events.now) }
 {
     let mut count: u64 = 0;
@@ -121,7 +120,7 @@ fn asks_of(w: u8, p: u8, events: &[Event]) -> u64
 }
 
 /// Word `k` of the row of the payload number `v`.
-fn word_of(v: u16, k: u8, events: &[Event]) -> u64
+pub(crate) fn word_of(v: u16, k: u8, events: &[Event]) -> u64
     ensures { result ≡ row_word v k (history events.now) }
 {
     let mut word = 0;
@@ -136,7 +135,7 @@ fn word_of(v: u16, k: u8, events: &[Event]) -> u64
 }
 
 /// How long the log of `p` is.
-fn log_length(p: u8, events: &[Event]) -> u64
+pub(crate) fn log_length(p: u8, events: &[Event]) -> u64
     ensures { result ≡ length (region_log p (history events.now)) }
 {
     let mut count: u64 = 0;
@@ -170,7 +169,7 @@ fn entry_after(
 }
 
 /// What stands in the log of `p` at `i`.
-fn entry_at(p: u8, i: u16, events: &[Event]) -> Option<(u32, u16)>
+pub(crate) fn entry_at(p: u8, i: u16, events: &[Event]) -> Option<(u32, u16)>
     ensures { result ≡ slice_get (region_log p (history events.now)) i }
 {
     let mut entry: Option<(u32, u16)> = None;
@@ -189,7 +188,7 @@ fn entry_at(p: u8, i: u16, events: &[Event]) -> Option<(u32, u16)>
 }
 
 /// Whether `p` was drained since the last `Enter` of `r` there.
-fn is_drained(r: u8, p: u8, events: &[Event]) -> bool
+pub(crate) fn is_drained(r: u8, p: u8, events: &[Event]) -> bool
     ensures { result ≡ drained r p (history events.now) }
 {
     let mut drained = false;
@@ -209,54 +208,4 @@ fn is_drained(r: u8, p: u8, events: &[Event]) -> bool
         }
     }
     drained
-}
-
-/// What the replica `by` is answered to `verb` after `events`, if each region was granted fewer
-/// than 2^32 times. Takes no memory, and the time of a walk over the events.
-pub fn answers(config: &Config, events: &[Event], by: u8, verb: &Verb) -> Answer
-    requires few { (p : ℕ) → fence_grant p (history events.now) < 2 ^ 32 }
-    ensures { result ≡ answer_of config.now by (history events.now) verb.now }
-{
-    match *verb {
-        Verb::Fence(p) => Answer::Seen(fence_of(p, events)),
-        Verb::Min(p) => Answer::Number(u64::from(minimum_of(p, events))),
-        Verb::Enter(p, _) => {
-            let fence = fence_of(p, events);
-            match grant_noted(by, p, events) {
-                Some(g) if !fence.closing && fence.grant == g => Answer::Entered,
-                _ => Answer::Lost(fence),
-            }
-        }
-        Verb::PutMin(p, _) | Verb::PutSlot(p, _, _, _) => {
-            if is_drained(by, p, events) {
-                Answer::Missed
-            } else {
-                Answer::Done
-            }
-        }
-        Verb::Look(p, i) => {
-            if u64::from(i) + u64::from(config.ring) < log_length(p, events) {
-                Answer::Past
-            } else {
-                match entry_at(p, i, events) {
-                    None => Answer::Empty,
-                    Some((number, value)) => Answer::Entry { number, value },
-                }
-            }
-        }
-        Verb::Fuo(p) => Answer::Number(u64::from(fuo_of(p, events))),
-        Verb::Head(q) => Answer::Number(u64::from(head_of(q, events))),
-        Verb::ReadBeat(q) => Answer::Number(beats_of(q, events)),
-        Verb::ReadRow(v, k) => Answer::Number(word_of(v, k, events)),
-        Verb::ReadAsk(w) => Answer::Number(asks_of(w, by, events)),
-        Verb::Close => Answer::Seen(fence_of(by, events)),
-        Verb::Ask(_)
-        | Verb::RaiseFuo(_, _)
-        | Verb::WriteRow(_, _, _)
-        | Verb::RaiseHead(_)
-        | Verb::Beat
-        | Verb::LookTarget
-        | Verb::Drain
-        | Verb::Grant(_) => Answer::Done,
-    }
 }

@@ -5,7 +5,6 @@
 //! Nothing that a run does stands on this crate: there the same answers come from running states.
 #![tactic(auto)]
 
-mod allowing;
 mod answering;
 mod entering;
 mod fetching;
@@ -16,6 +15,6 @@ mod picking;
 mod placing;
 mod room;
 mod scoring;
+mod verbs;
 
-pub use allowing::allows;
-pub use answering::answers;
+pub use verbs::{allows, answers};

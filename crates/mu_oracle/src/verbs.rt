@@ -1,11 +1,17 @@
-//! What a replica may do next.
-ghost use Rattle.std.specs.Prelude.{IsTrue, length, ◌+◌, ◌<◌, ◌^◌, ◌↔◌, ◌≡◌, ◌≤◌};
+//! Verb by verb: what a replica may do next, and what it is answered.
+ghost use Rattle.std.specs.Prelude.{IsTrue, length, ◌+◌, ◌<◌, ◌^◌, ◌↔◌, ◌≡◌, ◌≤◌, ℕ};
 ghost use Rattle.mu_model.specs.Allowed.{Allowed, Needs};
+ghost use Rattle.mu_model.specs.Answers.{answer_of};
 ghost use Rattle.mu_model.specs.Contents.{row_count};
 ghost use Rattle.mu_model.specs.Histories.{history, newest};
 ghost use Rattle.mu_model.specs.Points.{last_ask};
+ghost use Rattle.mu_model.specs.Regions.{fence_grant};
 ghost use Rattle.mu_model.specs.Room.{reserve};
 
+use crate::answering::{
+    asks_of, beats_of, entry_at, fence_of, fuo_of, head_of, is_drained, log_length, minimum_of,
+    word_of,
+};
 use crate::entering::{may_enter, may_put_min};
 use crate::fetching::{applied_length, has_written};
 use crate::hosting::{
@@ -14,7 +20,7 @@ use crate::hosting::{
 use crate::knowledge::{are_filled, known_length};
 use crate::leadership::{grant_noted, has_asked, has_ended};
 use crate::placing::{has_reached, may_put_slot};
-use mu_model::{Config, Event, Fence, PAYLOADS, Verb, count_of_rows, reserve_of, row_word};
+use mu_model::{Answer, Config, Event, Fence, PAYLOADS, Verb, count_of_rows, reserve_of, row_word};
 
 /// The region that was asked last.
 fn asked_last(r: u8, part: &[Event]) -> Option<u8>
@@ -96,4 +102,47 @@ pub fn allows(config: &Config, by: u8, part: &[Event], verb: &Verb) -> bool
     part.len() < config.budget as usize
         && by < config.replicas
         && meets_needs(config, by, part, verb)
+}
+
+/// What the replica `by` is answered to `verb` after `events`, if each region was granted fewer
+/// than 2^32 times. Takes no memory, and the time of a walk over the events.
+pub fn answers(config: &Config, events: &[Event], by: u8, verb: &Verb) -> Answer
+    requires few { (p : ℕ) → fence_grant p (history events.now) < 2 ^ 32 }
+    ensures { result ≡ answer_of config.now by (history events.now) verb.now }
+{
+    match *verb {
+        Verb::Fence(p) => Answer::Seen(fence_of(p, events)),
+        Verb::Min(p) => Answer::Number(u64::from(minimum_of(p, events))),
+        Verb::Enter(p, _) => {
+            let fence = fence_of(p, events);
+            match grant_noted(by, p, events) {
+                Some(g) if !fence.closing && fence.grant == g => Answer::Entered,
+                _ => Answer::Lost(fence),
+            }
+        }
+        Verb::PutMin(p, _) | Verb::PutSlot(p, _, _, _) => {
+            if is_drained(by, p, events) {
+                Answer::Missed
+            } else {
+                Answer::Done
+            }
+        }
+        Verb::Look(p, i) => {
+            if u64::from(i) + u64::from(config.ring) < log_length(p, events) {
+                Answer::Past
+            } else {
+                match entry_at(p, i, events) {
+                    None => Answer::Empty,
+                    Some((number, value)) => Answer::Entry { number, value },
+                }
+            }
+        }
+        Verb::Fuo(p) => Answer::Number(u64::from(fuo_of(p, events))),
+        Verb::Head(q) => Answer::Number(u64::from(head_of(q, events))),
+        Verb::ReadBeat(q) => Answer::Number(beats_of(q, events)),
+        Verb::ReadRow(v, k) => Answer::Number(word_of(v, k, events)),
+        Verb::ReadAsk(w) => Answer::Number(asks_of(w, by, events)),
+        Verb::Close => Answer::Seen(fence_of(by, events)),
+        _ => Answer::Done,
+    }
 }
