@@ -1,5 +1,7 @@
--- An event changes only the region that it reads; the first ask of a leadership is the exception.
+-- An event changes only the region that it reads, unless it is the first ask of a leadership; a read
+-- changes none, and a beat only the count of beats.
 use Rattle.std.proofs.Common.{◌≡◌, ℕ, ◌/◌, ◌==◌, Bool, true, false, List, ◌∷◌, Some, refl, sym, ap, ◌∙◌, subst}
+use Rattle.std.proofs.lemmas.Bool.{true≢false}
 use Rattle.mu_model.specs.declared.config.Config.{Config}
 use Rattle.mu_model.specs.declared.event.Answer.{Answer}
 use Rattle.mu_model.specs.declared.event.Event.{Event}
@@ -7,7 +9,8 @@ use Rattle.mu_model.specs.declared.event.Verb.{Verb}
 use Rattle.mu_model.specs.Answers.{drained}
 use Rattle.mu_model.specs.Leaderships.{noted_grant}
 use Rattle.mu_model.specs.Regions.{asks, beats, fence, region_fuo, region_head, region_log, region_min, row_word}
-use Rattle.mu_regions.specs.Range.{is_first, read_at}
+use Rattle.mu_model.specs.Steps.{is_beat_verb}
+use Rattle.mu_regions.specs.Range.{is_first, is_read_alone, read_at}
 use Rattle.mu_regions.specs.Stands.{Holds}
 use Rattle.mu_regions.specs.declared.region.Region.{Region}
 use Rattle.mu_model.proofs.Basics.{event_by}
@@ -92,3 +95,53 @@ kept_by c p by verb answer past region later other h = record {
 -- what is held of a region stays, if the event reads another one
 pub region_kept : (c : Config) (p : ℕ) (past : List Event) (e : Event) (region : Region) → is_first e.verb ≡ false → (read_at e.by e.verb == p) ≡ false → Holds c p past region → Holds c p (e ∷ past) region
 region_kept c p past e region later other held = kept_by c p e.by e.verb e.answer past region later other held
+
+-- a read keeps what is held of each region
+pub read_kept : (c : Config) (p by : ℕ) (verb : Verb) (answer : Answer) (past : List Event) (region : Region) → is_read_alone verb ≡ true → Holds c p past region → Holds c p (event_by by verb answer ∷ past) region
+read_kept c p by (Verb.Ask q) answer past region read h = absurd (true≢false (sym read))
+read_kept c p by (Verb.Fence q) answer past region read h = absurd (true≢false (sym read))
+read_kept c p by (Verb.Enter q t) answer past region read h = absurd (true≢false (sym read))
+read_kept c p by (Verb.PutMin q b) answer past region read h = absurd (true≢false (sym read))
+read_kept c p by (Verb.PutSlot q i b v) answer past region read h = absurd (true≢false (sym read))
+read_kept c p by (Verb.RaiseFuo q u) answer past region read h = absurd (true≢false (sym read))
+read_kept c p by (Verb.RaiseHead u) answer past region read h = absurd (true≢false (sym read))
+read_kept c p by (Verb.WriteRow j k x) answer past region read h = absurd (true≢false (sym read))
+read_kept c p by Verb.Beat answer past region read h = absurd (true≢false (sym read))
+read_kept c p by Verb.Close answer past region read h = absurd (true≢false (sym read))
+read_kept c p by Verb.Drain answer past region read h = absurd (true≢false (sym read))
+read_kept c p by (Verb.Grant w) answer past region read h = absurd (true≢false (sym read))
+read_kept c p by verb answer past region read h = record {
+  id = h.id;
+  fence = h.fence;
+  minimum = h.minimum;
+  log = h.log;
+  log_room = h.log_room;
+  fuo = h.fuo;
+  head = h.head;
+  beats = h.beats;
+  asks = h.asks;
+  noted = h.noted;
+  drained = h.drained;
+  rows = h.rows;
+  words = h.words;
+}
+
+-- what is held of a region after a beat, with the count of beats then
+pub beat_taken : (c : Config) (p by count : ℕ) (verb : Verb) (answer : Answer) (past : List Event) (region : Region) → is_beat_verb verb ≡ true → count ≡ beats p (event_by by verb answer ∷ past) → Holds c p past region
+    → Holds c p (event_by by verb answer ∷ past) (record { id = region.id; fence = region.fence; minimum = region.minimum; log = region.log; fuo = region.fuo; head = region.head; beats = count; asks = region.asks; noted = region.noted; drained = region.drained; words = region.words })
+beat_taken c p by count Verb.Beat answer past region beat is h = record {
+  id = h.id;
+  fence = h.fence;
+  minimum = h.minimum;
+  log = h.log;
+  log_room = h.log_room;
+  fuo = h.fuo;
+  head = h.head;
+  beats = is;
+  asks = h.asks;
+  noted = h.noted;
+  drained = h.drained;
+  rows = h.rows;
+  words = h.words;
+}
+beat_taken c p by count verb answer past region beat is h = absurd (true≢false (sym beat))

@@ -2,4 +2,3 @@ mod Counts
 mod Each
 mod Elsewhere
 pub mod Range
-mod Quiet

@@ -22,7 +22,8 @@ use Rattle.mu_agree.proofs.Minimum.{one_owner}
 use Rattle.mu_words.specs.Words.{fence_bits, owner_code, target_code, closing_code, TargetFits, fence_in}
 use Rattle.mu_words.specs.Standing.{fence_word}
 use Rattle.mu_words.specs.Finding.{open_word, known_target, target_told}
-use Rattle.mu_words.specs.Steps.{answer_from, word_after, event_of, StepsByWord}
+use Rattle.mu_words.specs.Steps.{event_of, StepsByWord}
+use Rattle.mu_words.specs.Verbs.{answer_from, word_after}
 use Rattle.mu_words.proofs.Limits.{Limits}
 use Rattle.mu_words.proofs.Others.{others_keep}
 use Rattle.mu_words.proofs.Ranges.{grant_fits}

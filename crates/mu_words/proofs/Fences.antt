@@ -1,6 +1,10 @@
 -- The law of word steps for fences.
-use Rattle.std.proofs.Common.{◌≡◌, ℕ, ◌+◌, ◌*◌, ◌/◌, ◌%◌, ◌<◌, ◌≤◌, Bool, true, false, cond, ◌==◌, List, ◌∷◌, refl, sym, ap, arith, Some, true≢false}
+use Rattle.std.proofs.Common.{◌≡◌, ℕ, ◌+◌, ◌*◌, ◌/◌, ◌%◌, ◌<◌, ◌≤◌, Bool, true, false, cond, ◌==◌, List, ◌∷◌, refl, sym, ◌∙◌, ap, arith, Some, eqb-true, true≢false}
+use Rattle.std.specs.Int.Bits.{bit_or, bit_and, or_add_and}
+use Rattle.std.specs.Int.{bit_at}
 use Rattle.std.specs.declared.option.Option.{Option}
+use Rattle.std.proofs.lemmas.Bool.{eqb-false}
+use Rattle.std.proofs.lemmas.Nat.Bits.{and_pow}
 use Rattle.mu_model.specs.declared.config.Config.{Config}
 use Rattle.mu_model.specs.declared.event.Answer.{Answer}
 use Rattle.mu_model.specs.declared.event.Event.{Event}
@@ -61,6 +65,23 @@ fence_read c p past l h = let s = fitting c p past l h in fence_back (fence p pa
 pub fence_step : (c : Config) (past : List Event) (r p : ℕ) → Limits c → IsLegalHistory c past → StepsByWord c r past (Verb.Fence p)
 fence_step c past r p l h = record { answer = ap Answer.Seen (fence_read c p past l h); here = refl; others = others_keep c past r (Verb.Fence p) }
 
+-- a `Close` is a fetch-or
+closed_cases : (w d : ℕ) → bit_at w 14 ≡ d → d < 2 → bit_or w 16384 ≡ cond (w / 16384 % 2 == 1) w (w + 16384)
+closed_cases w d e h = go (w / 16384 % 2 == 1) refl
+  where
+    anded : bit_and w 16384 ≡ bit_at w 14 * 16384
+    anded = and_pow w 14
+
+    go : (t : Bool) → (w / 16384 % 2 == 1) ≡ t → bit_or w 16384 ≡ cond t w (w + 16384)
+    go true k = let i = eqb-true (w / 16384 % 2) 1 k in let j : bit_at w 14 ≡ 1 = i in omega (arith, or_add_and w 16384, anded)
+    go false k = let i = eqb-false (w / 16384 % 2) 1 k in let j : bit_at w 14 ≡ 0 = zero_bit i in omega (arith, or_add_and w 16384, anded)
+      where
+        zero_bit : (w / 16384 % 2 ≡ 1 → ⊥) → w / 16384 % 2 ≡ 0
+        zero_bit n = grind (arith, n)
+
+closed_or : (w : ℕ) → bit_or w 16384 ≡ cond (w / 16384 % 2 == 1) w (w + 16384)
+closed_or w = closed_cases w (bit_at w 14) refl (let k : w / 16384 % 2 < 2 = omega arith in k)
+
 close_word : (g : ℕ) (b : Bool) (o t : ℕ) → o < 8 → t < 2048 → (d : Bool) → ((g * 32768 + closing_code b + o * 2048 + t) / 16384 % 2 == 1) ≡ d → d ≡ b
     → g * 32768 + 16384 + o * 2048 + t ≡ cond d (g * 32768 + closing_code b + o * 2048 + t) (g * 32768 + closing_code b + o * 2048 + t + 16384)
 close_word g true o t h k true e f = refl
@@ -76,7 +97,8 @@ close_step c past r l h =
     record {
       answer = ap Answer.Seen (fence_read c r past l h);
       here = rw (same_number r) (close_word (fence_grant r past) (fence_closing r past) (owner_code (fence_owner r past)) (target_code (fence_target r past)) o t (fence_word (fence r past) / 16384 % 2 == 1) refl
-          (bits_closing (fence_grant r past) (fence_closing r past) (owner_code (fence_owner r past)) (target_code (fence_target r past)) o t));
+          (bits_closing (fence_grant r past) (fence_closing r past) (owner_code (fence_owner r past)) (target_code (fence_target r past)) o t)
+          ∙ sym (closed_or (fence_word (fence r past))));
       others = others_keep c past r Verb.Close;
     }
 

@@ -23,8 +23,8 @@ use Rattle.mu_words.specs.declared.layout.Name.{Name}
 use Rattle.mu_words.specs.Places.{IsLayoutOf, IsName}
 use Rattle.mu_words.specs.Founds.{IsInRing}
 use Rattle.mu_words.specs.Standing.{standing_word, content, stamp, close_target}
-use Rattle.mu_words.specs.Finding.{name_of, target_name}
-use Rattle.mu_words.specs.Steps.{VerbFits, WordFits}
+use Rattle.mu_words.specs.Finding.{name_of}
+use Rattle.mu_words.specs.Verbs.{VerbFits, WordFits, target_name}
 use Rattle.mu_words.proofs.Prepared.{enter_ring}
 use Rattle.mu_words.proofs.Limits.{Limits}
 use Rattle.mu_words.proofs.Others.{close_target-part}
@@ -99,42 +99,20 @@ ring_step c p by Verb.Close past may s = ring_close c p by past s (by == p) refl
 ring_step c p by (Verb.Grant w) past may s = ring_grant c p by w past s (by == p) refl
 ring_step c p by v past may s = s
 
-ring_targets : (c : Config) (p : ℕ) (past : List Event) → IsLegalHistory c past → RingTargets c p past
+pub ring_targets : (c : Config) (p : ℕ) (past : List Event) → IsLegalHistory c past → RingTargets c p past
 ring_targets c p = legal_induction c (RingTargets c p) (tt, tt) (λ past by v h may s. ring_step c p by v past may.may s)
 
 -- the place of an allowed step is one of the table
-target_named : (c : Config) (l : Layout) (r : ℕ) (t : Target) → IsLayoutOf c l → r < c.replicas → IsInRing c.ring t → IsName l (target_name r t)
+pub target_named : (c : Config) (l : Layout) (r : ℕ) (t : Target) → IsLayoutOf c l → r < c.replicas → IsInRing c.ring t → IsName l (target_name r t)
 target_named c l r Target.None f h g = let k = f.replicas in omega arith
 target_named c l r Target.Min f h g = let k = f.replicas in omega arith
 target_named c l r (Target.Place s) f h g = let k = f.replicas in let m = f.ring in (omega arith, omega arith)
 
-slot_named : (c : Config) (l : Layout) (p i : ℕ) → Limits c → IsLayoutOf c l → p < c.replicas → IsName l (Name.Slot p (i % c.ring))
+pub slot_named : (c : Config) (l : Layout) (p i : ℕ) → Limits c → IsLayoutOf c l → p < c.replicas → IsName l (Name.Slot p (i % c.ring))
 slot_named c l p i li f h = let k = f.replicas in let m = f.ring in let n = li.ring_least in let o = mod_below i c.ring (omega arith) in (omega arith, omega arith)
 
-region_named : (c : Config) (l : Layout) (p : ℕ) → IsLayoutOf c l → p < c.replicas → p < l.replicas
+pub region_named : (c : Config) (l : Layout) (p : ℕ) → IsLayoutOf c l → p < c.replicas → p < l.replicas
 region_named c l p f h = let k = f.replicas in omega arith
 
-row_named : (c : Config) (l : Layout) (r j k : ℕ) → IsLayoutOf c l → r < c.replicas → j < row_count c → k < 12 → IsName l (Name.Row r j k)
+pub row_named : (c : Config) (l : Layout) (r j k : ℕ) → IsLayoutOf c l → r < c.replicas → j < row_count c → k < 12 → IsName l (Name.Row r j k)
 row_named c l r j k f h g m = let n = f.replicas in let o = f.rows in (omega arith, omega arith, m)
-
-pub place_named : (c : Config) (l : Layout) (past : List Event) (r : ℕ) (v : Verb) → Limits c → IsLayoutOf c l → IsLegalHistory c past → Allowed c r (part r past) v → IsName l (name_of c r (part r past) v)
-place_named c l past r (Verb.Ask p) li f h may = (region_named c l p f may.may.0, region_named c l r f may.replica)
-place_named c l past r (Verb.Fence p) li f h may = region_named c l p f may.may.0
-place_named c l past r (Verb.Min p) li f h may = region_named c l p f may.may.0
-place_named c l past r (Verb.Enter p t) li f h may = region_named c l p f may.may.0
-place_named c l past r (Verb.PutMin p b) li f h may = region_named c l p f may.may.0
-place_named c l past r (Verb.Look p i) li f h may = slot_named c l p i li f may.may.0
-place_named c l past r (Verb.PutSlot p i b v) li f h may = slot_named c l p i li f may.may.0
-place_named c l past r (Verb.Fuo p) li f h may = region_named c l p f may.may.0
-place_named c l past r (Verb.RaiseFuo p u) li f h may = region_named c l p f may.may.0
-place_named c l past r (Verb.Head q) li f h may = region_named c l q f may.may.0
-place_named c l past r (Verb.ReadBeat q) li f h may = region_named c l q f may.may.0
-place_named c l past r (Verb.WriteRow j k x) li f h may = row_named c l r j k f may.replica may.may.0 may.may.1.0
-place_named c l past r (Verb.ReadRow v k) li f h may = row_named c l (v / 4096) (v % 4096) k f may.may.0 may.may.1.0 may.may.1.1.0
-place_named c l past r (Verb.RaiseHead x) li f h may = region_named c l r f may.replica
-place_named c l past r Verb.Beat li f h may = region_named c l r f may.replica
-place_named c l past r (Verb.ReadAsk w) li f h may = (region_named c l r f may.replica, region_named c l w f may.may.0)
-place_named c l past r Verb.Close li f h may = region_named c l r f may.replica
-place_named c l past r Verb.LookTarget li f h may = subst (λ z. IsName l (target_name r z)) (sym (close_target-part r past)) (target_named c l r (close_target r past) f may.replica (ring_targets c r past h).1)
-place_named c l past r Verb.Drain li f h may = subst (λ z. IsName l (target_name r z)) (sym (close_target-part r past)) (target_named c l r (close_target r past) f may.replica (ring_targets c r past h).1)
-place_named c l past r (Verb.Grant w) li f h may = region_named c l r f may.replica

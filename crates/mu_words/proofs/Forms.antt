@@ -1,8 +1,5 @@
 -- The law of word steps in the forms that a table of words uses.
 use Rattle.std.proofs.Common.{◌≡◌, ℕ, ◌+◌, ◌*◌, ◌/◌, ◌%◌, ◌<◌, Bool, true, false, cond, ◌==◌, List, ◌∷◌, refl, sym, ap, arith, eqb-true, true≢false}
-use Rattle.std.specs.Int.Bits.{bit_or, bit_and, or_add_and}
-use Rattle.std.specs.Int.{bit_at}
-use Rattle.std.proofs.lemmas.Nat.Bits.{and_pow}
 use Rattle.std.proofs.lemmas.Bool.{eqb-false, ne_eqb}
 use Rattle.mu_model.specs.declared.config.Config.{Config}
 use Rattle.mu_model.specs.declared.event.Event.{Event}
@@ -16,45 +13,27 @@ use Rattle.mu_agree.proofs.Legal.{legal_induction, event_after}
 use Rattle.mu_agree.proofs.Access.{grant_needs, last_close-part}
 use Rattle.mu_words.specs.declared.layout.Name.{Name}
 use Rattle.mu_words.specs.Words.{owner_code, target_code}
-use Rattle.mu_words.specs.Standing.{close_grant, fields, named_grant, standing_word}
+use Rattle.mu_words.specs.Standing.{close_grant, named_grant, standing_word}
 use Rattle.mu_words.specs.Stands.{StepsInTableForms}
-use Rattle.mu_words.specs.Finding.{with_content}
-use Rattle.mu_words.specs.Steps.{closed, exchanged, granted, is_exchange, with_target, word_after}
+use Rattle.mu_words.specs.Verbs.{exchanged, granted, is_exchange, word_after}
 use Rattle.mu_words.proofs.Limits.{Limits, config_is_limited}
 use Rattle.mu_words.proofs.Packing.{owner_small, target_small, bits_grant}
 use Rattle.mu_words.proofs.Ranges.{grant_fits}
 use Rattle.mu_words.proofs.Fences.{fitting}
 
--- a `Close` is a fetch-or
-closed_cases : (w d : ℕ) → bit_at w 14 ≡ d → d < 2 → bit_or w 16384 ≡ closed w
-closed_cases w d e h = go (w / 16384 % 2 == 1) refl
+either_side : (x new w : ℕ) → cond (x == w) new w ≡ cond (w == x) new w
+either_side x new w = go (x == w) refl
   where
-    anded : bit_and w 16384 ≡ bit_at w 14 * 16384
-    anded = and_pow w 14
-
-    go : (t : Bool) → (w / 16384 % 2 == 1) ≡ t → bit_or w 16384 ≡ cond t w (w + 16384)
-    go true k = let i = eqb-true (w / 16384 % 2) 1 k in let j : bit_at w 14 ≡ 1 = i in omega (arith, or_add_and w 16384, anded)
-    go false k = let i = eqb-false (w / 16384 % 2) 1 k in let j : bit_at w 14 ≡ 0 = zero_bit i in omega (arith, or_add_and w 16384, anded)
-      where
-        zero_bit : (w / 16384 % 2 ≡ 1 → ⊥) → w / 16384 % 2 ≡ 0
-        zero_bit n = grind (arith, n)
-
-pub closed_or : (w : ℕ) → bit_or w 16384 ≡ closed w
-closed_or w = closed_cases w (bit_at w 14) refl (let k : w / 16384 % 2 < 2 = omega arith in k)
-
-exchange_from : (f : ℕ → ℕ) (x w : ℕ) → cond (x == w) (f w) w ≡ cond (w == x) (f x) w
-exchange_from f x w = go (x == w) refl
-  where
-    go : (t : Bool) → (x == w) ≡ t → cond t (f w) w ≡ cond (w == x) (f x) w
+    go : (t : Bool) → (x == w) ≡ t → cond t new w ≡ cond (w == x) new w
     go true k = rw (eqb-true x w k, same_number w) refl
     go false k = rw (ne_eqb w x (λ e. eqb-false x w k (sym e))) refl
 
 -- an exchange: the new word is made from the expected one
 pub exchange_is : (ring : ℕ) (v : Verb) (x w : ℕ) → is_exchange v ≡ true → word_after ring v x w ≡ cond (w == x) (exchanged ring v x) w
-exchange_is ring (Verb.Enter p t) x w is = exchange_from (λ z. with_target z t) x w
-exchange_is ring (Verb.PutMin p b) x w is = exchange_from (λ z. with_content z b) x w
-exchange_is ring (Verb.PutSlot p i b v) x w is = exchange_from (λ z. with_content z (fields ring i b v)) x w
-exchange_is ring Verb.Drain x w is = exchange_from (λ z. z + 140737488355328) x w
+exchange_is ring (Verb.Enter p t) x w is = either_side x (exchanged ring (Verb.Enter p t) x) w
+exchange_is ring (Verb.PutMin p b) x w is = either_side x (exchanged ring (Verb.PutMin p b) x) w
+exchange_is ring (Verb.PutSlot p i b v) x w is = either_side x (exchanged ring (Verb.PutSlot p i b v) x) w
+exchange_is ring Verb.Drain x w is = either_side x (exchanged ring Verb.Drain x) w
 exchange_is ring v x w is = absurd (true≢false (sym is))
 
 -- while a fence is closing, it has the grant that the last `Close` found
@@ -90,6 +69,6 @@ grant_is c r past q x l h may =
 pub steps_in_table_forms_law : StepsInTableForms
 steps_in_table_forms_law c r past given legal = record {
   exchange = λ v x w is. exchange_is c.ring v x w is;
-  close = λ x w. sym (closed_or w);
+  close = λ x w. refl;
   grant = λ q x may. grant_is c r past q x (config_is_limited c given) legal may;
 }

@@ -2,7 +2,6 @@ pub mod Limits
 pub mod Places
 mod Logs
 mod Others
-mod Plain
 mod Packing
 mod Fences
 mod Fields
@@ -19,8 +18,8 @@ mod Loading
 mod Stamps
 mod Puts
 mod LookWords
-mod Law
 pub mod Fitting
+pub mod Law
 pub mod Stand
 mod Lists
 pub mod Forms

@@ -19,7 +19,7 @@ use Rattle.mu_agree.proofs.Access.{last_close, must_drain-part, open_target-part
 use Rattle.mu_agree.proofs.Entering.{slot_entered}
 use Rattle.mu_agree.proofs.Legal.{legal_induction, event_after}
 use Rattle.mu_words.specs.Standing.{content, stamp, target_word, leaves, changed_since_look, is_unlike, close_target, named_target, standing_word, is_same_target, fields}
-use Rattle.mu_words.specs.Finding.{target_name}
+use Rattle.mu_words.specs.Verbs.{target_name}
 use Rattle.mu_words.proofs.Limits.{Limits}
 use Rattle.mu_words.proofs.Others.{close_target-part}
 use Rattle.mu_words.proofs.Tracking.{load_of}

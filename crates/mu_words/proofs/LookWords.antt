@@ -14,7 +14,8 @@ use Rattle.mu_model.specs.Legal.{IsLegalHistory}
 use Rattle.mu_model.specs.Regions.{region_log}
 use Rattle.mu_model.proofs.Basics.{same_number}
 use Rattle.mu_words.specs.Standing.{stamp, fields, entry_fields, place_fields_below, place_fields}
-use Rattle.mu_words.specs.Steps.{slot_answer, StepsByWord}
+use Rattle.mu_words.specs.Steps.{StepsByWord}
+use Rattle.mu_words.specs.Verbs.{slot_answer}
 use Rattle.mu_words.proofs.Limits.{Limits}
 use Rattle.mu_words.proofs.Others.{others_keep}
 use Rattle.mu_words.proofs.PlaceTies.{look_of, add-mod}

@@ -18,7 +18,7 @@ use Rattle.mu_agree.proofs.Access.{drained_law, entered_facts, entered_holds, no
 use Rattle.mu_agree.proofs.Legal.{legal_induction, event_after}
 use Rattle.mu_agree.proofs.Minimum.{entered_read, not_other, read_under_seen, seen_law}
 use Rattle.mu_words.specs.Standing.{stamp, target_word}
-use Rattle.mu_words.specs.Finding.{with_content}
+use Rattle.mu_words.specs.Verbs.{with_content}
 use Rattle.mu_words.proofs.Limits.{Limits}
 use Rattle.mu_words.proofs.Tracking.{kept_in_history}
 use Rattle.mu_words.proofs.Ranges.{min_fits}

@@ -14,8 +14,9 @@ use Rattle.mu_model.specs.Regions.{fence, region_log}
 use Rattle.mu_agree.proofs.Access.{last_close-part}
 use Rattle.mu_words.specs.declared.layout.Name.{Name}
 use Rattle.mu_words.specs.Standing.{standing_word, fence_word, target_word, stamp, close_target, named_target, is_same_target, changed_since_look, drain_took}
-use Rattle.mu_words.specs.Finding.{name_of, target_name}
+use Rattle.mu_words.specs.Finding.{name_of}
 use Rattle.mu_words.specs.Steps.{event_of}
+use Rattle.mu_words.specs.Verbs.{target_name}
 use Rattle.mu_words.proofs.Logs.{shown_elsewhere}
 
 pub close_target-part : (r : ℕ) (past : List Event) → close_target r (part r past) ≡ close_target r past

@@ -16,8 +16,9 @@ use Rattle.mu_model.proofs.Basics.{same_number}
 use Rattle.mu_agree.proofs.Access.{drained_since-part, open_target-part}
 use Rattle.mu_agree.proofs.Entering.{slot_entered}
 use Rattle.mu_words.specs.Standing.{standing_word, content, stamp, target_word, leaves, fields, changed_since_look, close_target, drain_took}
-use Rattle.mu_words.specs.Finding.{with_content, target_name, kept, loaded, sights}
+use Rattle.mu_words.specs.Finding.{kept, loaded, sights}
 use Rattle.mu_words.specs.Steps.{event_of, StepsByWord}
+use Rattle.mu_words.specs.Verbs.{target_name, with_content}
 use Rattle.mu_words.proofs.Limits.{Limits}
 use Rattle.mu_words.proofs.Others.{others_keep, close_target-part}
 use Rattle.mu_words.proofs.Tracking.{kept_in_history, kept_is_in_history, loaded_load}
@@ -38,7 +39,7 @@ min_step c past r p l h =
 -- an exchange by the same stamp takes exactly if no drain came since
 record PutNumbers (x w new y : ℕ) (d : Bool) : Type 0 where
   answers : cond (x == w) Answer.Done Answer.Missed ≡ put_answer d
-  leaves_word : new ≡ cond (x == w) (with_content w y) w
+  leaves_word : new ≡ cond (x == w) (with_content x y) w
 
 put_numbers : (st old now y x : ℕ) (d : Bool) → old < 140737488355328 → (d ≡ false → (x ≡ st * 140737488355328 + old) × (now ≡ y)) → (d ≡ true → (x < st * 140737488355328) × (now ≡ old))
     → PutNumbers x (st * 140737488355328 + old) (st * 140737488355328 + now) y d
@@ -81,7 +82,7 @@ put_slot_step c past r p i b v l h may =
 
 -- the exchange of a `Drain`
 drain_numbers : (st old now x w : ℕ) (ch took : Bool) → w ≡ st * 140737488355328 + old → now ≡ old → took ≡ not ch → LoadedWord ch x (st * 140737488355328 + old)
-    → cond took (st + 1) st * 140737488355328 + now ≡ cond (x == w) (w + 140737488355328) w
+    → cond took (st + 1) st * 140737488355328 + now ≡ cond (x == w) (x + 140737488355328) w
 drain_numbers st old now x w true took e f g s = rw (g, ne_eqb x w (λ k. s.1 refl (k ∙ e))) (omega (arith, e, f))
 drain_numbers st old now x w false took e f g s = rw (g, s.0 refl ∙ sym e, same_number w) (omega (arith, e, f))
 
@@ -100,7 +101,7 @@ drain_step c past r l h may =
     (subst (λ z. LoadedWord (changed_since_look c r past) z (target_word c r t past)) (sym x) s) in
     record {
       answer = refl;
-      here = subst (λ z. standing_word c (ev ∷ past) (target_name r z) ≡ cond (loaded (sights c r past) == standing_word c past (target_name r z)) (standing_word c past (target_name r z) + 140737488355328) (standing_word c past (target_name r z)))
+      here = subst (λ z. standing_word c (ev ∷ past) (target_name r z) ≡ cond (loaded (sights c r past) == standing_word c past (target_name r z)) (loaded (sights c r past) + 140737488355328) (standing_word c past (target_name r z)))
           (sym (close_target-part r past)) (named_word c r t (ev ∷ past) k.1 ∙ n);
       others = others_keep c past r Verb.Drain;
     }

@@ -10,12 +10,13 @@ use Rattle.mu_words.specs.declared.layout.Name.{Name}
 use Rattle.mu_words.specs.Places.{IsName, place_of}
 use Rattle.mu_words.specs.Standing.{standing_word}
 use Rattle.mu_words.specs.Finding.{name_of}
-use Rattle.mu_words.specs.Steps.{answer_from, word_after, event_of, WordFits}
+use Rattle.mu_words.specs.Steps.{event_of}
 use Rattle.mu_words.specs.Stands.{FirstWords, IsStepOn, Stands, WordsAreUnique, WordsStand, set_word, step_expects}
-use Rattle.mu_words.proofs.Law.{word_steps_law}
+use Rattle.mu_words.specs.Verbs.{WordFits, answer_from, word_after}
+use Rattle.mu_words.proofs.Law.{place_named, word_steps_law}
 use Rattle.mu_words.proofs.Limits.{config_is_limited}
 use Rattle.mu_words.proofs.Places.{places_differ_law, every_place}
-use Rattle.mu_words.proofs.Fitting.{verb_fits, word_fits, place_named}
+use Rattle.mu_words.proofs.Fitting.{verb_fits, word_fits}
 
 pub longer : (events : List Event) (e : Event) → history (events ++ e ∷ []) ≡ e ∷ history events
 longer events e = reverse-append events (e ∷ [])
@@ -68,10 +69,4 @@ stands_written c l events ws i w h s n m = written ws i w (place_of l n) h ∙ s
 -- the words before any event
 pub first_words_law : FirstWords
 first_words_law c (Name.Fence p) = refl
-first_words_law c (Name.Min p) = refl
-first_words_law c (Name.Fuo p) = refl
-first_words_law c (Name.Head p) = refl
-first_words_law c (Name.Beat p) = refl
-first_words_law c (Name.Ask p w) = refl
-first_words_law c (Name.Slot p s) = refl
-first_words_law c (Name.Row r j k) = refl
+first_words_law c n = refl

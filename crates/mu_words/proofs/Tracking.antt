@@ -7,7 +7,8 @@ use Rattle.mu_model.specs.declared.event.Target.{Target}
 use Rattle.mu_model.specs.declared.event.Verb.{Verb}
 use Rattle.mu_model.specs.Histories.{part}
 use Rattle.mu_words.specs.Standing.{standing_word, target_word, is_same_target, close_target}
-use Rattle.mu_words.specs.Finding.{found_word, sights, with_content, kept_after, kept, loaded_after, loaded, target_name}
+use Rattle.mu_words.specs.Finding.{found_word, sights, kept_after, kept, loaded_after, loaded}
+use Rattle.mu_words.specs.Verbs.{target_name, with_content}
 
 abbrev pub track : Config → ℕ → ℕ → Target → List Event → ℕ → Verb → Answer → ℕ × ℕ → ℕ × ℕ
 track c r p t past by (Verb.Min q) a k = cond (is_same_target t Target.Min && ((by == r) && (q == p))) (target_word c q Target.Min past, k.1) k

@@ -1,7 +1,7 @@
--- name of a step, sight, kept word, expected word: the word on which a replica makes a step; its
--- events, each with the word that its load found; the word as the replica saw or put it last, and
--- at its last `Enter`; the word that its next exchange expects.
-use Rattle.std.specs.Prelude.{Bool, List, None, Some, [], false, if◌then◌else◌, true, ℕ, ◌%◌, ◌&&◌, ◌*◌, ◌+◌, ◌/◌, ◌==◌, ◌∷◌}
+-- sight, kept word, expected word: a replica's events, each with the word that its load found; the
+-- word as the replica saw or put it last, and at its last `Enter`; the word that its next exchange
+-- expects.
+use Rattle.std.specs.Prelude.{List, None, Some, [], false, if◌then◌else◌, ℕ, ◌%◌, ◌&&◌, ◌==◌, ◌∷◌}
 use Rattle.std.specs.declared.option.Option.{Option}
 use Rattle.mu_model.specs.declared.config.Config.{Config}
 use Rattle.mu_model.specs.declared.event.Answer.{Answer}
@@ -13,53 +13,12 @@ use Rattle.mu_model.specs.Leaderships.{noted_grant}
 use Rattle.mu_model.specs.Regions.{or_no_target}
 use Rattle.mu_words.specs.declared.layout.Name.{Name}
 use Rattle.mu_words.specs.Standing.{close_target, is_same_target, standing_word}
+use Rattle.mu_words.specs.Verbs.{is_load, name_at, with_content}
 use Rattle.mu_words.specs.Words.{fence_bits}
-
--- the word that the target names at p; for none, which is never looked at, the minimum
-abbrev pub target_name : ℕ → Target → Name
-target_name p Target.None = Name.Min p
-target_name p Target.Min = Name.Min p
-target_name p (Target.Place s) = Name.Slot p s
-
--- the word on which r makes a step, if its last `Close` found the target
-abbrev pub name_at : ℕ → ℕ → Target → Verb → Name
-name_at ring r target (Verb.Ask p) = Name.Ask p r
-name_at ring r target (Verb.Fence p) = Name.Fence p
-name_at ring r target (Verb.Min p) = Name.Min p
-name_at ring r target (Verb.Enter p t) = Name.Fence p
-name_at ring r target (Verb.PutMin p b) = Name.Min p
-name_at ring r target (Verb.Look p i) = Name.Slot p (i % ring)
-name_at ring r target (Verb.PutSlot p i b v) = Name.Slot p (i % ring)
-name_at ring r target (Verb.Fuo p) = Name.Fuo p
-name_at ring r target (Verb.RaiseFuo p u) = Name.Fuo p
-name_at ring r target (Verb.Head q) = Name.Head q
-name_at ring r target (Verb.ReadBeat q) = Name.Beat q
-name_at ring r target (Verb.WriteRow j k x) = Name.Row r j k
-name_at ring r target (Verb.ReadRow v k) = Name.Row (v / 4096) (v % 4096) k
-name_at ring r target (Verb.RaiseHead h) = Name.Head r
-name_at ring r target Verb.Beat = Name.Beat r
-name_at ring r target (Verb.ReadAsk w) = Name.Ask r w
-name_at ring r target Verb.Close = Name.Fence r
-name_at ring r target Verb.LookTarget = target_name r target
-name_at ring r target Verb.Drain = target_name r target
-name_at ring r target (Verb.Grant w) = Name.Fence r
 
 -- the word on which r makes a step after its own events
 abbrev pub name_of : Config → ℕ → List Event → Verb → Name
 name_of c r mine v = name_at c.ring r (close_target r mine) v
-
--- the step is a load
-abbrev pub is_load : Verb → Bool
-is_load (Verb.Fence p) = true
-is_load (Verb.Min p) = true
-is_load (Verb.Look p i) = true
-is_load (Verb.Fuo p) = true
-is_load (Verb.Head q) = true
-is_load (Verb.ReadBeat q) = true
-is_load (Verb.ReadRow v k) = true
-is_load (Verb.ReadAsk w) = true
-is_load Verb.LookTarget = true
-is_load _ = false
 
 -- the word w, if the step is a load that finds it, else 0
 abbrev pub loaded_by : Verb → ℕ → ℕ
@@ -74,10 +33,6 @@ abbrev pub sights : Config → ℕ → List Event → List (Event × ℕ)
 sights c r [] = []
 sights c r (e ∷ past) =
     if e.by == r then ((e, found_word c r past e.verb) ∷ sights c r past) else sights c r past
-
--- the word by the same stamp with another content
-abbrev pub with_content : ℕ → ℕ → ℕ
-with_content w x = w / 140737488355328 * 140737488355328 + x
 
 -- after one more step: the word that t names at p as r saw or put it last, and as that was at r's
 -- last `Enter` at p

@@ -5,4 +5,5 @@ pub mod Places
 pub mod Standing
 pub mod Stands
 pub mod Steps
+pub mod Verbs
 pub mod Words

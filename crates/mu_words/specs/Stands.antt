@@ -17,8 +17,9 @@ use Rattle.mu_words.specs.declared.layout.Name.{Name}
 use Rattle.mu_words.specs.Finding.{expected, name_of, sights}
 use Rattle.mu_words.specs.Places.{IsLayoutOf, IsName, place_of, word_count}
 use Rattle.mu_words.specs.Standing.{close_grant, stamp, standing_word}
-use Rattle.mu_words.specs.Steps.{VerbFits, WordFits, answer_from, event_of, exchanged, granted, is_exchange, word_after}
+use Rattle.mu_words.specs.Steps.{event_of}
 use Rattle.mu_words.specs.Words.{FenceFits}
+use Rattle.mu_words.specs.Verbs.{VerbFits, WordFits, answer_from, exchanged, granted, is_exchange, word_after}
 
 -- the words stand for the list: at each place the word of its name
 abbrev pub Stands : Config → Layout → List Event → (ℕ → ℕ) → Type 0

@@ -145,18 +145,7 @@ impl Found {
             Verb::Look(p, position) => self.note_look(p, position, word),
             Verb::Close => self.note_close(answer),
             Verb::LookTarget => self.loaded = word,
-            Verb::PutSlot(_, _, _, _)
-            | Verb::Fuo(_)
-            | Verb::RaiseFuo(_, _)
-            | Verb::Head(_)
-            | Verb::ReadBeat(_)
-            | Verb::WriteRow(_, _, _)
-            | Verb::ReadRow(_, _)
-            | Verb::RaiseHead(_)
-            | Verb::Beat
-            | Verb::ReadAsk(_)
-            | Verb::Drain
-            | Verb::Grant(_) => {}
+            _ => {}
         }
     }
 

@@ -1,11 +1,10 @@
 //! The places of all words.
 ghost use Rattle.std.specs.Prelude.{◌%◌, ◌*◌, ◌/◌, ◌<◌, ◌≡◌, ◌≤◌};
 ghost use Rattle.mu_model.specs.Contents.{row_count};
-ghost use Rattle.mu_words.specs.Finding.{name_at};
 ghost use Rattle.mu_words.specs.Places.{IsLayoutOf, IsName, place_of, region_start, rows_start, word_count};
 ghost use Rattle.mu_words.specs.declared.layout.Name.{Name};
 
-use mu_model::{Config, Target, Verb};
+use mu_model::Config;
 
 /// A word by what it holds.
 #[derive(Clone, Copy)]
@@ -151,36 +150,6 @@ impl Layout {
             Name::Ask(p, w) => self.ask_of(p, w),
             Name::Slot(p, place) => self.place_in_ring(p, place),
             Name::Row(r, row, word) => self.place_in_row(r, row, word),
-        }
-    }
-
-    /// The word on which the replica `id` makes the step, if its last `Close` found the target.
-    #[inline(always)]
-    pub fn name_of(&self, id: u8, target: Target, verb: &Verb) -> Name
-        requires { 0 < self.now.ring }
-        ensures { result ≡ name_at self.now.ring id target verb.now }
-    {
-        match *verb {
-            Verb::Ask(p) => Name::Ask(p, id),
-            Verb::Fence(p) | Verb::Enter(p, _) => Name::Fence(p),
-            Verb::Min(p) | Verb::PutMin(p, _) => Name::Min(p),
-            Verb::Look(p, position) | Verb::PutSlot(p, position, _, _) => Name::Slot(
-                p,
-                position % self.ring,
-            ),
-            Verb::Fuo(p) | Verb::RaiseFuo(p, _) => Name::Fuo(p),
-            Verb::Head(q) => Name::Head(q),
-            Verb::ReadBeat(q) => Name::Beat(q),
-            Verb::WriteRow(row, word, _) => Name::Row(id, row, word),
-            Verb::ReadRow(value, word) => Name::Row((value / 4_096) as u8, value % 4_096, word),
-            Verb::RaiseHead(_) => Name::Head(id),
-            Verb::Beat => Name::Beat(id),
-            Verb::ReadAsk(w) => Name::Ask(id, w),
-            Verb::Close | Verb::Grant(_) => Name::Fence(id),
-            Verb::LookTarget | Verb::Drain => match target {
-                Target::Place(place) => Name::Slot(id, place),
-                _ => Name::Min(id),
-            },
         }
     }
 

@@ -13,11 +13,12 @@ ghost use Rattle.mu_words.specs.Steps.{WordSteps};
 
 mod found;
 mod layout;
-mod steps;
+mod verbs;
 mod words;
 
 pub use found::Found;
 pub use layout::{Layout, Name};
+pub use verbs::Move;
 pub use words::{CLOSING, FenceWord, MinWord, SlotWord};
 
 /// Words of different names stand at different places of the list.

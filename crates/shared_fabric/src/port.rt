@@ -6,6 +6,7 @@ ghost use Rattle.shared_steps.specs.Seats.{IsOf, after_step};
 
 use mu_model::{Answer, Event, Verb};
 use mu_port::Port;
+use mu_words::with_each_verb;
 use shared_steps::{PortSeat, Words};
 use std::alloc::Global;
 use std::marker::Model;
@@ -105,31 +106,5 @@ fn stepped(words: &Words, seat: &mut PortSeat, verb: Verb) -> Answer
     ensures part { seat.new ≡ after_step seat.old verb result }
     ensures possible { IsPossible words.now.key seat.new.id seat.new.part }
 {
-    // The verb is named in each arm, so the compiler settles its word, what it expects, its
-    // answer and what is noted.
-    match verb {
-        Verb::WriteRow(row, word, content) => seat.step(words, Verb::WriteRow(row, word, content)),
-        Verb::RaiseFuo(p, fuo) => seat.step(words, Verb::RaiseFuo(p, fuo)),
-        Verb::RaiseHead(head) => seat.step(words, Verb::RaiseHead(head)),
-        Verb::Ask(p) => seat.step(words, Verb::Ask(p)),
-        Verb::Beat => seat.step(words, Verb::Beat),
-        Verb::Enter(p, target) => seat.step(words, Verb::Enter(p, target)),
-        Verb::PutMin(p, number) => seat.step(words, Verb::PutMin(p, number)),
-        Verb::PutSlot(p, position, number, value) => {
-            let verb = Verb::PutSlot(p, position, number, value);
-            seat.step(words, verb)
-        }
-        Verb::Close => seat.step(words, Verb::Close),
-        Verb::Drain => seat.step(words, Verb::Drain),
-        Verb::Grant(owner) => seat.step(words, Verb::Grant(owner)),
-        Verb::Fence(p) => seat.step(words, Verb::Fence(p)),
-        Verb::Min(p) => seat.step(words, Verb::Min(p)),
-        Verb::Look(p, position) => seat.step(words, Verb::Look(p, position)),
-        Verb::Fuo(p) => seat.step(words, Verb::Fuo(p)),
-        Verb::Head(q) => seat.step(words, Verb::Head(q)),
-        Verb::ReadBeat(q) => seat.step(words, Verb::ReadBeat(q)),
-        Verb::ReadRow(value, word) => seat.step(words, Verb::ReadRow(value, word)),
-        Verb::ReadAsk(w) => seat.step(words, Verb::ReadAsk(w)),
-        Verb::LookTarget => seat.step(words, Verb::LookTarget),
-    }
+    with_each_verb!(verb, named => seat.step(words, named))
 }

@@ -19,7 +19,8 @@ use Rattle.mu_words.specs.Finding.{expected, loaded_by, name_of, sights}
 use Rattle.mu_words.specs.Places.{IsLayoutOf, place_of}
 use Rattle.mu_words.specs.Standing.{standing_word}
 use Rattle.mu_words.specs.Stands.{IsStepOn, Stands, set_word}
-use Rattle.mu_words.specs.Steps.{WordFits, event_of, word_after}
+use Rattle.mu_words.specs.Steps.{event_of}
+use Rattle.mu_words.specs.Verbs.{WordFits, word_after}
 use Rattle.mu_words.proofs.Places.{places_inside_law}
 use Rattle.mu_words.proofs.Stand.{longer, stands_written, words_stand_law}
 use Rattle.shared_steps.specs.declared.rule.Entry.{Entry}

@@ -15,6 +15,7 @@ use Rattle.mu_words.specs.declared.layout.Name.{Name}
 use Rattle.mu_words.specs.Places.{IsLayoutOf, IsName, place_of, word_count}
 use Rattle.mu_words.specs.Standing.{standing_word}
 use Rattle.mu_words.specs.Stands.{first_word}
+use Rattle.mu_words.proofs.Stand.{first_words_law}
 use Rattle.mu_words.proofs.Places.{places_differ_law, places_inside_law}
 use Rattle.shared_steps.specs.declared.rule.Entry.{Entry}
 use Rattle.shared_steps.specs.declared.rule.View.{View}
@@ -51,13 +52,7 @@ same_test p q k ne = go (nat_lt p q) refl (nat_lt p (q + 1)) refl
 -- the fences below one more region
 below_other : (n : Name) (p : ℕ) → n ≢ Name.Fence p → first_below p n ≡ first_below (p + 1) n
 below_other (Name.Fence q) p ne = ap (λ b. cond b 14336 0) (sym (same_test q p 0 (λ same. ne (ap Name.Fence same))))
-below_other (Name.Min q) p ne = refl
-below_other (Name.Fuo q) p ne = refl
-below_other (Name.Head q) p ne = refl
-below_other (Name.Beat q) p ne = refl
-below_other (Name.Ask q w) p ne = refl
-below_other (Name.Slot q s) p ne = refl
-below_other (Name.Row r j k) p ne = refl
+below_other n p ne = refl
 
 pub fence_written : (l : Layout) (p w : ℕ) (words : List ℕ) → p < l.replicas → w ≡ 14336 → AreWrittenBelow l p words → AreWrittenBelow l (p + 1) (set words (place_of l (Name.Fence p)) w)
 fence_written l p w words inside is old = record { count = length-set words (place_of l (Name.Fence p)) w ∙ old.count; each = each }
@@ -80,27 +75,11 @@ fence_written l p w words inside is old = record { count = length-set words (pla
 
 all_below : (l : Layout) (n : Name) → IsName l n → first_below l.replicas n ≡ first_word n
 all_below l (Name.Fence p) h = ap (λ b. cond b 14336 0) (lt-ltb p l.replicas h)
-all_below l (Name.Min p) h = refl
-all_below l (Name.Fuo p) h = refl
-all_below l (Name.Head p) h = refl
-all_below l (Name.Beat p) h = refl
-all_below l (Name.Ask p w) h = refl
-all_below l (Name.Slot p s) h = refl
-all_below l (Name.Row r j k) h = refl
+all_below l n h = refl
 
 pub layout_same : (c : Config) (l : Layout) → IsLayoutOf c l → l.rows ≡ row_count c → l ≡ layout_of c
 layout_same c l f rows = λ i. record { replicas = f.replicas i; ring = f.ring i; rows = rows i }
 
-first_word_law : (c : Config) (n : Name) → standing_word c [] n ≡ first_word n
-first_word_law c (Name.Fence p) = refl
-first_word_law c (Name.Min p) = refl
-first_word_law c (Name.Fuo p) = refl
-first_word_law c (Name.Head p) = refl
-first_word_law c (Name.Beat p) = refl
-first_word_law c (Name.Ask p w) = refl
-first_word_law c (Name.Slot p s) = refl
-first_word_law c (Name.Row r j k) = refl
-
 -- once all fences are written the words stand for no event
 pub opened : (c : Config) (words : List ℕ) → AreWrittenBelow (layout_of c) c.replicas words → Shows c [] words
-opened c words w = record { count = w.count; stands = λ n h. w.each n h ∙ (all_below (layout_of c) n h ∙ sym (first_word_law c n)) }
+opened c words w = record { count = w.count; stands = λ n h. w.each n h ∙ (all_below (layout_of c) n h ∙ sym (first_words_law c n)) }

@@ -10,11 +10,13 @@ use Rattle.mu_model.specs.Parts.{IsPossible}
 use Rattle.mu_model.proofs.Basics.{same_some}
 use Rattle.mu_words.specs.declared.layout.Layout.{Layout}
 use Rattle.mu_words.specs.declared.layout.Name.{Name}
-use Rattle.mu_words.specs.Finding.{expected, loaded_by, name_at, name_of}
+use Rattle.mu_words.specs.declared.verbs.Move.{Move}
+use Rattle.mu_words.specs.Finding.{expected, loaded_by, name_of}
 use Rattle.mu_words.specs.Founds.{FoundIs, IsPrepared, Notes}
 use Rattle.mu_words.specs.Places.{IsName, place_of}
-use Rattle.mu_words.specs.Steps.{VerbFits, answer_from}
-use Rattle.mu_words.proofs.Fitting.{place_named, verb_fits}
+use Rattle.mu_words.specs.Verbs.{IsLike, IsMove, VerbFits, WordFits, answer_from, move_of, name_at}
+use Rattle.mu_words.proofs.Fitting.{verb_fits}
+use Rattle.mu_words.proofs.Law.{place_named}
 use Rattle.mu_words.proofs.Limits.{Limits, config_is_limited}
 use Rattle.mu_words.proofs.Places.{places_inside_law}
 use Rattle.mu_words.proofs.Prepared.{allowed_are_prepared_law}
@@ -23,9 +25,8 @@ use Rattle.shared_steps.specs.declared.seat.PortSeat.TheInside as seat
 use Rattle.shared_steps.specs.declared.words.Words.TheInside as words
 use Rattle.shared_steps.specs.Insides.{IsBoard, IsPort, Seated, board_of, mine_of, port_of}
 use Rattle.shared_steps.specs.Rule.{Holds, Told, event_at, layout_of, part_in, single}
-use Rattle.shared_steps.specs.Moves.{IsMove, left_by, told_by}
+use Rattle.shared_steps.specs.Moves.{left_by, told_by}
 use Rattle.shared_steps.specs.Seats.{Board, IsOf, Port}
-use Rattle.shared_steps.specs.declared.moves.Move.{Move}
 use Rattle.shared_steps.proofs.Effects.{does}
 use Rattle.shared_steps.proofs.Keeps.{Does, layout_is, steps}
 
@@ -94,14 +95,17 @@ pub expects_kept : (w : words.Inside) (s : seat.Inside) (v : Verb) (r : Ready w 
 expects_kept w s v r x tells = tells w.table.shared.key (mine_of s) (seated w s v r).seen (seated w s v r).found_is (prepared w s v r)
 
 -- what a step of the verb tells, by the word that its move tells
+told_like : (fits : ℕ → Type 0) (this m : Move) (n : ℕ) → IsLike fits this m → told_by m n ≡ told_by this n
+told_like fits (Move.Exchange old new) m n is = ap (λ k. told_by k n) is.1
+told_like fits this m n is = ap (λ k. told_by k n) is
+
+told_move : (ring grant : ℕ) (v : Verb) (x : ℕ) (me : Me (Unit {0}) View) (n : ℕ) (after : Me (Unit {0}) View) → Told v me n after → Told v me (told_by (move_of ring grant v x) n) after
+told_move ring grant (Verb.WriteRow j k y) x me n after told = λ c r mine seen so. let g = told c r mine seen so in record { is = g.is; possible = g.possible }
+told_move ring grant v x me n after told = told
+
 told_as : (ring grant : ℕ) (v : Verb) (x : ℕ) (m : Move) → IsMove ring grant v x m → (me : Me (Unit {0}) View) (n : ℕ) (after : Me (Unit {0}) View) → Told v me n after → Told v me (told_by m n) after
-told_as ring grant (Verb.WriteRow j k y) x m is me n after told =
-    subst (λ o. Told (Verb.WriteRow j k y) me (told_by o n) after) (sym is) (λ c r mine seen so. let g = told c r mine seen so in record { is = g.is; possible = g.possible })
-told_as ring grant (Verb.Enter p t) x m is me n after told = subst (λ o. Told (Verb.Enter p t) me (told_by o n) after) (sym is.1) told
-told_as ring grant (Verb.PutMin p b) x m is me n after told = subst (λ o. Told (Verb.PutMin p b) me (told_by o n) after) (sym is.1) told
-told_as ring grant (Verb.PutSlot p i b v) x m is me n after told = subst (λ o. Told (Verb.PutSlot p i b v) me (told_by o n) after) (sym is.1) told
-told_as ring grant Verb.Drain x m is me n after told = subst (λ o. Told Verb.Drain me (told_by o n) after) (sym is.1) told
-told_as ring grant v x m is me n after told = subst (λ o. Told v me (told_by o n) after) (sym is) told
+told_as ring grant v x m is me n after told =
+    subst (λ k. Told v me k after) (sym (told_like (WordFits v) (move_of ring grant v x) m n is)) (told_move ring grant v x me n after told)
 
 -- what `steps` asks, at the seat as the port has it
 pub allows : (w : words.Inside) (s : seat.Inside) (v : Verb) (i : ℕ) (f : ℕ → ℕ) → (r : Ready w s v) → i ≡ place_of w.layout (name_at w.layout.ring s.id s.found.close_target v)

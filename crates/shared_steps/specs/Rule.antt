@@ -17,7 +17,7 @@ use Rattle.mu_words.specs.declared.layout.Layout.{Layout}
 use Rattle.mu_words.specs.Finding.{expected, loaded_by, sights}
 use Rattle.mu_words.specs.Places.{word_count}
 use Rattle.mu_words.specs.Stands.{Stands}
-use Rattle.mu_words.specs.Steps.{answer_from}
+use Rattle.mu_words.specs.Verbs.{answer_from}
 use Rattle.shared_steps.specs.declared.rule.Entry.{Entry}
 use Rattle.shared_steps.specs.declared.rule.View.{View}
 

@@ -1,68 +1,19 @@
 //! One atomic step, which tells of the verb that it is for.
 ghost use Rattle.std.specs.Prelude.{[], ◌<◌, ◌≡◌};
 ghost use Rattle.atomic_table.specs.Table.{Allows, Splits};
-ghost use Rattle.mu_words.specs.Steps.{VerbFits};
-ghost use Rattle.shared_steps.specs.Moves.{IsMove, left_by, told_by};
+ghost use Rattle.shared_steps.specs.Moves.{left_by, told_by};
 ghost use Rattle.shared_steps.specs.Rule.{Holds, Told, only_view, without_view};
 
 use crate::rule::{Cut, NamesReplica, NamesVerb, OneListRule, VerbStep, View};
 use atomic_table::{Seat, Shared};
 use mu_model::{Config, Verb};
-use mu_words::{CLOSING, Found, Layout};
+use mu_words::Move;
 
 /// The words of all replicas, under the rule.
 pub(crate) type Board = Shared<(), View, Config, OneListRule>;
 
 /// The seat of a thread, with what it knows.
 pub(crate) type ViewSeat = Seat<(), View>;
-
-/// What an atomic step does to its word.
-#[derive(Clone, Copy)]
-pub(crate) enum Move {
-    /// Loads it.
-    Load,
-    /// Stores this one.
-    Store(u64),
-    /// Raises it to this number, unless it is greater.
-    Raise(u64),
-    /// Adds 1 to it.
-    Add,
-    /// Sets these bits of it.
-    SetBits(u64),
-    /// Puts the second in its place, if it still is the first. It is tried once.
-    Exchange(u64, u64),
-    /// Puts this one in its place.
-    Swap(u64),
-}
-
-/// What the step of the verb does, whose exchange expects this word.
-#[inline(always)]
-pub(crate) fn move_of(layout: &Layout, found: &Found, verb: &Verb, expected: u64) -> Move
-    requires ring { 0 < layout.now.ring }
-    requires fields { VerbFits layout.now.ring verb.now }
-    ensures { IsMove layout.now.ring found.now.close_grant verb.now expected result }
-{
-    match *verb {
-        Verb::WriteRow(_, _, content) => Move::Store(content),
-        Verb::RaiseFuo(_, fuo) => Move::Raise(u64::from(fuo)),
-        Verb::RaiseHead(head) => Move::Raise(u64::from(head)),
-        Verb::Ask(_) | Verb::Beat => Move::Add,
-        Verb::Close => Move::SetBits(CLOSING),
-        Verb::Grant(owner) => Move::Swap(layout.granted(found.close_grant(), owner)),
-        Verb::Enter(_, _) | Verb::PutMin(_, _) | Verb::PutSlot(_, _, _, _) | Verb::Drain => {
-            Move::Exchange(expected, layout.exchanged(verb, expected))
-        }
-        Verb::Fence(_)
-        | Verb::Min(_)
-        | Verb::Look(_, _)
-        | Verb::Fuo(_)
-        | Verb::Head(_)
-        | Verb::ReadBeat(_)
-        | Verb::ReadRow(_, _)
-        | Verb::ReadAsk(_)
-        | Verb::LookTarget => Move::Load,
-    }
-}
 
 /// Makes the step. Gives the word that it found, but of a store the word that it stored.
 #[inline(always)]

@@ -4,7 +4,7 @@ ghost use Rattle.mu_model.specs.Allowed.{Allowed};
 ghost use Rattle.mu_model.specs.Parts.{IsPossible};
 ghost use Rattle.shared_steps.specs.Seats.{IsOf, after_step};
 
-use crate::moves::{ViewSeat, make, move_of};
+use crate::moves::{ViewSeat, make};
 use crate::step::{Sight, note, word_place};
 use crate::words::Words;
 use mu_model::{Answer, Verb};
@@ -49,7 +49,8 @@ impl PortSeat {
     {
         let place = word_place(&words.layout, &self.found, self.id, &verb);
         let expected = self.found.expected(self.id, &verb);
-        let step = move_of(&words.layout, &self.found, &verb, expected);
+        let grant = self.found.close_grant();
+        let step = words.layout.move_of(grant, &verb, expected);
         let word = make::<Brand>(&words.table.shared, &mut self.seat, place, step, verb);
         let sight = Sight { expected, word };
         note(&words.layout, &mut self.found, self.id, verb, sight)

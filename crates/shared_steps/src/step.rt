@@ -1,9 +1,8 @@
 //! What the steps of all kinds share: on which word a step is made, and how it is noted.
 ghost use Rattle.std.specs.Prelude.{◌<◌, ◌≡◌};
-ghost use Rattle.mu_words.specs.Finding.{name_at};
 ghost use Rattle.mu_words.specs.Founds.{Notes};
 ghost use Rattle.mu_words.specs.Places.{IsName, place_of};
-ghost use Rattle.mu_words.specs.Steps.{answer_from};
+ghost use Rattle.mu_words.specs.Verbs.{answer_from, name_at};
 
 use mu_model::{Answer, Verb};
 use mu_words::{Found, Layout};

@@ -26,13 +26,7 @@ below_here p = rw (lt-ltb p (p + 1) (omega arith)) refl
 
 same_below : (p : ℕ) (n : Name) → n ≢ Name.Fence p → first_below p n ≡ first_below (p + 1) n
 same_below p (Name.Fence q) apart = ap (λ t. cond t 14336 0) (below_other p q (λ e. apart (ap Name.Fence e)))
-same_below p (Name.Min q) apart = refl
-same_below p (Name.Fuo q) apart = refl
-same_below p (Name.Head q) apart = refl
-same_below p (Name.Beat q) apart = refl
-same_below p (Name.Ask q w) apart = refl
-same_below p (Name.Slot q s) apart = refl
-same_below p (Name.Row r j k) apart = refl
+same_below p n apart = refl
 
 -- one more fence has its first word
 pub first_more : (l : Layout) (p i : ℕ) (ws : List ℕ) → p < l.replicas → i ≡ place_of l (Name.Fence p) → HoldsFirst l p ws → HoldsFirst l (p + 1) (set ws i 14336)
@@ -56,13 +50,7 @@ low_below p i low = rw (lt-ltb p i low) refl
 
 all_below : (l : Layout) (i : ℕ) (n : Name) → i ≡ l.replicas → IsName l n → first_below i n ≡ first_word n
 all_below l i (Name.Fence p) e named = low_below p i (omega (arith, e, named))
-all_below l i (Name.Min p) e named = refl
-all_below l i (Name.Fuo p) e named = refl
-all_below l i (Name.Head p) e named = refl
-all_below l i (Name.Beat p) e named = refl
-all_below l i (Name.Ask p w) e named = refl
-all_below l i (Name.Slot p s) e named = refl
-all_below l i (Name.Row r j k) e named = refl
+all_below l i n e named = refl
 
 -- the fabric before any event
 pub kept_first : (c : Config) (events : List Event) (room : ℕ) (l : Layout) (ws : List ℕ) (fs : List Found) → IsConfig c → IsLayoutOf c l → events ≡ [] → room ≡ c.replicas * c.budget

@@ -18,12 +18,13 @@ use Rattle.mu_model.proofs.Budgets.{legal_keeps, room_for}
 use Rattle.mu_model.proofs.Lists.{set_get}
 use Rattle.mu_words.specs.declared.found.Found.{Found}
 use Rattle.mu_words.specs.declared.layout.Layout.{Layout}
-use Rattle.mu_words.specs.Finding.{found_word, loaded_by, name_at, name_of, sights}
+use Rattle.mu_words.specs.Finding.{found_word, loaded_by, name_of, sights}
 use Rattle.mu_words.specs.Founds.{FoundIs}
 use Rattle.mu_words.specs.Places.{IsName, place_of}
 use Rattle.mu_words.specs.Stands.{Stands, set_word, step_expects, step_name}
 use Rattle.mu_words.specs.Standing.{standing_word}
-use Rattle.mu_words.specs.Steps.{VerbFits, WordFits, answer_from, event_of, word_after}
+use Rattle.mu_words.specs.Steps.{event_of}
+use Rattle.mu_words.specs.Verbs.{VerbFits, WordFits, answer_from, name_at, word_after}
 use Rattle.mu_words.proofs.Places.{places_inside_law}
 use Rattle.mu_words.proofs.Prepared.{allowed_are_prepared_law}
 use Rattle.mu_words.proofs.Stand.{stands_written, words_stand_law}

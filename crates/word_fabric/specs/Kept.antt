@@ -11,11 +11,11 @@ use Rattle.mu_model.specs.Legal.{IsLegal}
 use Rattle.mu_words.specs.declared.found.Found.{Found}
 use Rattle.mu_words.specs.declared.layout.Layout.{Layout}
 use Rattle.mu_words.specs.declared.layout.Name.{Name}
-use Rattle.mu_words.specs.Finding.{expected, name_at, sights}
+use Rattle.mu_words.specs.Finding.{expected, sights}
 use Rattle.mu_words.specs.Founds.{FoundIs, IsPrepared, Notes}
 use Rattle.mu_words.specs.Places.{IsLayoutOf, IsName, place_of, word_count}
 use Rattle.mu_words.specs.Stands.{Stands}
-use Rattle.mu_words.specs.Steps.{answer_from, word_after}
+use Rattle.mu_words.specs.Verbs.{answer_from, name_at, word_after}
 
 -- what each replica keeps stands for its own events and the words that its loads found
 abbrev pub HoldsFounds : Config → List Event → List Found → Type 0

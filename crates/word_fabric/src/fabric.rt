@@ -4,7 +4,7 @@ ghost use Rattle.std.specs.Prelude.{◌≡◌, [], IfOk};
 use crate::making::make_step;
 use mu_model::{Answer, Config, Event, Journal, NoMemory, Verb};
 use mu_port::Memory;
-use mu_words::{Found, Layout};
+use mu_words::{Found, Layout, with_each_verb};
 use std::alloc::Global;
 use std::marker::Model;
 
@@ -56,8 +56,7 @@ impl WordFabric {
     }
 
     /// Makes a step that is allowed, inlined where the verb is named: so the compiler settles its
-    /// word, what it expects, answers and leaves, and what is noted. Looking at the verb for each of
-    /// these took a fifth of a replay.
+    /// word, what it expects, answers and leaves, and what is noted.
     #[inline(always)]
     pub(crate) fn make(&mut self, by: u8, verb: Verb) -> Answer
         requires { Allowed self.old.config by (part by (history self.old.events)) verb }
@@ -88,30 +87,7 @@ impl Memory for WordFabric {
 
     #[inline(always)]
     fn step(&mut self, by: u8, verb: Verb) -> Answer {
-        match verb {
-            Verb::Ask(p) => self.make(by, Verb::Ask(p)),
-            Verb::Fence(p) => self.make(by, Verb::Fence(p)),
-            Verb::Min(p) => self.make(by, Verb::Min(p)),
-            Verb::Enter(p, target) => self.make(by, Verb::Enter(p, target)),
-            Verb::PutMin(p, number) => self.make(by, Verb::PutMin(p, number)),
-            Verb::Look(p, position) => self.make(by, Verb::Look(p, position)),
-            Verb::PutSlot(p, position, number, value) => {
-                self.make(by, Verb::PutSlot(p, position, number, value))
-            }
-            Verb::Fuo(p) => self.make(by, Verb::Fuo(p)),
-            Verb::RaiseFuo(p, fuo) => self.make(by, Verb::RaiseFuo(p, fuo)),
-            Verb::Head(q) => self.make(by, Verb::Head(q)),
-            Verb::ReadBeat(q) => self.make(by, Verb::ReadBeat(q)),
-            Verb::WriteRow(row, word, content) => self.make(by, Verb::WriteRow(row, word, content)),
-            Verb::ReadRow(value, word) => self.make(by, Verb::ReadRow(value, word)),
-            Verb::RaiseHead(head) => self.make(by, Verb::RaiseHead(head)),
-            Verb::Beat => self.make(by, Verb::Beat),
-            Verb::ReadAsk(w) => self.make(by, Verb::ReadAsk(w)),
-            Verb::Close => self.make(by, Verb::Close),
-            Verb::LookTarget => self.make(by, Verb::LookTarget),
-            Verb::Drain => self.make(by, Verb::Drain),
-            Verb::Grant(owner) => self.make(by, Verb::Grant(owner)),
-        }
+        with_each_verb!(verb, named => self.make(by, named))
     }
 
     fn ask(&mut self, by: u8, p: u8) -> Answer {

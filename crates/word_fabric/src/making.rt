@@ -1,9 +1,8 @@
 //! The first words, and one step on them.
 ghost use Rattle.std.specs.Prelude.{IfOk, [], length, slice_index, ◌<◌, ◌≡◌};
 ghost use Rattle.mu_model.specs.Contents.{IsConfig};
-ghost use Rattle.mu_words.specs.Finding.{name_at};
 ghost use Rattle.mu_words.specs.Places.{IsLayoutOf, IsName, word_count};
-ghost use Rattle.mu_words.specs.Steps.{VerbFits, WordFits};
+ghost use Rattle.mu_words.specs.Verbs.{VerbFits, WordFits, name_at};
 ghost use Rattle.word_fabric.specs.Kept.{HoldsFirst, HoldsFounds, IsMade, place_at};
 
 use mu_model::{Answer, Config, NoMemory, Verb};

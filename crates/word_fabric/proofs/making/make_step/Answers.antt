@@ -1,8 +1,8 @@
 use Rattle.std.proofs.Common.{◌≡◌, ◌∙◌, ap, slice_index, slice_set, subst}
-use Rattle.mu_words.specs.Finding.{expected, name_at}
+use Rattle.mu_words.specs.Finding.{expected}
 use Rattle.mu_words.specs.Places.{place_of}
-use Rattle.mu_words.specs.Steps.{answer_from, word_after}
 use Rattle.mu_words.specs.Founds.{Notes}
+use Rattle.mu_words.specs.Verbs.{answer_from, name_at, word_after}
 use Rattle.word_fabric.specs.Kept.{place_at}
 use Rattle.word_fabric.proofs.making.make_step.Goals as goal
 

@@ -1,5 +1,5 @@
 use Rattle.std.proofs.Common.{◌∙◌, ◌≡◌, rules, sym, true}
-use Rattle.mu_regions.proofs.Quiet.{read_kept}
+use Rattle.mu_regions.proofs.Elsewhere.{read_kept}
 use Rattle.mu_regions.proofs.region.Region.take.Goals as goal
 
 pub returns : goal.returns

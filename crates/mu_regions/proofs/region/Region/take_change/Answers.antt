@@ -1,6 +1,6 @@
 use Rattle.std.proofs.Common.{◌∙◌, ◌∷◌, ◌≡◌, rules, subst, sym, true}
 use Rattle.mu_model.specs.Regions.{beats}
-use Rattle.mu_regions.proofs.Quiet.{beat_taken}
+use Rattle.mu_regions.proofs.Elsewhere.{beat_taken}
 use Rattle.mu_regions.proofs.region.Region.take_change.Goals as goal
 
 pub returns : goal.returns

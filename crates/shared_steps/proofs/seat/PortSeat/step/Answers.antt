@@ -1,4 +1,5 @@
-use Rattle.std.proofs.Common.{◌∙◌, ◌∷◌, refl}
+use Rattle.std.proofs.Common.{◌∙◌, ◌∷◌, refl, subst}
+use Rattle.mu_words.specs.Verbs.{IsMove}
 use Rattle.shared_steps.specs.Seats.{Port}
 use Rattle.shared_steps.proofs.Ports.{Made, Ready, allows_move, expects_kept, name_is_of_layout, now_part, now_port, now_possible, place_is_inside, seat_is_ready, verb_in_range}
 use Rattle.shared_steps.proofs.seat.PortSeat.step.Goals as goal
@@ -14,7 +15,8 @@ make-word-requires-clause-inside c = place_is_inside _ _ _ _ (seat_is_ready _ _ 
 
 pub make-word-requires-clause-rule : goal.make-word-requires-clause-rule
 make-word-requires-clause-rule c =
-    allows_move _ _ _ _ c.expected-expected.result c.move_of-step.result (seat_is_ready _ _ _ _ _ c.words.view_is c.self.view_is c.words.invariant c.self.invariant c.requires.of c.requires.allowed) c.word_place-place.ensures c.expected-expected.ensures c.move_of-step.ensures
+    allows_move _ _ _ _ c.expected-expected.result c.move_of-step.result (seat_is_ready _ _ _ _ _ c.words.view_is c.self.view_is c.words.invariant c.self.invariant c.requires.of c.requires.allowed) c.word_place-place.ensures c.expected-expected.ensures
+    (subst (λ g. IsMove c.words.inside.layout.ring g c.args.verb c.expected-expected.result c.move_of-step.result) c.close_grant-grant.ensures c.move_of-step.ensures)
 
 can : (c : goal.After-note) → Ready c.words.inside c.self.inside c.args.verb
 can c = seat_is_ready _ _ _ _ _ c.words.view_is c.self.view_is c.words.invariant c.self.invariant c.requires.of c.requires.allowed

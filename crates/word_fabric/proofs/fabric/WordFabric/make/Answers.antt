@@ -5,11 +5,11 @@ use Rattle.mu_model.specs.Answers.{answer_of}
 use Rattle.mu_model.specs.Histories.{history, part}
 use Rattle.mu_model.specs.Packing.{FitsJournal}
 use Rattle.mu_model.proofs.Unpacking.{answered_fits}
-use Rattle.mu_words.specs.Steps.{WordFits}
 use Rattle.mu_port.specs.Keeping.{Kept}
 use Rattle.word_fabric.specs.Kept.{IsMade, IsWordsKept, place_at}
 use Rattle.word_fabric.proofs.Going.{found_there, has_room, kept_next, ready, refilled}
 use Rattle.word_fabric.proofs.fabric.WordFabric.make.Goals as goal
+use Rattle.mu_words.specs.Verbs.{WordFits}
 
 pub make_step-answer-requires-clause-fields : goal.make_step-answer-requires-clause-fields
 make_step-answer-requires-clause-fields c =
