@@ -5,7 +5,6 @@
 //! Nothing that a run does stands on this crate: there the same answers come from running states.
 #![tactic(auto)]
 
-mod answering;
 mod entering;
 mod fetching;
 mod hosting;

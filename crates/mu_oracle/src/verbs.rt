@@ -1,17 +1,14 @@
 //! Verb by verb: what a replica may do next, and what it is answered.
-ghost use Rattle.std.specs.Prelude.{IsTrue, length, ◌+◌, ◌<◌, ◌^◌, ◌↔◌, ◌≡◌, ◌≤◌, ℕ};
+ghost use Rattle.std.specs.List.{slice_get};
+ghost use Rattle.std.specs.Prelude.{IsTrue, List, [], if◌then◌else◌, length, set, ℕ, ◌++◌, ◌+◌, ◌<◌, ◌==◌, ◌^◌, ◌↔◌, ◌∷◌, ◌≡◌, ◌≤◌};
 ghost use Rattle.mu_model.specs.Allowed.{Allowed, Needs};
-ghost use Rattle.mu_model.specs.Answers.{answer_of};
+ghost use Rattle.mu_model.specs.Answers.{answer_of, drained};
 ghost use Rattle.mu_model.specs.Contents.{row_count};
 ghost use Rattle.mu_model.specs.Histories.{history, newest};
 ghost use Rattle.mu_model.specs.Points.{last_ask};
-ghost use Rattle.mu_model.specs.Regions.{fence_grant};
+ghost use Rattle.mu_model.specs.Regions.{asks, beats, fence, fence_grant, region_fuo, region_head, region_log, region_min, row_word};
 ghost use Rattle.mu_model.specs.Room.{reserve};
 
-use crate::answering::{
-    asks_of, beats_of, entry_at, fence_of, fuo_of, head_of, is_drained, log_length, minimum_of,
-    word_of,
-};
 use crate::entering::{may_enter, may_put_min};
 use crate::fetching::{applied_length, has_written};
 use crate::hosting::{
@@ -20,7 +17,9 @@ use crate::hosting::{
 use crate::knowledge::{are_filled, known_length};
 use crate::leadership::{grant_noted, has_asked, has_ended};
 use crate::placing::{has_reached, may_put_slot};
-use mu_model::{Answer, Config, Event, Fence, PAYLOADS, Verb, count_of_rows, reserve_of, row_word};
+use mu_model::{
+    Answer, Config, Event, Fence, PAYLOADS, Target, Verb, count_of_rows, reserve_of, row_word,
+};
 
 /// The region that was asked last.
 fn asked_last(r: u8, part: &[Event]) -> Option<u8>
@@ -102,6 +101,209 @@ pub fn allows(config: &Config, by: u8, part: &[Event], verb: &Verb) -> bool
     part.len() < config.budget as usize
         && by < config.replicas
         && meets_needs(config, by, part, verb)
+}
+
+/// The fence of `p`.
+fn fence_of(p: u8, events: &[Event]) -> Fence
+    requires { fence_grant p (history events.now) < 2 ^ 32 }
+    ensures { result ≡ fence p (history events.now) }
+{
+    let mut fence = Fence {
+        owner: None,
+        grant: 0,
+        closing: false,
+        target: Target::None,
+    };
+    for e in events {
+        match (e.verb, e.answer) {
+            (Verb::Grant(w), _) => {
+                if e.by == p {
+                    fence.owner = Some(w);
+                    fence.grant = fence.grant.saturating_add(1);
+                    fence.closing = false;
+                    fence.target = Target::None;
+                }
+            }
+            (Verb::Close, _) => {
+                if e.by == p {
+                    fence.closing = true;
+                }
+            }
+            (Verb::Enter(q, t), Answer::Entered) => {
+                if q == p {
+                    fence.target = t;
+                }
+            }
+            _ => {}
+        }
+    }
+    fence
+}
+
+/// The minimum of `p`.
+fn minimum_of(p: u8, events: &[Event]) -> u32
+    ensures { result ≡ region_min p (history events.now) }
+{
+    let mut minimum = 0;
+    for e in events {
+        if let (Verb::PutMin(q, b), Answer::Done) = (e.verb, e.answer) {
+            if q == p {
+                minimum = b;
+            }
+        }
+    }
+    minimum
+}
+
+/// The FUO of `p`.
+fn fuo_of(p: u8, events: &[Event]) -> u16
+    ensures { result ≡ region_fuo p (history events.now) }
+{
+    let mut fuo: u16 = 0;
+    for e in events {
+        if let Verb::RaiseFuo(q, u) = e.verb {
+            if q == p {
+                fuo = fuo.max(u);
+            }
+        }
+    }
+    fuo
+}
+
+/// The head of `p`.
+fn head_of(p: u8, events: &[Event]) -> u16
+    ensures { result ≡ region_head p (history events.now) }
+{
+    let mut head: u16 = 0;
+    for e in events {
+        if let Verb::RaiseHead(h) = e.verb {
+            if e.by == p {
+                head = head.max(h);
+            }
+        }
+    }
+    head
+}
+
+/// How many beats `q` made.
+fn beats_of(q: u8, events: &[Event]) -> u64
+    ensures { result ≡ beats q (history events.now) }
+{
+    let mut count: u64 = 0;
+    for e in events {
+        if let Verb::Beat = e.verb {
+            if e.by == q {
+                count += 1;
+            }
+        }
+    }
+    count
+}
+
+/// How often `w` asked `p`.
+fn asks_of(w: u8, p: u8, events: &[Event]) -> u64
+    ensures { result ≡ asks w p (history events.now) }
+{
+    let mut count: u64 = 0;
+    for e in events {
+        if let Verb::Ask(q) = e.verb {
+            if e.by == w && q == p {
+                count += 1;
+            }
+        }
+    }
+    count
+}
+
+/// Word `k` of the row of the payload number `v`.
+fn word_of(v: u16, k: u8, events: &[Event]) -> u64
+    ensures { result ≡ row_word v k (history events.now) }
+{
+    let mut word = 0;
+    for e in events {
+        if let Verb::WriteRow(row, l, x) = e.verb {
+            if u16::from(e.by) == v / PAYLOADS && row == v % PAYLOADS && l == k {
+                word = x;
+            }
+        }
+    }
+    word
+}
+
+/// How long the log of `p` is.
+fn log_length(p: u8, events: &[Event]) -> u64
+    ensures { result ≡ length (region_log p (history events.now)) }
+{
+    let mut count: u64 = 0;
+    for e in events {
+        if let (Verb::PutSlot(q, j, _, _), Answer::Done) = (e.verb, e.answer) {
+            if q == p && u64::from(j) == count {
+                count += 1;
+            }
+        }
+    }
+    count
+}
+
+/// The entry at `i` of a log of `count` entries after a put at `j`.
+#[tactic(auto, using(crate::proofs::Entries::get_after))]
+fn entry_after(
+    entry: Option<(u32, u16)>,
+    count: u64,
+    i: u16,
+    j: u16,
+    put: (u32, u16),
+) -> Option<(u32, u16)>
+    ensures { (log : List (ℕ × ℕ)) → length log ≡ count → slice_get log i ≡ entry
+        → result ≡ slice_get (if j == length log then log ++ put ∷ [] else set log j put) i }
+{
+    if j == i && u64::from(j) <= count {
+        Some(put)
+    } else {
+        entry
+    }
+}
+
+/// What stands in the log of `p` at `i`.
+fn entry_at(p: u8, i: u16, events: &[Event]) -> Option<(u32, u16)>
+    ensures { result ≡ slice_get (region_log p (history events.now)) i }
+{
+    let mut entry: Option<(u32, u16)> = None;
+    let mut count: u64 = 0;
+    for e in events {
+        if let (Verb::PutSlot(q, j, b, v), Answer::Done) = (e.verb, e.answer) {
+            if q == p {
+                entry = entry_after(entry, count, i, j, (b, v));
+                if u64::from(j) == count {
+                    count += 1;
+                }
+            }
+        }
+    }
+    entry
+}
+
+/// Whether `p` was drained since the last `Enter` of `r` there.
+fn is_drained(r: u8, p: u8, events: &[Event]) -> bool
+    ensures { result ≡ drained r p (history events.now) }
+{
+    let mut drained = false;
+    for e in events {
+        match e.verb {
+            Verb::Enter(q, _) => {
+                if e.by == r && q == p {
+                    drained = false;
+                }
+            }
+            Verb::Drain => {
+                if e.by == p {
+                    drained = true;
+                }
+            }
+            _ => {}
+        }
+    }
+    drained
 }
 
 /// What the replica `by` is answered to `verb` after `events`, if each region was granted fewer

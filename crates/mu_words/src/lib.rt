@@ -19,7 +19,7 @@ mod words;
 pub use found::Found;
 pub use layout::{Layout, Name};
 pub use verbs::Move;
-pub use words::{CLOSING, FenceWord, MinWord, SlotWord};
+pub use words::{FenceWord, MinWord, SlotWord};
 
 /// Words of different names stand at different places of the list.
 pub fn places_differ()

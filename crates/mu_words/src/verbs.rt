@@ -31,7 +31,7 @@ pub enum Move {
 impl Move {
     /// The word that the move makes of this one.
     #[inline(always)]
-    pub fn made_of(self, word: u64) -> u64
+    fn made_of(self, word: u64) -> u64
         requires { HasRoom self word }
         ensures { result ≡ made_of self word }
     {
@@ -47,8 +47,8 @@ impl Move {
     }
 }
 
-/// Runs the code with the verb under a name, in an arm for each verb: there the compiler settles what
-/// only the verb decides. Looking at the verb for each of these took a fifth of a replay.
+/// Runs the code with the verb under this name, in an arm for each verb: so the compiler settles all
+/// that the verb alone decides. Looking at the verb again and again took a fifth of a replay.
 #[macro_export]
 macro_rules! with_each_verb {
     ($verb:expr, $name:ident => $code:expr) => {

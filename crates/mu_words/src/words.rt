@@ -17,7 +17,7 @@ pub(crate) const PROPOSAL: u64 = 32_768;
 pub(crate) const GRANT: u64 = 32_768;
 
 /// The bit of a closing fence.
-pub const CLOSING: u64 = 16_384;
+pub(crate) const CLOSING: u64 = 16_384;
 
 /// The lowest bit of the owner of a fence.
 pub(crate) const OWNER: u64 = 2_048;

@@ -1,5 +1,5 @@
 -- What the step of each verb does to its word is what the law makes of it.
-use Rattle.std.proofs.Common.{◌≡◌, ℕ, Bool, true, false, cond, ◌%◌, ◌/◌, ◌==◌, List, refl, sym, ap, subst, ◌∙◌, eqb-true, arith}
+use Rattle.std.proofs.Common.{◌≡◌, ℕ, Bool, true, false, cond, ◌==◌, List, refl, sym, ap, subst, ◌∙◌, eqb-true, arith}
 use prog.Atomic.{either}
 use Rattle.std.proofs.Math.Nat.{max_comm}
 use Rattle.std.proofs.lemmas.Bool.{eqb-false, ne_eqb}

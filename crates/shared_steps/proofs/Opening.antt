@@ -13,7 +13,6 @@ use Rattle.mu_model.proofs.Basics.{same_some}
 use Rattle.mu_words.specs.declared.layout.Layout.{Layout}
 use Rattle.mu_words.specs.declared.layout.Name.{Name}
 use Rattle.mu_words.specs.Places.{IsLayoutOf, IsName, place_of, word_count}
-use Rattle.mu_words.specs.Standing.{standing_word}
 use Rattle.mu_words.specs.Stands.{first_word}
 use Rattle.mu_words.proofs.Stand.{first_words_law}
 use Rattle.mu_words.proofs.Places.{places_differ_law, places_inside_law}
