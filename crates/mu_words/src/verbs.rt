@@ -47,17 +47,18 @@ impl Move {
     }
 }
 
-/// Runs the code with the verb under this name, in an arm for each verb: so the compiler settles all
-/// that the verb alone decides. Looking at the verb again and again took a fifth of a replay.
+/// Runs the code with the verb under this name, in an arm for each verb, the commonest first: so the
+/// compiler settles all that the verb alone decides. Looking at the verb again and again took a
+/// fifth of a replay.
 #[macro_export]
 macro_rules! with_each_verb {
     ($verb:expr, $name:ident => $code:expr) => {
         $crate::with_each_verb!(
             $verb, $name => $code;
-            Ask(p), Fence(p), Min(p), Enter(p, target), PutMin(p, number), Look(p, position),
-            PutSlot(p, position, number, value), Fuo(p), RaiseFuo(p, fuo), Head(q), ReadBeat(q),
-            WriteRow(row, word, content), ReadRow(value, word), RaiseHead(head), Beat, ReadAsk(w),
-            Close, LookTarget, Drain, Grant(owner)
+            Beat, ReadRow(value, word), WriteRow(row, word, content), ReadAsk(w), ReadBeat(q),
+            Look(p, position), Head(q), Fuo(p), RaiseFuo(p, fuo), RaiseHead(head), Enter(p, target),
+            PutSlot(p, position, number, value), Ask(p), Fence(p), Min(p), PutMin(p, number), Close,
+            LookTarget, Drain, Grant(owner)
         )
     };
     ($verb:expr, $name:ident => $code:expr; $($each:ident $(($($part:ident),+))?),+) => {
