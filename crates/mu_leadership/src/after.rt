@@ -1,26 +1,22 @@
 //! What the next event makes of each thing that a leadership has come to.
-ghost use Rattle.std.specs.Prelude.{List, ◌∷◌, ◌≡◌};
 ghost use Rattle.mu_model.specs.declared.event.Event.{Event};
-ghost use Rattle.mu_model.specs.Points.{last_ask};
-ghost use Rattle.mu_model.specs.Entering.{any_min_read};
-ghost use Rattle.mu_model.specs.Histories.{greatest, newest};
-ghost use Rattle.mu_model.specs.Leaderships.{has_begun, leadership, number_put, proposal_number};
+ghost use Rattle.mu_model.specs.Histories.{greatest};
+ghost use Rattle.mu_model.specs.Leaderships.{has_begun, leadership, proposal_number};
+ghost use Rattle.mu_leadership.specs.Leadership.{Adds, greatest_put, greatest_read, last_asked};
 
 use crate::region_notes::begins;
 use mu_model::{Answer, Event, Verb};
 
 /// Whether a leadership has begun, after the event.
 pub(crate) fn begun_after(held: bool, r: u8, event: &Event) -> bool
-    ensures { (mine : List Event) → held ≡ has_begun r mine
-        → result ≡ has_begun r (event.now ∷ mine) }
+    ensures { Adds (has_begun r) event.now held result }
 {
     begins(r, event) || held
 }
 
 /// The region that was asked last, after the event.
 pub(crate) fn asked_after(held: Option<u8>, r: u8, event: &Event) -> Option<u8>
-    ensures { (mine : List Event) → held ≡ newest (λ e. last_ask r e.by e.verb) mine
-        → result ≡ newest (λ e. last_ask r e.by e.verb) (event.now ∷ mine) }
+    ensures { Adds (last_asked r) event.now held result }
 {
     match event.verb {
         Verb::Ask(p) => { if event.by == r { Some(p) } else { held } }
@@ -30,8 +26,7 @@ pub(crate) fn asked_after(held: Option<u8>, r: u8, event: &Event) -> Option<u8>
 
 /// The number of the leadership, after the event.
 pub(crate) fn number_after(held: Option<u32>, r: u8, event: &Event) -> Option<u32>
-    ensures { (mine : List Event) → held ≡ proposal_number r mine
-        → result ≡ proposal_number r (event.now ∷ mine) }
+    ensures { Adds (proposal_number r) event.now held result }
 {
     match event.verb {
         Verb::Ask(p) => { if event.by == r && p == 0 { None } else { held } }
@@ -48,10 +43,7 @@ pub(crate) fn number_after(held: Option<u32>, r: u8, event: &Event) -> Option<u3
 
 /// The greatest minimum read in the leadership, after the event.
 pub(crate) fn greatest_minimum_after(held: u64, r: u8, event: &Event) -> u64
-    ensures { (mine : List Event)
-        → held ≡ greatest (λ e. any_min_read r e.by e.verb e.answer) (leadership r mine)
-        → result
-        ≡ greatest (λ e. any_min_read r e.by e.verb e.answer) (leadership r (event.now ∷ mine)) }
+    ensures { Adds (greatest_read r) event.now held result }
 {
     match (event.verb, event.answer) {
         (Verb::Ask(p), _) => { if event.by == r && p == 0 { 0 } else { held } }
@@ -62,8 +54,7 @@ pub(crate) fn greatest_minimum_after(held: u64, r: u8, event: &Event) -> u64
 
 /// The greatest number put, after the event.
 pub(crate) fn greatest_number_after(held: u32, r: u8, event: &Event) -> u32
-    ensures { (mine : List Event) → held ≡ greatest (λ e. number_put r e.by e.verb) mine
-        → result ≡ greatest (λ e. number_put r e.by e.verb) (event.now ∷ mine) }
+    ensures { Adds (greatest_put r) event.now held result }
 {
     match event.verb {
         Verb::PutMin(_, b) => { if event.by == r { b.max(held) } else { held } }
