@@ -71,7 +71,7 @@ fn owner_after(held: Option<u8>, r: u8, event: &Event) -> Option<u8>
     ensures { Adds (fence_owner r) event.now held result }
 {
     match event.verb {
-        Verb::Grant(w) => { if event.by == r { Some(w) } else { held } }
+        Verb::Grant(w) if event.by == r => Some(w),
         _ => held,
     }
 }
@@ -92,36 +92,21 @@ fn named_after(held: bool, r: u8, event: &Event) -> bool
     ensures { Adds (close_named r) event.now held result }
 {
     match (event.verb, event.answer) {
-        (Verb::Close, Answer::Seen(fence)) => {
-            if event.by == r {
-                fence.target != Target::None
-            } else {
-                held
-            }
-        }
+        (Verb::Close, Answer::Seen(fence)) if event.by == r => fence.target != Target::None,
         _ => held,
     }
 }
 
-/// Whether a `LookTarget` came since the last `Close`, after the event.
-fn looked_after(held: bool, r: u8, event: &Event) -> bool
-    ensures { Adds (looked_since_close r) event.now held result }
+/// Whether a `LookTarget` and whether a `Drain` came since the last `Close`, after the event.
+fn since_close_after(looked: bool, drained: bool, r: u8, event: &Event) -> (bool, bool)
+    ensures looked { Adds (looked_since_close r) event.now looked result.0 }
+    ensures drained { Adds (drained_since_close r) event.now drained result.1 }
 {
     match event.verb {
-        Verb::Close => held && event.by != r,
-        Verb::LookTarget => held || event.by == r,
-        _ => held,
-    }
-}
-
-/// Whether a `Drain` came since the last `Close`, after the event.
-fn drained_after(held: bool, r: u8, event: &Event) -> bool
-    ensures { Adds (drained_since_close r) event.now held result }
-{
-    match event.verb {
-        Verb::Close => held && event.by != r,
-        Verb::Drain => held || event.by == r,
-        _ => held,
+        Verb::Close if event.by == r => (false, false),
+        Verb::LookTarget if event.by == r => (true, drained),
+        Verb::Drain if event.by == r => (looked, true),
+        _ => (looked, drained),
     }
 }
 
@@ -130,13 +115,7 @@ fn seen_after(held: u64, r: u8, w: usize, event: &Event) -> u64
     ensures { Adds (seen_asks r w) event.now held result }
 {
     match (event.verb, event.answer) {
-        (Verb::ReadAsk(q), Answer::Number(x)) => {
-            if event.by == r && usize::from(q) == w {
-                x
-            } else {
-                held
-            }
-        }
+        (Verb::ReadAsk(q), Answer::Number(x)) if event.by == r && usize::from(q) == w => x,
         _ => held,
     }
 }
@@ -147,13 +126,7 @@ fn at_grant_after(held: u64, seen: u64, r: u8, w: usize, event: &Event) -> u64
         → result ≡ served_by_grant r w (event.now ∷ mine) }
 {
     match event.verb {
-        Verb::Grant(q) => {
-            if event.by == r && usize::from(q) == w {
-                seen
-            } else {
-                held
-            }
-        }
+        Verb::Grant(q) if event.by == r && usize::from(q) == w => seen,
         _ => held,
     }
 }
@@ -167,13 +140,8 @@ fn as_owner_after(held: u64, serving: bool, r: u8, w: usize, event: &Event) -> u
         → result ≡ or_zero (served_as_owner r w (event.now ∷ mine)) }
 {
     match (event.verb, event.answer) {
-        (Verb::ReadAsk(q), Answer::Number(x)) => {
-            if event.by == r && usize::from(q) == w && serving {
-                x
-            } else {
-                held
-            }
-        }
+        (Verb::ReadAsk(q), Answer::Number(x)) if event.by == r && usize::from(q) == w && serving =>
+            x,
         _ => held,
     }
 }
@@ -288,8 +256,9 @@ impl Grants {
         self.owner = owner_after(self.owner, r, event);
         self.closing = closing_after(self.closing, r, event);
         self.named = named_after(self.named, r, event);
-        self.looked = looked_after(self.looked, r, event);
-        self.drained = drained_after(self.drained, r, event);
+        let (looked, drained) = since_close_after(self.looked, self.drained, r, event);
+        self.looked = looked;
+        self.drained = drained;
     }
 
     /// Takes a read of how often `w` asked for the region.

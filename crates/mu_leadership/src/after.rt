@@ -19,7 +19,7 @@ pub(crate) fn asked_after(held: Option<u8>, r: u8, event: &Event) -> Option<u8>
     ensures { Adds (last_asked r) event.now held result }
 {
     match event.verb {
-        Verb::Ask(p) => { if event.by == r { Some(p) } else { held } }
+        Verb::Ask(p) if event.by == r => Some(p),
         _ => held,
     }
 }
@@ -29,14 +29,8 @@ pub(crate) fn number_after(held: Option<u32>, r: u8, event: &Event) -> Option<u3
     ensures { Adds (proposal_number r) event.now held result }
 {
     match event.verb {
-        Verb::Ask(p) => { if event.by == r && p == 0 { None } else { held } }
-        Verb::PutMin(_, b) => {
-            if event.by == r {
-                held.or(Some(b))
-            } else {
-                held
-            }
-        }
+        Verb::Ask(p) if event.by == r && p == 0 => None,
+        Verb::PutMin(_, b) if event.by == r => held.or(Some(b)),
         _ => held,
     }
 }
@@ -46,8 +40,8 @@ pub(crate) fn greatest_minimum_after(held: u64, r: u8, event: &Event) -> u64
     ensures { Adds (greatest_read r) event.now held result }
 {
     match (event.verb, event.answer) {
-        (Verb::Ask(p), _) => { if event.by == r && p == 0 { 0 } else { held } }
-        (Verb::Min(_), Answer::Number(x)) => { if event.by == r { x.max(held) } else { held } }
+        (Verb::Ask(p), _) if event.by == r && p == 0 => 0,
+        (Verb::Min(_), Answer::Number(x)) if event.by == r => x.max(held),
         _ => held,
     }
 }
@@ -57,7 +51,7 @@ pub(crate) fn greatest_number_after(held: u32, r: u8, event: &Event) -> u32
     ensures { Adds (greatest_put r) event.now held result }
 {
     match event.verb {
-        Verb::PutMin(_, b) => { if event.by == r { b.max(held) } else { held } }
+        Verb::PutMin(_, b) if event.by == r => b.max(held),
         _ => held,
     }
 }

@@ -66,7 +66,7 @@ fn noted_after(held: Option<u32>, r: u8, event: &Event) -> Option<u32>
     ensures { AddsUnfenced (noted_grant r) event.now held result }
 {
     match event.verb {
-        Verb::Ask(q) => { if event.by == r && q == 0 { None } else { held } }
+        Verb::Ask(q) if event.by == r && q == 0 => None,
         _ => held,
     }
 }
@@ -83,14 +83,8 @@ fn joined_after(
         → result ≡ grant_at_joining r p (event.now ∷ mine) }
 {
     match (event.verb, event.answer) {
-        (Verb::Ask(q), _) => { if event.by == r && q == 0 { None } else { held } }
-        (Verb::PutMin(q, _), Answer::Done) => {
-            if event.by == r && q == p && held.is_none() {
-                Some(noted)
-            } else {
-                held
-            }
-        }
+        (Verb::Ask(q), _) if event.by == r && q == 0 => None,
+        (Verb::PutMin(q, _), Answer::Done) if event.by == r && q == p => held.or(Some(noted)),
         _ => held,
     }
 }
@@ -102,20 +96,9 @@ fn opened_after(held: Option<Target>, r: u8, p: u8, event: &Event) -> Option<Tar
         → Adds (open_target r p) event.now held result }
 {
     match (event.verb, event.answer) {
-        (Verb::Enter(q, target), Answer::Entered) => {
-            if event.by == r && q == p {
-                Some(target)
-            } else {
-                held
-            }
-        }
-        (Verb::Enter(q, _), _) | (Verb::PutMin(q, _), _) | (Verb::PutSlot(q, _, _, _), _) => {
-            if event.by == r && q == p {
-                Some(Target::None)
-            } else {
-                held
-            }
-        }
+        (Verb::Enter(q, target), Answer::Entered) if event.by == r && q == p => Some(target),
+        (Verb::Enter(q, _), _) | (Verb::PutMin(q, _), _) | (Verb::PutSlot(q, _, _, _), _)
+            if event.by == r && q == p => Some(Target::None),
         _ => held,
     }
 }
@@ -136,7 +119,7 @@ fn minimum_after(held: u64, r: u8, p: u8, event: &Event) -> u64
     ensures { Adds (last_minimum r p) event.now held result }
 {
     match (event.verb, event.answer) {
-        (Verb::Min(q), Answer::Number(x)) => { if event.by == r && q == p { x } else { held } }
+        (Verb::Min(q), Answer::Number(x)) if event.by == r && q == p => x,
         _ => held,
     }
 }
@@ -226,7 +209,7 @@ fn foreign_after(held: u8, r: u8, event: &Event) -> u8
     ensures { AddsUnfenced (foreign_row r) event.now held result }
 {
     match event.verb {
-        Verb::Ask(q) => { if event.by == r && q == 0 { 0 } else { held } }
+        Verb::Ask(q) if event.by == r && q == 0 => 0,
         _ => held,
     }
 }

@@ -53,7 +53,7 @@ fn head_after(held: u64, r: u8, q: u8, event: &Event) -> u64
         → result ≡ last_head r q (event.now ∷ mine) }
 {
     match (event.verb, event.answer) {
-        (Verb::Head(p), Answer::Number(x)) => { if event.by == r && p == q { x } else { held } }
+        (Verb::Head(p), Answer::Number(x)) if event.by == r && p == q => x,
         _ => held,
     }
 }
@@ -77,13 +77,9 @@ fn stuck_after(held: Option<u64>, alive: bool, r: u8, q: u8, event: &Event) -> O
         → StandsForStuck c r q mine held → StandsForStuck c r q (event.now ∷ mine) result }
 {
     match (event.verb, event.answer) {
-        (Verb::Ask(p), _) => { if event.by == r && p == 0 { None } else { held } }
-        (Verb::Head(p), Answer::Number(x)) => {
-            if event.by == r && p == q && !alive {
-                Some(least_head(held, x))
-            } else {
-                held
-            }
+        (Verb::Ask(p), _) if event.by == r && p == 0 => None,
+        (Verb::Head(p), Answer::Number(x)) if event.by == r && p == q && !alive => {
+            Some(least_head(held, x))
         }
         _ => held,
     }

@@ -87,20 +87,8 @@ fn own_reach_after(held: Option<u64>, r: u8, event: &Event) -> Option<u64>
         → HoldsOwnReach r (event.now ∷ mine) result }
 {
     match (event.verb, event.answer) {
-        (Verb::Fuo(q), Answer::Number(x)) => {
-            if event.by == r && q == r {
-                farther(held, x)
-            } else {
-                held
-            }
-        }
-        (Verb::RaiseFuo(q, u), _) => {
-            if event.by == r && q == r {
-                farther(held, u64::from(u))
-            } else {
-                held
-            }
-        }
+        (Verb::Fuo(q), Answer::Number(x)) if event.by == r && q == r => farther(held, x),
+        (Verb::RaiseFuo(q, u), _) if event.by == r && q == r => farther(held, u64::from(u)),
         _ => held,
     }
 }

@@ -84,21 +84,9 @@ fn reach_after(held: Option<u64>, r: u8, p: u8, event: &Event) -> Option<u64>
         → HoldsReach r p (event.now ∷ mine) result }
 {
     match (event.verb, event.answer) {
-        (Verb::Ask(q), _) => { if event.by == r && q == 0 { None } else { held } }
-        (Verb::Fuo(q), Answer::Number(x)) => {
-            if event.by == r && q == p {
-                farther(held, x)
-            } else {
-                held
-            }
-        }
-        (Verb::RaiseFuo(q, u), _) => {
-            if event.by == r && q == p {
-                farther(held, u64::from(u))
-            } else {
-                held
-            }
-        }
+        (Verb::Ask(q), _) if event.by == r && q == 0 => None,
+        (Verb::Fuo(q), Answer::Number(x)) if event.by == r && q == p => farther(held, x),
+        (Verb::RaiseFuo(q, u), _) if event.by == r && q == p => farther(held, u64::from(u)),
         _ => held,
     }
 }
@@ -108,14 +96,8 @@ fn member_since_after(held: Option<u32>, r: u8, p: u8, now: u32, event: &Event) 
     ensures { AddsAt now (member_time r p) event.now held result }
 {
     match (event.verb, event.answer) {
-        (Verb::Ask(q), _) => { if event.by == r && q == 0 { None } else { held } }
-        (Verb::PutMin(q, _), Answer::Done) => {
-            if event.by == r && q == p {
-                held.or(Some(now))
-            } else {
-                held
-            }
-        }
+        (Verb::Ask(q), _) if event.by == r && q == 0 => None,
+        (Verb::PutMin(q, _), Answer::Done) if event.by == r && q == p => held.or(Some(now)),
         _ => held,
     }
 }
@@ -125,7 +107,7 @@ fn entered_after(held: u32, r: u8, p: u8, now: u32, event: &Event) -> u32
     ensures { AddsAt now (enter_time r p) event.now held result }
 {
     match event.verb {
-        Verb::Enter(q, _) => { if event.by == r && q == p { now } else { held } }
+        Verb::Enter(q, _) if event.by == r && q == p => now,
         _ => held,
     }
 }
