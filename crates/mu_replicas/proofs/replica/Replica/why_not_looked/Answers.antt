@@ -16,7 +16,7 @@ loop-p-preserved c r mine reasons near held start =
     let of_each : ℕ → List Reason = λ p. Reason.MemberNotLooked p c.args.i ∷ [] in
     let so_far = reasons ++ each_below p of_each in
     let below = low _ _ c.loop-p-test.true c.requires.replicas.1 in
-    let next = c.needs-found.ensures k r mine so_far (c.loop-p.invariant r mine reasons near held start) (λ m. tells _ _ (c.is_looked_at-looked.ensures k r mine below near held)) in
+    let next = c.needs-found.ensures k r mine so_far (c.loop-p.invariant r mine reasons near held start) (λ m. tells _ _ (c.is_looked_at-looked.ensures k r mine below near held.leadership held.looks)) in
     one_more k r mine reasons p of_each _ next
 
 pub returns : goal.returns
