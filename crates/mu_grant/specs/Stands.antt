@@ -1,6 +1,6 @@
--- stands for, tells (grants): a host's state stands for its own events, and tells what has come of
--- them; at each place it gives an allowed verb, and none exactly if none is allowed; an event that is
--- no read of asks and no verb of the host keeps the state.
+-- stands for, tells (grants): a host's state stands for its own events, and tells what has come
+-- of them; at each place it gives an allowed verb, and none exactly if none is allowed; an event
+-- that is no read of asks and no verb of the host keeps the state.
 use Rattle.std.specs.Prelude.{Bool, IsTrue, List, None, Some, false, true, ℕ, ◌<◌, ◌==◌, ◌∷◌, ◌≡◌, ◌≤◌, ◌↔◌}
 use Rattle.std.specs.declared.option.Option.{Option}
 use Rattle.std.specs.List.{slice_get}

@@ -8,8 +8,8 @@ ghost use Rattle.mu_model.specs.declared.reason.Reason.{Reason};
 ghost use Rattle.mu_model.specs.Again.{foreign_row};
 ghost use Rattle.mu_model.specs.Points.{IsMet};
 ghost use Rattle.mu_model.specs.Entering.{has_confirmed_majority, has_read_min, last_opened, number_allowed, open_target};
-ghost use Rattle.mu_model.specs.Histories.{count_below, greatest};
-ghost use Rattle.mu_model.specs.Leaderships.{ends_leadership, grant_at_joining, has_begun, has_quorum, is_changed, is_member, is_over, leadership, noted_grant, proposal_number};
+ghost use Rattle.mu_model.specs.Histories.{count_below};
+ghost use Rattle.mu_model.specs.Leaderships.{ends_leadership, grant_at_joining, has_begun, has_quorum, is_changed, is_member, is_over, noted_grant, proposal_number};
 ghost use Rattle.mu_model.specs.Parts.{IsPossible};
 ghost use Rattle.mu_leadership.specs.Bearing.{reads_fence};
 ghost use Rattle.mu_leadership.specs.Leadership.{StandsForRegionNotes, StandsForLeadership, Takes, TakesPossible, Tells, TellsAmong, TellsOf, greatest_put, greatest_read, last_asked, last_minimum, last_seen};
@@ -314,6 +314,13 @@ impl Leadership {
         self.joined(p).is_some()
     }
 
+    /// Whether the minimum of `p` was read under the noted grant.
+    pub fn has_read(&self, p: u8) -> bool
+        ensures { TellsOf self.now has_read_min p result }
+    {
+        self.notes_of(p).has_read_minimum()
+    }
+
     /// How many regions below `n` are members.
     fn members_below(&self, n: u8) -> u8
         requires { n ≤ 7 }
@@ -334,13 +341,6 @@ impl Leadership {
         ensures { TellsAmong self.now has_quorum n result }
     {
         self.is_member(self.replica) && majority(n) <= self.members_below(n)
-    }
-
-    /// Whether the minimum of `p` was read under the noted grant.
-    pub fn has_read(&self, p: u8) -> bool
-        ensures { TellsOf self.now has_read_min p result }
-    {
-        self.notes_of(p).has_read_minimum()
     }
 
     /// How many regions below `n` have told their minimum.

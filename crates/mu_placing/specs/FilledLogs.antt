@@ -1,5 +1,5 @@
--- stands for, knowing (filled logs): the state of how far each log is known to be filled, and to have
--- what r knows, stands for the events of r; what holds with what r knows and has put.
+-- stands for, knowing (filled logs): the state of how far each log is known to be filled, and to
+-- have what r knows, stands for the events of r; what holds with what r knows and has put.
 use Rattle.std.specs.Prelude.{Bool, List, Some, false, length, true, ℕ, ◌<◌, ◌∷◌, ◌≡◌, ◌≤◌}
 use Rattle.std.specs.List.{slice_get}
 use Rattle.mu_model.specs.declared.config.Config.{Config}

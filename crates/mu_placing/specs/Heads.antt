@@ -1,5 +1,6 @@
--- stands for, tells (heads), verb that tells of others: the state of the heads that r read, with its
--- scores, stands for the events of r, and tells what they say; the verbs of the events that change it.
+-- stands for, tells (heads), verb that tells of others: the state of the heads that r read, with
+-- its scores, stands for the events of r, and tells what they say; the verbs of the events that
+-- change it.
 use Rattle.std.specs.Prelude.{List, Some, ℕ, ◌<◌, ◌∷◌, ◌≡◌, Bool, false, true}
 use Rattle.std.specs.declared.option.Option.{Option}
 use Rattle.std.specs.List.{slice_get}

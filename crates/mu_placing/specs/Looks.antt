@@ -1,5 +1,5 @@
--- stands for, tells, takes (looks): the state of looks, first puts and FUOs that were read stands for
--- the events of r, tells what has come of them, and takes one more.
+-- stands for, tells, takes (looks): the state of looks, first puts and FUOs that were read stands
+-- for the events of r, tells what has come of them, and takes one more.
 --
 -- Times are told with it: the events of r count from 1, and 0 is never.
 use Rattle.std.specs.Prelude.{Bool, List, None, Some, [], false, if◌then◌else◌, is_some, length, nat_lt, not, true, ℕ, ◌%◌, ◌&&◌, ◌+◌, ◌<◌, ◌==◌, ◌||◌, ◌∷◌, ◌≡◌, ◌≤◌}

@@ -6,7 +6,7 @@ ghost use Rattle.mu_model.specs.declared.event.Target.{Target as SomeTarget};
 ghost use Rattle.mu_model.specs.Contents.{IsConfig, row_count};
 ghost use Rattle.mu_model.specs.Entering.{last_opened};
 ghost use Rattle.mu_model.specs.Histories.{has};
-ghost use Rattle.mu_model.specs.Leaderships.{is_member, leadership};
+ghost use Rattle.mu_model.specs.Leaderships.{is_member};
 ghost use Rattle.mu_model.specs.Parts.{IsPossible};
 ghost use Rattle.mu_model.specs.Picks.{entry_of, first_value, highest_accepted, is_joining, joined_since_first_put, larger, last_look};
 ghost use Rattle.mu_model.specs.Placing.{fuo_read_or_raised, is_within_ring, looked_before_entering, reaches_head};

@@ -6,8 +6,6 @@ ghost use Rattle.mu_model.specs.declared.event.Target.{Target as SomeTarget};
 ghost use Rattle.mu_model.specs.declared.event.Verb.{Verb as SomeVerb};
 ghost use Rattle.mu_model.specs.Contents.{row_count};
 ghost use Rattle.mu_model.specs.Entering.{last_opened};
-ghost use Rattle.mu_model.specs.Histories.{has};
-ghost use Rattle.mu_model.specs.Leaderships.{leadership};
 ghost use Rattle.mu_model.specs.Picks.{is_past, last_look};
 ghost use Rattle.mu_model.specs.Placing.{is_within_ring, looked_before_entering, reaches_head, has_looked_since};
 ghost use Rattle.mu_model.specs.Room.{reserve};

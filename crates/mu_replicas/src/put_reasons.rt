@@ -1,5 +1,5 @@
 //! Why a replica may not put an entry.
-ghost use Rattle.std.specs.Prelude.{IsTrue, List, None, Some, not, [], ◌%◌, ◌++◌, ◌+◌, ◌/◌, ◌<◌, ◌∷◌, ◌≡◌, ◌↔◌, ℕ};
+ghost use Rattle.std.specs.Prelude.{IsTrue, List, None, Some, [], ◌%◌, ◌++◌, ◌+◌, ◌/◌, ◌<◌, ◌∷◌, ◌≡◌, ◌↔◌, ℕ};
 ghost use Rattle.mu_model.specs.declared.config.Config.{Config};
 ghost use Rattle.mu_model.specs.declared.event.Event.{Event};
 ghost use Rattle.mu_model.specs.declared.event.Verb.{Verb as SomeVerb};
@@ -9,9 +9,8 @@ ghost use Rattle.mu_model.specs.Knowledge.{is_value, known};
 ghost use Rattle.mu_model.specs.Leaderships.{is_member};
 ghost use Rattle.mu_model.specs.Parts.{IsPossible};
 ghost use Rattle.mu_model.specs.Picks.{first_value, highest_accepted};
-ghost use Rattle.mu_model.specs.Room.{reserve};
 ghost use Rattle.mu_model.specs.declared.reason.Reason.{Reason as SomeReason};
-ghost use Rattle.mu_model.specs.Points.{batch_written, bounds, clear_members, each_below, last_position, new_values, offers, picks, proposals, puts, reserved_rooms, rooms, row_written, values};
+ghost use Rattle.mu_model.specs.Points.{batch_written, bounds, clear_members, each_below, last_position, offers, picks, proposals, puts, reserved_rooms, rooms, row_written, values};
 ghost use Rattle.mu_model.specs.Reasons.{Finds};
 ghost use Rattle.mu_replicas.specs.Stands.{StandsForReplica};
 ghost use Rattle.mu_replicas.specs.Finding.{FindsIfPossible, GoesOn, GoesOnIf, IsPosition};
@@ -162,7 +161,8 @@ impl Replica {
     fn why_no_pick(&self, config: &Config, i: u16, v: u16, found: Found) -> Found
         requires { IsConfig config.now }
         ensures { GoesOnIf (IsPosition config.now i) config.now self.now
-            (λ r mine. picks config.now r mine i v (highest_accepted r i mine config.now.replicas)) found result }
+            (λ r mine. picks config.now r mine i v (highest_accepted r i mine config.now.replicas))
+            found result }
     {
         match self
             .looks
@@ -186,7 +186,8 @@ impl Replica {
     fn why_not_looked(&self, config: &Config, i: u16, found: Found) -> Found
         requires { IsConfig config.now }
         ensures { GoesOnIf (IsPosition config.now i) config.now self.now
-            (λ r mine. each_below config.now.replicas (λ p. SomeReason.MemberNotLooked p i ∷ [])) found result }
+            (λ r mine. each_below config.now.replicas (λ p. SomeReason.MemberNotLooked p i ∷ []))
+            found result }
     {
         let mut found = found;
         for p in 0..config.replicas {
@@ -251,13 +252,16 @@ impl Replica {
         found
     }
 
-    /// Looks whether the value may be put at a new position.
+    /// Looks whether the value is known at the position, or may be put there as new.
     #[inline(always)]
-    fn why_not_new(&self, config: &Config, i: u16, v: u16, found: Found) -> Found
+    fn why_no_value(&self, config: &Config, i: u16, v: u16, found: Found) -> Found
         requires { IsConfig config.now }
         ensures { GoesOnIf (IsPosition config.now i) config.now self.now
-            (λ r mine. new_values config.now r mine i v) found result }
+            (λ r mine. values config.now r mine i v) found result }
     {
+        if self.knows_at(i, v) {
+            return found;
+        }
         let known = self.known_log.known().len();
         let found = found.needs(
             usize::from(i) == known,
@@ -267,20 +271,6 @@ impl Replica {
         let found = self.why_no_reserve(config, i, v, found);
         let found = self.why_past_seen(config, i, found);
         self.why_no_proposal(config, i, v, found)
-    }
-
-    /// Looks whether the value is known at the position, or may be put there as new.
-    #[inline(always)]
-    fn why_no_value(&self, config: &Config, i: u16, v: u16, found: Found) -> Found
-        requires { IsConfig config.now }
-        ensures { GoesOnIf (IsPosition config.now i) config.now self.now
-            (λ r mine. values config.now r mine i v) found result }
-    {
-        if self.knows_at(i, v) {
-            found
-        } else {
-            self.why_not_new(config, i, v, found)
-        }
     }
 
     /// Looks whether the region has what is known below the position.
