@@ -1,9 +1,10 @@
 -- stands for, tells, takes (leadership): the state of leaderships and grants stands for the events
 -- of r, tells what has come of them, and takes one more.
-use Rattle.std.specs.Prelude.{List, None, Some, false, ℕ, ◌<◌, ◌∷◌, ◌≡◌, ◌≤◌}
+use Rattle.std.specs.Prelude.{Bool, List, None, Some, false, is_some, ℕ, ◌<◌, ◌∷◌, ◌≡◌, ◌≤◌}
 use Rattle.std.specs.declared.option.Option.{Option}
 use Rattle.std.specs.List.{slice_get}
 use Rattle.mu_model.specs.declared.config.Config.{Config}
+use Rattle.mu_model.specs.declared.event.Answer.{Answer}
 use Rattle.mu_model.specs.declared.event.Event.{Event}
 use Rattle.mu_model.specs.declared.event.Fence.{Fence}
 use Rattle.mu_model.specs.declared.event.Verb.{Verb}
@@ -123,6 +124,13 @@ NotesTake r mine e before after =
 abbrev pub NotesTakeUnfenced : ℕ → Event → List RegionNotes → List RegionNotes → Type 0
 NotesTakeUnfenced r e before after =
     (mine : List Event) → reads_fence e.verb ≡ false → NotesTake r mine e before after
+
+-- this holds if r sees the fence at p by the event, which is possible after these; numbered tells
+-- whether its leadership has its number
+abbrev pub IfSeen : Config → ℕ → ℕ → List Event → Event → Fence → Bool → Type 0 → Type 0
+IfSeen c r p mine e fence numbered fact =
+    IsPossible c r (e ∷ mine) → e.verb ≡ Verb.Fence p → e.answer ≡ Answer.Seen fence
+    → numbered ≡ is_some (proposal_number r mine) → fact
 
 -- what is held of the events adds one more
 abbrev pub Adds : {A : Type 0} → (List Event → A) → Event → A → A → Type 0

@@ -1,14 +1,11 @@
 //! What a replica has done at one region.
 ghost use Rattle.std.specs.Prelude.{List, Some, [], false, if◌then◌else◌, is_some, ℕ, ◌<◌, ◌∷◌, ◌≡◌, ◌≢◌};
 ghost use Rattle.mu_model.specs.declared.config.Config.{Config};
-ghost use Rattle.mu_model.specs.declared.event.Answer.{Answer as SomeAnswer};
 ghost use Rattle.mu_model.specs.declared.event.Event.{Event};
-ghost use Rattle.mu_model.specs.declared.event.Verb.{Verb as SomeVerb};
 ghost use Rattle.mu_model.specs.Again.{foreign_row, is_foreign, one_more, row_with};
 ghost use Rattle.mu_model.specs.Entering.{has_read_min, last_opened, min_read_since, min_read_under, open_target};
-ghost use Rattle.mu_model.specs.Leaderships.{begins_leadership, grant_at_joining, grant_for, noted_grant, proposal_number};
-ghost use Rattle.mu_model.specs.Parts.{IsPossible};
-ghost use Rattle.mu_leadership.specs.Leadership.{StandForRegionNotes, StandsForRegionNotes, grant_of, last_grant, Adds, AddsUnfenced, NotesTake, NotesTakeUnfenced, TakesAt, last_minimum, last_seen};
+ghost use Rattle.mu_model.specs.Leaderships.{begins_leadership, grant_at_joining, grant_for, noted_grant};
+ghost use Rattle.mu_leadership.specs.Leadership.{StandForRegionNotes, StandsForRegionNotes, grant_of, last_grant, Adds, AddsUnfenced, NotesTake, NotesTakeUnfenced, TakesAt, last_minimum, last_seen, IfSeen};
 ghost use Rattle.mu_leadership.specs.Bearing.{reads_fence, region_named};
 
 use crate::bearing::region_of;
@@ -252,9 +249,7 @@ impl RegionNotes {
     #[inline(always)]
     fn see(&mut self, r: u8, fence: Fence, numbered: bool)
         ensures { (c : Config) → (p : ℕ) → (e : Event) → (mine : List Event)
-            → IsPossible c r (e ∷ mine) → e.verb ≡ SomeVerb.Fence p
-            → e.answer ≡ SomeAnswer.Seen fence → numbered ≡ is_some (proposal_number r mine)
-            → TakesAt r p mine e self.old self.new }
+            → IfSeen c r p mine e fence numbered (TakesAt r p mine e self.old self.new) }
     {
         self.noted = grant_named(r, fence);
         self.has_read = has_read_under(self.has_read, grant_in(self.seen), fence.grant);
@@ -305,10 +300,8 @@ fn take_at(notes: &mut [RegionNotes; 7], p: u8, r: u8, event: &Event)
 /// Notes at `p` the fence that `r` saw there.
 #[inline(always)]
 pub(crate) fn see_at(notes: &mut [RegionNotes; 7], p: u8, r: u8, fence: Fence, numbered: bool)
-    ensures { (c : Config) → (e : Event) → (mine : List Event) → IsPossible c r (e ∷ mine)
-        → e.verb ≡ SomeVerb.Fence p → e.answer ≡ SomeAnswer.Seen fence
-        → numbered ≡ is_some (proposal_number r mine)
-        → NotesTake r mine e notes.old notes.new }
+    ensures { (c : Config) → (e : Event) → (mine : List Event)
+        → IfSeen c r p mine e fence numbered (NotesTake r mine e notes.old notes.new) }
 {
     if p < 7 {
         notes[usize::from(p)].see(r, fence, numbered);

@@ -105,6 +105,10 @@ one_more c r past xs n of_each found finds =
     let next : suc n ≡ n + 1 = omega arith in
     subst (λ k. Finds c r past (xs ++ each_below k of_each) found) next (apart c r past xs (each_below n of_each) (of_each n) found finds)
 
+-- a list of points of as many numbers
+pub all_of : (c : Config) (r : ℕ) (past : List Event) (xs : List Reason) (n m : ℕ) (of_each : ℕ → List Reason) (found : Option Reason) → n ≡ m → Finds c r past (xs ++ each_below n of_each) found → Finds c r past (xs ++ each_below m of_each) found
+all_of c r past xs n m of_each found same finds = subst (λ k. Finds c r past (xs ++ each_below k of_each) found) same finds
+
 -- further points that are met
 pub more_met : (c : Config) (r : ℕ) (past : List Event) (xs more : List Reason) (found : Option Reason) → AreMet c r past more → Finds c r past xs found → Finds c r past (xs ++ more) found
 more_met c r past xs more None met finds = met_append c r past xs more finds met
