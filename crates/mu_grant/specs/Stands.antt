@@ -1,14 +1,14 @@
--- stands for (grants): a host's state stands for its own events; at each place it gives an allowed
--- verb, and none exactly if none is allowed; an event that is no read of asks and no verb of the
--- host keeps the state.
-use Rattle.std.specs.Prelude.{Bool, List, None, Some, false, true, ℕ, ◌<◌, ◌==◌, ◌∷◌, ◌≡◌, ◌≤◌}
+-- stands for, tells (grants): a host's state stands for its own events, and tells what has come
+-- of them; at each place it gives an allowed verb, and none exactly if none is allowed; an event
+-- that is no read of asks and no verb of the host keeps the state.
+use Rattle.std.specs.Prelude.{Bool, IsTrue, List, None, Some, false, true, ℕ, ◌<◌, ◌==◌, ◌∷◌, ◌≡◌, ◌≤◌, ◌↔◌}
 use Rattle.std.specs.declared.option.Option.{Option}
 use Rattle.std.specs.List.{slice_get}
 use Rattle.mu_model.specs.declared.config.Config.{Config}
 use Rattle.mu_model.specs.declared.event.Answer.{Answer}
 use Rattle.mu_model.specs.declared.event.Event.{Event}
 use Rattle.mu_model.specs.declared.event.Verb.{Verb}
-use Rattle.mu_model.specs.Allowed.{Allowed}
+use Rattle.mu_model.specs.Allowed.{Allowed, Needs}
 use Rattle.mu_model.specs.Histories.{newest, or_zero}
 use Rattle.mu_model.specs.Regions.{fence_closing, fence_owner}
 use Rattle.mu_model.specs.Serving.{close_seen, drained_since_close, looked_since_close, names_target, seen_asks, served_as_owner, served_by_grant}
@@ -47,6 +47,35 @@ pub record StandsFor (n r : ℕ) (mine : List Event) (state : Grants) : Type 0 w
   pub drained : state.drained ≡ drained_since_close r mine
   pub looked_first : LookedFirst r mine
   pub guests : HoldsGuests r mine state.guests
+
+-- what a state tells: of the events that it stands for
+abbrev pub Tells : {A : Type 0} → Grants → (ℕ → List Event → A) → A → Type 0
+Tells state of answer =
+    (n r : ℕ) → (mine : List Event) → StandsFor n r mine state → answer ≡ of r mine
+
+-- a state tells whether the verb has what it needs
+abbrev pub TellsIfMay : Grants → Verb → Bool → Type 0
+TellsIfMay state verb answer =
+    (c : Config) → (r : ℕ) → (mine : List Event) → StandsFor c.replicas r mine state
+    → (IsTrue answer ↔ Needs c r mine verb)
+
+-- a state takes one more event: it may be a `Drain` only if a `LookTarget` came since the last
+-- `Close`
+abbrev pub Takes : Event → Grants → Grants → Type 0
+Takes e before after =
+    (n r : ℕ) → (mine : List Event) → (e.verb ≡ Verb.Drain → looked_since_close r mine ≡ true)
+    → StandsFor n r mine before → StandsFor n r (e ∷ mine) after
+
+-- what is held of guests takes one more event of a region with this owner, closing or not
+abbrev pub GuestsTake :
+    Option ℕ → Bool → ℕ → Event → List Guest → List Guest → Type 0
+GuestsTake owner closing r e before after =
+    (mine : List Event) → owner ≡ fence_owner r mine → closing ≡ fence_closing r mine
+    → HoldsGuests r mine before → HoldsGuests r (e ∷ mine) after
+
+-- what is held of the events adds one more
+abbrev pub Adds : {A : Type 0} → (List Event → A) → Event → A → A → Type 0
+Adds of e held now = (mine : List Event) → held ≡ of mine → now ≡ of (e ∷ mine)
 
 -- the verb is that of this place of the round
 abbrev pub is_of_place : ℕ → Verb → Bool

@@ -11,7 +11,7 @@ ghost use Rattle.mu_model.specs.Leaderships.{owner_is};
 ghost use Rattle.mu_model.specs.Points.{IsMet};
 ghost use Rattle.mu_model.specs.Regions.{fence_closing, fence_owner};
 ghost use Rattle.mu_model.specs.Serving.{drained_since_close, has_unserved_ask, is_least_waiting, looked_since_close, must_drain, seen_asks, served, served_as_owner, served_by_grant};
-ghost use Rattle.mu_grant.specs.Stands.{close_named, Gives, HoldsGuest, HoldsGuests, IsDue, StandsFor, guest_named};
+ghost use Rattle.mu_grant.specs.Stands.{close_named, Gives, HoldsGuest, IsDue, StandsFor, guest_named, Adds, GuestsTake, Takes, Tells, TellsIfMay};
 
 use crate::verbs::{guest_of, is_of_host, reads_asks};
 use mu_model::{Answer, Event, Target, Verb};
@@ -68,19 +68,17 @@ fn is_serving(w: usize, owner: Option<u8>, closing: bool) -> bool
 
 /// The owner after the event.
 fn owner_after(held: Option<u8>, r: u8, event: &Event) -> Option<u8>
-    ensures { (mine : List Event) → held ≡ fence_owner r mine
-        → result ≡ fence_owner r (event.now ∷ mine) }
+    ensures { Adds (fence_owner r) event.now held result }
 {
     match event.verb {
-        Verb::Grant(w) => { if event.by == r { Some(w) } else { held } }
+        Verb::Grant(w) if event.by == r => Some(w),
         _ => held,
     }
 }
 
 /// Whether a `Close` is pending after the event.
 fn closing_after(held: bool, r: u8, event: &Event) -> bool
-    ensures { (mine : List Event) → held ≡ fence_closing r mine
-        → result ≡ fence_closing r (event.now ∷ mine) }
+    ensures { Adds (fence_closing r) event.now held result }
 {
     match event.verb {
         Verb::Grant(_) => held && event.by != r,
@@ -91,58 +89,33 @@ fn closing_after(held: bool, r: u8, event: &Event) -> bool
 
 /// Whether the last `Close` found a fence that names a word, after the event.
 fn named_after(held: bool, r: u8, event: &Event) -> bool
-    ensures { (mine : List Event) → held ≡ close_named r mine
-        → result ≡ close_named r (event.now ∷ mine) }
+    ensures { Adds (close_named r) event.now held result }
 {
     match (event.verb, event.answer) {
-        (Verb::Close, Answer::Seen(fence)) => {
-            if event.by == r {
-                fence.target != Target::None
-            } else {
-                held
-            }
-        }
+        (Verb::Close, Answer::Seen(fence)) if event.by == r => fence.target != Target::None,
         _ => held,
     }
 }
 
-/// Whether a `LookTarget` came since the last `Close`, after the event.
-fn looked_after(held: bool, r: u8, event: &Event) -> bool
-    ensures { (mine : List Event) → held ≡ looked_since_close r mine
-        → result ≡ looked_since_close r (event.now ∷ mine) }
+/// Whether a `LookTarget` and whether a `Drain` came since the last `Close`, after the event.
+fn since_close_after(looked: bool, drained: bool, r: u8, event: &Event) -> (bool, bool)
+    ensures looked { Adds (looked_since_close r) event.now looked result.0 }
+    ensures drained { Adds (drained_since_close r) event.now drained result.1 }
 {
     match event.verb {
-        Verb::Close => held && event.by != r,
-        Verb::LookTarget => held || event.by == r,
-        _ => held,
-    }
-}
-
-/// Whether a `Drain` came since the last `Close`, after the event.
-fn drained_after(held: bool, r: u8, event: &Event) -> bool
-    ensures { (mine : List Event) → held ≡ drained_since_close r mine
-        → result ≡ drained_since_close r (event.now ∷ mine) }
-{
-    match event.verb {
-        Verb::Close => held && event.by != r,
-        Verb::Drain => held || event.by == r,
-        _ => held,
+        Verb::Close if event.by == r => (false, false),
+        Verb::LookTarget if event.by == r => (true, drained),
+        Verb::Drain if event.by == r => (looked, true),
+        _ => (looked, drained),
     }
 }
 
 /// The asks of `w` that the host saw last, after the event.
 fn seen_after(held: u64, r: u8, w: usize, event: &Event) -> u64
-    ensures { (mine : List Event) → held ≡ seen_asks r w mine
-        → result ≡ seen_asks r w (event.now ∷ mine) }
+    ensures { Adds (seen_asks r w) event.now held result }
 {
     match (event.verb, event.answer) {
-        (Verb::ReadAsk(q), Answer::Number(x)) => {
-            if event.by == r && usize::from(q) == w {
-                x
-            } else {
-                held
-            }
-        }
+        (Verb::ReadAsk(q), Answer::Number(x)) if event.by == r && usize::from(q) == w => x,
         _ => held,
     }
 }
@@ -153,13 +126,7 @@ fn at_grant_after(held: u64, seen: u64, r: u8, w: usize, event: &Event) -> u64
         → result ≡ served_by_grant r w (event.now ∷ mine) }
 {
     match event.verb {
-        Verb::Grant(q) => {
-            if event.by == r && usize::from(q) == w {
-                seen
-            } else {
-                held
-            }
-        }
+        Verb::Grant(q) if event.by == r && usize::from(q) == w => seen,
         _ => held,
     }
 }
@@ -173,13 +140,8 @@ fn as_owner_after(held: u64, serving: bool, r: u8, w: usize, event: &Event) -> u
         → result ≡ or_zero (served_as_owner r w (event.now ∷ mine)) }
 {
     match (event.verb, event.answer) {
-        (Verb::ReadAsk(q), Answer::Number(x)) => {
-            if event.by == r && usize::from(q) == w && serving {
-                x
-            } else {
-                held
-            }
-        }
+        (Verb::ReadAsk(q), Answer::Number(x)) if event.by == r && usize::from(q) == w && serving =>
+            x,
         _ => held,
     }
 }
@@ -210,9 +172,8 @@ impl Guest {
 
 /// Takes the event at the guest that it names.
 fn take_at(guests: &mut [Guest], w: usize, owner: Option<u8>, closing: bool, r: u8, event: &Event)
-    ensures { (mine : List Event) → owner ≡ fence_owner r mine → closing ≡ fence_closing r mine
-        → guest_named event.now.verb ≡ Some w → HoldsGuests r mine guests.old
-        → HoldsGuests r (event.now ∷ mine) guests.new }
+    ensures { guest_named event.now.verb ≡ Some w
+        → GuestsTake owner closing r event.now guests.old guests.new }
 {
     if w < guests.len() {
         guests[w] = guests[w].after(is_serving(w, owner, closing), r, w, event);
@@ -221,8 +182,7 @@ fn take_at(guests: &mut [Guest], w: usize, owner: Option<u8>, closing: bool, r: 
 
 /// Takes the event at the guest that it names, if any.
 fn take_at_guests(guests: &mut [Guest], owner: Option<u8>, closing: bool, r: u8, event: &Event)
-    ensures { (mine : List Event) → owner ≡ fence_owner r mine → closing ≡ fence_closing r mine
-        → HoldsGuests r mine guests.old → HoldsGuests r (event.now ∷ mine) guests.new }
+    ensures { GuestsTake owner closing r event.now guests.old guests.new }
 {
     match guest_of(&event.verb) {
         Some(w) => take_at(guests, usize::from(w), owner, closing, r, event),
@@ -276,9 +236,7 @@ impl Grants {
     /// came since the last `Close`, as it did if a drain is allowed.
     #[inline(always)]
     pub fn note(&mut self, event: &Event)
-        ensures { (n r : ℕ) → (mine : List Event)
-            → (event.now.verb ≡ Verb.Drain → looked_since_close r mine ≡ true)
-            → StandsFor n r mine self.old → StandsFor n r (event.now ∷ mine) self.new }
+        ensures { Takes event.now self.old self.new }
     {
         if !is_of_host(&event.verb) {
             return;
@@ -288,9 +246,7 @@ impl Grants {
 
     /// Takes a read of asks, or a verb of the host.
     fn note_own(&mut self, event: &Event)
-        ensures { (n r : ℕ) → (mine : List Event)
-            → (event.now.verb ≡ Verb.Drain → looked_since_close r mine ≡ true)
-            → StandsFor n r mine self.old → StandsFor n r (event.now ∷ mine) self.new }
+        ensures { Takes event.now self.old self.new }
     {
         let r = self.id;
         take_at_guests(&mut self.guests, self.owner, self.closing, r, event);
@@ -300,8 +256,9 @@ impl Grants {
         self.owner = owner_after(self.owner, r, event);
         self.closing = closing_after(self.closing, r, event);
         self.named = named_after(self.named, r, event);
-        self.looked = looked_after(self.looked, r, event);
-        self.drained = drained_after(self.drained, r, event);
+        let (looked, drained) = since_close_after(self.looked, self.drained, r, event);
+        self.looked = looked;
+        self.drained = drained;
     }
 
     /// Takes a read of how often `w` asked for the region.
@@ -349,32 +306,28 @@ impl Grants {
 
     /// Whether a `Close` is pending.
     pub fn is_closing(&self) -> bool
-        ensures { (n r : ℕ) → (mine : List Event) → StandsFor n r mine self.now
-            → result ≡ fence_closing r mine }
+        ensures { Tells self.now fence_closing result }
     {
         self.closing
     }
 
     /// Whether a `LookTarget` came since the last `Close`.
     pub fn has_looked(&self) -> bool
-        ensures { (n r : ℕ) → (mine : List Event) → StandsFor n r mine self.now
-            → result ≡ looked_since_close r mine }
+        ensures { Tells self.now looked_since_close result }
     {
         self.looked
     }
 
     /// Whether a `Drain` came since the last `Close`.
     pub fn has_drained(&self) -> bool
-        ensures { (n r : ℕ) → (mine : List Event) → StandsFor n r mine self.now
-            → result ≡ drained_since_close r mine }
+        ensures { Tells self.now drained_since_close result }
     {
         self.drained
     }
 
     /// Whether a `Close` is pending whose answer names a word.
     pub fn has_to_drain(&self) -> bool
-        ensures { (n r : ℕ) → (mine : List Event) → StandsFor n r mine self.now
-            → result ≡ must_drain r mine }
+        ensures { Tells self.now must_drain result }
     {
         self.closing && self.named
     }
@@ -390,27 +343,21 @@ impl Grants {
 
     /// Whether the host may close its fence: none is pending, and a replica waits.
     fn may_close(&self) -> bool
-        ensures { (c : Config) → (r : ℕ) → (mine : List Event)
-            → StandsFor c.replicas r mine self.now
-            → (IsTrue result ↔ Needs c r mine Verb.Close) }
+        ensures { TellsIfMay self.now Verb.Close result }
     {
         !self.closing && self.is_awaited()
     }
 
     /// Whether the host may load the word that its closed fence names.
     fn may_look_target(&self) -> bool
-        ensures { (c : Config) → (r : ℕ) → (mine : List Event)
-            → StandsFor c.replicas r mine self.now
-            → (IsTrue result ↔ Needs c r mine Verb.LookTarget) }
+        ensures { TellsIfMay self.now Verb.LookTarget result }
     {
         self.has_to_drain() && !self.looked
     }
 
     /// Whether the host may drain the word that it loaded.
     fn may_drain(&self) -> bool
-        ensures { (c : Config) → (r : ℕ) → (mine : List Event)
-            → StandsFor c.replicas r mine self.now
-            → (IsTrue result ↔ Needs c r mine Verb.Drain) }
+        ensures { TellsIfMay self.now Verb.Drain result }
     {
         self.has_to_drain() && self.looked && !self.drained
     }

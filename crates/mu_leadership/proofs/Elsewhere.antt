@@ -23,7 +23,7 @@ min_elsewhere r p f by x mine None other = refl
 min_elsewhere r p f by x mine (Some g) other = rw (other, and-false (by == r)) refl
 
 -- an event at the region q leaves what was done at p
-pub notes_kept : (r p q by : ℕ) (verb : Verb) (answer : Answer) (mine : List Event) (notes : RegionNotes) → region_named verb ≡ Some q → q ≢ p → StandsForRegionNotes r p mine notes → StandsForRegionNotes r p (event_by by verb answer ∷ mine) notes
+notes_kept : (r p q by : ℕ) (verb : Verb) (answer : Answer) (mine : List Event) (notes : RegionNotes) → region_named verb ≡ Some q → q ≢ p → StandsForRegionNotes r p mine notes → StandsForRegionNotes r p (event_by by verb answer ∷ mine) notes
 notes_kept r p q by (Verb.Fence f) (Answer.Seen fence) mine notes names differs held =
     let other : (f == p) ≡ false = apart f p q names differs in
     record { noted = rw (other, and-false (by == r)) held.noted; joined = held.joined; entered = held.entered; opened = held.opened; minimum = held.minimum; has_read = rw (other, and-false (by == r)) held.has_read; seen = rw (other, and-false (by == r)) held.seen; foreign = rw (other, and-false (by == r)) held.foreign }
@@ -65,3 +65,7 @@ left_by r p by verb answer mine notes other none goes held = record { noted = he
 
 pub notes_left : (r p : ℕ) (e : Event) (mine : List Event) (notes : RegionNotes) → reads_fence e.verb ≡ false → region_named e.verb ≡ None → begins_leadership r e ≡ false → StandsForRegionNotes r p mine notes → StandsForRegionNotes r p (e ∷ mine) notes
 notes_left r p e mine notes other none goes held = left_by r p e.by e.verb e.answer mine notes other none goes held
+
+-- a step at the region p leaves what was done at every other
+pub kept_elsewhere : (r p : ℕ) (e : Event) (mine : List Event) → region_named e.verb ≡ Some p → (q : ℕ) (notes : RegionNotes) → q ≢ p → StandsForRegionNotes r q mine notes → StandsForRegionNotes r q (e ∷ mine) notes
+kept_elsewhere r p e mine names q notes other held = notes_kept r q p e.by e.verb e.answer mine notes names (λ same. other (sym same)) held

@@ -1,5 +1,5 @@
--- What a read of a fence changes of a leadership.
-use Rattle.std.proofs.Common.{Bool, List, None, Some, ap, false, refl, subst, sym, ℕ, ◌∙◌, ◌∷◌, ◌≡◌, ◌||◌}
+-- What a read of a fence changes of what was done at its region.
+use Rattle.std.proofs.Common.{Bool, List, None, Some, ap, false, refl, subst, sym, ℕ, ◌∙◌, ◌∷◌, ◌≡◌}
 use Rattle.std.specs.Prelude.{is_some}
 use Rattle.std.specs.declared.option.Option.{Option}
 use Rattle.mu_model.specs.declared.config.Config.{Config}
@@ -11,16 +11,14 @@ use Rattle.mu_model.specs.Again.{foreign_row, row_with}
 use Rattle.mu_model.specs.Answers.{answer_of}
 use Rattle.mu_model.specs.Entering.{min_read_under}
 use Rattle.mu_model.specs.Histories.{newer_or, newest}
-use Rattle.mu_model.specs.Leaderships.{ends_leadership, fence_seen, grant_for, is_over, proposal_number}
+use Rattle.mu_model.specs.Leaderships.{fence_seen, grant_for, proposal_number}
 use Rattle.mu_model.specs.Parts.{IsPossible}
 use Rattle.mu_model.specs.Regions.{fence}
 use Rattle.mu_model.proofs.Basics.{event_by, same_number}
 use Rattle.mu_agree.proofs.Possible.{at_event}
 use Rattle.mu_leadership.specs.Bearing.{reads_fence}
-use Rattle.mu_leadership.specs.Leadership.{StandForRegionNotes, StandsForLeadership, StandsForRegionNotes}
-use Rattle.mu_leadership.specs.declared.leadership.Leadership.{Leadership}
+use Rattle.mu_leadership.specs.Leadership.{StandsForRegionNotes}
 use Rattle.mu_leadership.specs.declared.region_notes.RegionNotes.{RegionNotes}
-use Rattle.mu_leadership.proofs.Entries.{over_then}
 
 -- the notes with a fence
 abbrev pub noted_with : RegionNotes → Fence → Option ℕ → Bool → ℕ → RegionNotes
@@ -65,18 +63,3 @@ unshown_by r p by verb answer other = refl
 
 pub still_seen : (r p : ℕ) (mine : List Event) (e : Event) → reads_fence e.verb ≡ false → newest (λ x. fence_seen r p x.by x.verb x.answer) (e ∷ mine) ≡ newest (λ x. fence_seen r p x.by x.verb x.answer) mine
 still_seen r p mine e other = ap (λ o. newer_or o (newest (λ x. fence_seen r p x.by x.verb x.answer) mine)) (unshown_by r p e.by e.verb e.answer other)
-
--- the state with the notes after a read of a fence, over if it was or if the fence ends it
-abbrev pub fenced_state : Leadership → Bool → List RegionNotes → Leadership
-fenced_state state ends notes = record { replica = state.replica; begun = state.begun; asked = state.asked; over = state.over || ends; number = state.number; greatest_minimum = state.greatest_minimum; greatest_number = state.greatest_number; notes = notes }
-
--- it stands for the events with the read
-fenced_by : (r p by : ℕ) (verb : Verb) (answer : Answer) (mine : List Event) (state : Leadership) (ends : Bool) (notes : List RegionNotes) → verb ≡ Verb.Fence p → ends ≡ ends_leadership r mine by verb answer
-    → StandForRegionNotes r (event_by by verb answer ∷ mine) notes → StandsForLeadership r mine state → StandsForLeadership r (event_by by verb answer ∷ mine) (fenced_state state ends notes)
-fenced_by r p by (Verb.Fence q) answer mine state ends notes is told each held =
-    record { replica = held.replica; begun = held.begun; asked = held.asked; over = over_then state.over (is_over r mine) ends _ held.over told; number = held.number; read = held.read; put = held.put; notes = each }
-fenced_by r p by verb answer mine state ends notes is told each held = cc
-
-pub fenced_stands : (r p : ℕ) (e : Event) (mine : List Event) (state : Leadership) (ends : Bool) (notes : List RegionNotes) → e.verb ≡ Verb.Fence p → ends ≡ ends_leadership r mine e.by e.verb e.answer → StandForRegionNotes r (e ∷ mine) notes → StandsForLeadership r mine state
-    → StandsForLeadership r (e ∷ mine) (fenced_state state ends notes)
-fenced_stands r p e mine state ends notes is told each held = fenced_by r p e.by e.verb e.answer mine state ends notes is told each held

@@ -3,4 +3,5 @@ mod Entries
 mod Fences
 mod Grants
 mod Kept
+pub mod SetOne
 mod Within

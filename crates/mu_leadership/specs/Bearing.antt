@@ -4,19 +4,6 @@ use Rattle.std.specs.Prelude.{Bool, None, Some, false, true, ℕ}
 use Rattle.std.specs.declared.option.Option.{Option}
 use Rattle.mu_model.specs.declared.event.Verb.{Verb}
 
--- a verb of a leader
-abbrev pub is_leader_verb : Verb → Bool
-is_leader_verb (Verb.Ask p) = true
-is_leader_verb (Verb.Fence p) = true
-is_leader_verb (Verb.Min p) = true
-is_leader_verb (Verb.Enter p t) = true
-is_leader_verb (Verb.PutMin p b) = true
-is_leader_verb (Verb.Look p i) = true
-is_leader_verb (Verb.PutSlot p i b v) = true
-is_leader_verb (Verb.Fuo p) = true
-is_leader_verb (Verb.RaiseFuo p u) = true
-is_leader_verb _ = false
-
 -- a verb of a leader that may change its leadership
 abbrev pub changes_leadership : Verb → Bool
 changes_leadership (Verb.Ask p) = true
@@ -26,6 +13,13 @@ changes_leadership (Verb.Enter p t) = true
 changes_leadership (Verb.PutMin p b) = true
 changes_leadership (Verb.PutSlot p i b v) = true
 changes_leadership _ = false
+
+-- a verb of a leader
+abbrev pub is_leader_verb : Verb → Bool
+is_leader_verb (Verb.Look p i) = true
+is_leader_verb (Verb.Fuo p) = true
+is_leader_verb (Verb.RaiseFuo p u) = true
+is_leader_verb verb = changes_leadership verb
 
 -- the verb reads a fence
 abbrev pub reads_fence : Verb → Bool

@@ -10,16 +10,8 @@ pub fn is_leader_verb(verb: &Verb) -> bool
     ensures { result ≡ is_leader_verb verb.now }
 {
     match verb {
-        Verb::Ask(_)
-        | Verb::Fence(_)
-        | Verb::Min(_)
-        | Verb::Enter(_, _)
-        | Verb::PutMin(_, _)
-        | Verb::Look(_, _)
-        | Verb::PutSlot(_, _, _, _)
-        | Verb::Fuo(_)
-        | Verb::RaiseFuo(_, _) => true,
-        _ => false,
+        Verb::Look(_, _) | Verb::Fuo(_) | Verb::RaiseFuo(_, _) => true,
+        _ => changes_leadership(verb),
     }
 }
 
@@ -42,7 +34,8 @@ pub(crate) fn changes_leadership(verb: &Verb) -> bool
 
 /// The region at which the verb is a step, if it may change what was done there and nowhere else:
 /// an ask may begin a leadership, which changes it everywhere.
-pub(crate) fn region_of(verb: &Verb) -> Option<u8>
+#[inline(always)]
+pub fn region_of(verb: &Verb) -> Option<u8>
     ensures { result ≡ region_named verb.now }
 {
     match *verb {

@@ -1,12 +1,12 @@
 //! What an entry or a put into a slot changes of what was done at its region.
-ghost use Rattle.std.specs.Prelude.{List, Some, ℕ, ◌∷◌, ◌≡◌};
+ghost use Rattle.std.specs.Prelude.{List, Some, ℕ, ◌≡◌};
 ghost use Rattle.mu_model.specs.declared.event.Event.{Event};
 ghost use Rattle.mu_model.specs.declared.event.Target.{Target as SomeTarget};
 ghost use Rattle.mu_model.specs.declared.event.Verb.{Verb};
 ghost use Rattle.mu_model.specs.Entering.{enter_open};
 ghost use Rattle.mu_model.specs.Leaderships.{ends_leadership};
 ghost use Rattle.mu_leadership.specs.Bearing.{region_entered};
-ghost use Rattle.mu_leadership.specs.Leadership.{StandForRegionNotes, StandsForRegionNotes};
+ghost use Rattle.mu_leadership.specs.Leadership.{NotesTake, TakesAt};
 
 use crate::region_notes::RegionNotes;
 use mu_model::{Answer, Target};
@@ -46,8 +46,7 @@ impl RegionNotes {
     fn enter(&mut self, target: Target)
         ensures { (r p : ℕ) → (e : Event) → (mine : List Event) → region_entered e.verb ≡ Some p
             → enter_open r p e.by e.verb e.answer ≡ Some target
-            → StandsForRegionNotes r p mine self.old
-            → StandsForRegionNotes r p (e ∷ mine) self.new }
+            → TakesAt r p mine e self.old self.new }
     {
         self.entered = Some(target);
         self.opened = Some(target);
@@ -59,7 +58,7 @@ impl RegionNotes {
 pub(crate) fn enter_at(notes: &mut [RegionNotes; 7], p: u8, target: Target)
     ensures { (r : ℕ) → (e : Event) → (mine : List Event) → region_entered e.verb ≡ Some p
         → enter_open r p e.by e.verb e.answer ≡ Some target
-        → StandForRegionNotes r mine notes.old → StandForRegionNotes r (e ∷ mine) notes.new }
+        → NotesTake r mine e notes.old notes.new }
 {
     if p < 7 {
         notes[usize::from(p)].enter(target);

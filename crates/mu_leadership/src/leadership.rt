@@ -6,13 +6,13 @@ ghost use Rattle.mu_model.specs.declared.event.Event.{Event};
 ghost use Rattle.mu_model.specs.declared.event.Verb.{Verb};
 ghost use Rattle.mu_model.specs.declared.reason.Reason.{Reason};
 ghost use Rattle.mu_model.specs.Again.{foreign_row};
-ghost use Rattle.mu_model.specs.Points.{IsMet, last_ask};
-ghost use Rattle.mu_model.specs.Entering.{any_min_read, has_confirmed_majority, has_read_min, last_opened, min_read, number_allowed, open_target};
-ghost use Rattle.mu_model.specs.Histories.{count_below, greatest, newest, or_zero};
-ghost use Rattle.mu_model.specs.Leaderships.{ends_leadership, fence_seen, grant_at_joining, has_begun, has_quorum, is_changed, is_member, is_over, leadership, noted_grant, number_put, proposal_number};
+ghost use Rattle.mu_model.specs.Points.{IsMet};
+ghost use Rattle.mu_model.specs.Entering.{has_confirmed_majority, has_read_min, last_opened, number_allowed, open_target};
+ghost use Rattle.mu_model.specs.Histories.{count_below};
+ghost use Rattle.mu_model.specs.Leaderships.{ends_leadership, grant_at_joining, has_begun, has_quorum, is_changed, is_member, is_over, noted_grant, proposal_number};
 ghost use Rattle.mu_model.specs.Parts.{IsPossible};
 ghost use Rattle.mu_leadership.specs.Bearing.{reads_fence};
-ghost use Rattle.mu_leadership.specs.Leadership.{StandsForRegionNotes, StandsForLeadership};
+ghost use Rattle.mu_leadership.specs.Leadership.{StandsForRegionNotes, StandsForLeadership, Takes, TakesPossible, Tells, TellsAmong, TellsOf, greatest_put, greatest_read, last_asked, last_minimum, last_seen};
 
 use crate::after::{
     asked_after, begun_after, greatest_minimum_after, greatest_number_after, number_after,
@@ -60,22 +60,13 @@ fn is_own_above(b: u32, r: u8, read: u64, put: u32) -> bool
     b % 8 == u32::from(r) && 8 <= b && read < u64::from(b) && put < b
 }
 
-/// Whether both hold.
-fn both(own: bool, next: bool) -> bool
-    ensures { IsTrue result ↔ (IsTrue own × IsTrue next) }
-{
-    own && next
-}
-
 /// Whether `b` is the least number of `r` above two others.
 fn is_least_number(b: u32, r: u8, read: u64, put: u32) -> bool
     ensures { IsTrue result
         ↔ ((b % 8 ≡ r) × (8 ≤ b) × (read < b) × (put < b)
         × ((n : ℕ) → n % 8 ≡ r → 8 ≤ n → read < n → put < n → b ≤ n)) }
 {
-    let own = is_own_above(b, r, read, put);
-    let next = is_next(b, read, put);
-    both(own, next)
+    is_own_above(b, r, read, put) && is_next(b, read, put)
 }
 
 impl Leadership {
@@ -109,8 +100,7 @@ impl Leadership {
 
     /// What was noted of `p` when it became a member, if it is one.
     fn joined(&self, p: u8) -> Option<Option<u32>>
-        ensures { (r : ℕ) → (mine : List Event) → p < 7 → StandsForLeadership r mine self.now
-            → result ≡ grant_at_joining r p mine }
+        ensures { TellsOf self.now grant_at_joining p result }
     {
         self.notes_of(p).joined
     }
@@ -146,10 +136,7 @@ impl Leadership {
     /// Takes the next event of the replica, which it was allowed. Takes no memory.
     #[inline(always)]
     pub fn take(&mut self, r: u8, event: &Event)
-        ensures { (c : Config) → (mine : List Event) → c.replicas ≤ 7
-            → IsPossible c r (event.now ∷ mine)
-            → StandsForLeadership r mine self.old
-            → StandsForLeadership r (event.now ∷ mine) self.new }
+        ensures { TakesPossible r event.now self.old self.new }
     {
         if !changes_leadership(&event.verb) {
             return;
@@ -160,10 +147,7 @@ impl Leadership {
     /// Takes an event that may change it.
     #[inline(never)]
     fn take_change(&mut self, r: u8, event: &Event)
-        ensures { (c : Config) → (mine : List Event) → c.replicas ≤ 7
-            → IsPossible c r (event.now ∷ mine)
-            → StandsForLeadership r mine self.old
-            → StandsForLeadership r (event.now ∷ mine) self.new }
+        ensures { TakesPossible r event.now self.old self.new }
     {
         match event.verb {
             Verb::Enter(p, target) => self.take_entry(p, target, event),
@@ -178,8 +162,7 @@ impl Leadership {
     fn take_entry(&mut self, p: u8, target: Target, event: &Event)
         ensures { (c : Config) → (r : ℕ) → (mine : List Event)
             → event.now.verb ≡ Verb.Enter p target → IsPossible c r (event.now ∷ mine)
-            → StandsForLeadership r mine self.old
-            → StandsForLeadership r (event.now ∷ mine) self.new }
+            → Takes r mine event.now self.old self.new }
     {
         self.over |= is_lost(&event.answer);
         enter_at(&mut self.notes, p, target_named(target, &event.answer));
@@ -190,8 +173,7 @@ impl Leadership {
     fn take_put(&mut self, p: u8, event: &Event)
         ensures { (c : Config) → (r i b v : ℕ) → (mine : List Event)
             → event.now.verb ≡ Verb.PutSlot p i b v → IsPossible c r (event.now ∷ mine)
-            → StandsForLeadership r mine self.old
-            → StandsForLeadership r (event.now ∷ mine) self.new }
+            → Takes r mine event.now self.old self.new }
     {
         self.over |= is_missed(&event.answer);
         enter_at(&mut self.notes, p, Target::None);
@@ -202,8 +184,7 @@ impl Leadership {
     fn take_fence(&mut self, r: u8, p: u8, event: &Event)
         ensures { (c : Config) → (mine : List Event) → c.replicas ≤ 7
             → event.now.verb ≡ Verb.Fence p → IsPossible c r (event.now ∷ mine)
-            → StandsForLeadership r mine self.old
-            → StandsForLeadership r (event.now ∷ mine) self.new }
+            → Takes r mine event.now self.old self.new }
     {
         match event.answer {
             Answer::Seen(fence) => {
@@ -220,8 +201,7 @@ impl Leadership {
     #[inline(never)]
     fn take_other(&mut self, r: u8, event: &Event)
         ensures { (mine : List Event) → reads_fence event.now.verb ≡ false
-            → StandsForLeadership r mine self.old
-            → StandsForLeadership r (event.now ∷ mine) self.new }
+            → Takes r mine event.now self.old self.new }
     {
         self.over = self.over_after(r, event);
         self.begun = begun_after(self.begun, r, event);
@@ -234,49 +214,42 @@ impl Leadership {
 
     /// Whether the leadership is over.
     pub fn is_over(&self) -> bool
-        ensures { (r : ℕ) → (mine : List Event) → StandsForLeadership r mine self.now
-            → result ≡ is_over r mine }
+        ensures { Tells self.now is_over result }
     {
         self.over
     }
 
     /// Whether a leadership has begun.
     pub fn has_begun(&self) -> bool
-        ensures { (r : ℕ) → (mine : List Event) → StandsForLeadership r mine self.now
-            → result ≡ has_begun r mine }
+        ensures { Tells self.now has_begun result }
     {
         self.begun
     }
 
     /// The region that was asked last.
     pub fn asked(&self) -> Option<u8>
-        ensures { (r : ℕ) → (mine : List Event) → StandsForLeadership r mine self.now
-            → result ≡ newest (λ e. last_ask r e.by e.verb) mine }
+        ensures { Tells self.now last_asked result }
     {
         self.asked
     }
 
     /// The number of the leadership.
     pub fn number(&self) -> Option<u32>
-        ensures { (r : ℕ) → (mine : List Event) → StandsForLeadership r mine self.now
-            → result ≡ proposal_number r mine }
+        ensures { Tells self.now proposal_number result }
     {
         self.number
     }
 
     /// The greatest minimum read in the leadership.
     pub fn greatest_minimum(&self) -> u64
-        ensures { (r : ℕ) → (mine : List Event) → StandsForLeadership r mine self.now
-            → result
-            ≡ greatest (λ e. any_min_read r e.by e.verb e.answer) (leadership r mine) }
+        ensures { Tells self.now greatest_read result }
     {
         self.greatest_minimum
     }
 
     /// The greatest number put.
     pub fn greatest_number(&self) -> u32
-        ensures { (r : ℕ) → (mine : List Event) → StandsForLeadership r mine self.now
-            → result ≡ greatest (λ e. number_put r e.by e.verb) mine }
+        ensures { Tells self.now greatest_put result }
     {
         self.greatest_number
     }
@@ -284,8 +257,7 @@ impl Leadership {
     /// The number that a leadership without one takes: its least above all that it read and put.
     pub fn next_number(&self) -> u32
         ensures { (r : ℕ) → (mine : List Event) → r < 7
-            → greatest (λ e. any_min_read r e.by e.verb e.answer) (leadership r mine) < 8000000
-            → greatest (λ e. number_put r e.by e.verb) mine < 8000000
+            → greatest_read r mine < 8000000 → greatest_put r mine < 8000000
             → StandsForLeadership r mine self.now → number_allowed r mine result None }
     {
         let read = self.greatest_minimum.min(7_999_999) as u32;
@@ -295,65 +267,64 @@ impl Leadership {
 
     /// The grant of `p` that was noted.
     pub fn noted(&self, p: u8) -> Option<u32>
-        ensures { (r : ℕ) → (mine : List Event) → p < 7 → StandsForLeadership r mine self.now
-            → result ≡ noted_grant r p mine }
+        ensures { TellsOf self.now noted_grant p result }
     {
         self.notes_of(p).noted
     }
 
     /// The fence of `p` that was seen last.
     pub fn seen(&self, p: u8) -> Option<Fence>
-        ensures { (r : ℕ) → (mine : List Event) → p < 7 → StandsForLeadership r mine self.now
-            → result ≡ newest (λ e. fence_seen r p e.by e.verb e.answer) mine }
+        ensures { TellsOf self.now last_seen p result }
     {
         self.notes_of(p).seen
     }
 
     /// How many times in a row, up to `LONG_ROW`, `p` was seen open to another under the number.
     pub fn foreign(&self, p: u8) -> u8
-        ensures { (r : ℕ) → (mine : List Event) → p < 7 → StandsForLeadership r mine self.now
-            → result ≡ foreign_row r p mine }
+        ensures { TellsOf self.now foreign_row p result }
     {
         self.notes_of(p).foreign
     }
 
     /// The target that `p` was entered with last.
     pub fn opened(&self, p: u8) -> Option<Target>
-        ensures { (r : ℕ) → (mine : List Event) → p < 7 → StandsForLeadership r mine self.now
-            → result ≡ last_opened r p mine }
+        ensures { TellsOf self.now last_opened p result }
     {
         self.notes_of(p).opened
     }
 
     /// The target that `p` is entered with in the leadership.
     pub fn entered(&self, p: u8) -> Option<Target>
-        ensures { (r : ℕ) → (mine : List Event) → p < 7 → StandsForLeadership r mine self.now
-            → result ≡ open_target r p mine }
+        ensures { TellsOf self.now open_target p result }
     {
         self.notes_of(p).entered
     }
 
     /// The minimum of `p` that was read last, else 0.
     pub fn minimum(&self, p: u8) -> u64
-        ensures { (r : ℕ) → (mine : List Event) → p < 7 → StandsForLeadership r mine self.now
-            → result ≡ or_zero (newest (λ e. min_read r p e.by e.verb e.answer) mine) }
+        ensures { TellsOf self.now last_minimum p result }
     {
         self.notes_of(p).minimum
     }
 
     /// Whether `p` is a member.
     pub fn is_member(&self, p: u8) -> bool
-        ensures { (r : ℕ) → (mine : List Event) → p < 7 → StandsForLeadership r mine self.now
-            → result ≡ is_member r p mine }
+        ensures { TellsOf self.now is_member p result }
     {
         self.joined(p).is_some()
+    }
+
+    /// Whether the minimum of `p` was read under the noted grant.
+    pub fn has_read(&self, p: u8) -> bool
+        ensures { TellsOf self.now has_read_min p result }
+    {
+        self.notes_of(p).has_read_minimum()
     }
 
     /// How many regions below `n` are members.
     fn members_below(&self, n: u8) -> u8
         requires { n ≤ 7 }
-        ensures { (r : ℕ) → (mine : List Event) → StandsForLeadership r mine self.now
-            → result ≡ count_below n (λ p. is_member r p mine) }
+        ensures { Tells self.now (λ r mine. count_below n (λ p. is_member r p mine)) result }
     {
         let mut count: u8 = 0;
         for p in 0..n {
@@ -367,25 +338,15 @@ impl Leadership {
     /// Whether the members are a majority of `n` with the replica.
     pub fn has_quorum(&self, n: u8) -> bool
         requires { n ≤ 7 }
-        ensures { (c : Config) → (r : ℕ) → (mine : List Event) → n ≡ c.replicas → r < 7
-            → StandsForLeadership r mine self.now → result ≡ has_quorum c r mine }
+        ensures { TellsAmong self.now has_quorum n result }
     {
         self.is_member(self.replica) && majority(n) <= self.members_below(n)
-    }
-
-    /// Whether the minimum of `p` was read under the noted grant.
-    pub fn has_read(&self, p: u8) -> bool
-        ensures { (r : ℕ) → (mine : List Event) → p < 7 → StandsForLeadership r mine self.now
-            → result ≡ has_read_min r p mine }
-    {
-        self.notes_of(p).has_read_minimum()
     }
 
     /// How many regions below `n` have told their minimum.
     fn minimums_read(&self, n: u8) -> u8
         requires { n ≤ 7 }
-        ensures { (r : ℕ) → (mine : List Event) → StandsForLeadership r mine self.now
-            → result ≡ count_below n (λ p. has_read_min r p mine) }
+        ensures { Tells self.now (λ r mine. count_below n (λ p. has_read_min r p mine)) result }
     {
         let mut count: u8 = 0;
         for p in 0..n {
@@ -399,8 +360,7 @@ impl Leadership {
     /// Whether the regions that have told their minimum are a majority of `n` with its own region.
     pub fn has_confirmed(&self, n: u8) -> bool
         requires { n ≤ 7 }
-        ensures { (c : Config) → (r : ℕ) → (mine : List Event) → n ≡ c.replicas → r < 7
-            → StandsForLeadership r mine self.now → result ≡ has_confirmed_majority c r mine }
+        ensures { TellsAmong self.now has_confirmed_majority n result }
     {
         self.has_read(self.replica) && majority(n) <= self.minimums_read(n)
     }

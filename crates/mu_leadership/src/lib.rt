@@ -9,6 +9,6 @@ mod entering;
 mod leadership;
 mod region_notes;
 
-pub use bearing::is_leader_verb;
+pub use bearing::{is_leader_verb, region_of};
 pub use leadership::Leadership;
 pub use region_notes::{LONG_ROW, begins};

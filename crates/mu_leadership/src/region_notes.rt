@@ -1,15 +1,11 @@
 //! What a replica has done at one region.
 ghost use Rattle.std.specs.Prelude.{List, Some, [], false, if◌then◌else◌, is_some, ℕ, ◌<◌, ◌∷◌, ◌≡◌, ◌≢◌};
 ghost use Rattle.mu_model.specs.declared.config.Config.{Config};
-ghost use Rattle.mu_model.specs.declared.event.Answer.{Answer as SomeAnswer};
 ghost use Rattle.mu_model.specs.declared.event.Event.{Event};
-ghost use Rattle.mu_model.specs.declared.event.Verb.{Verb as SomeVerb};
 ghost use Rattle.mu_model.specs.Again.{foreign_row, is_foreign, one_more, row_with};
-ghost use Rattle.mu_model.specs.Entering.{has_read_min, last_opened, min_read, min_read_since, min_read_under, open_target};
-ghost use Rattle.mu_model.specs.Histories.{newest, or_zero};
-ghost use Rattle.mu_model.specs.Leaderships.{begins_leadership, fence_seen, grant_at_joining, grant_for, noted_grant, proposal_number};
-ghost use Rattle.mu_model.specs.Parts.{IsPossible};
-ghost use Rattle.mu_leadership.specs.Leadership.{StandForRegionNotes, StandsForRegionNotes, grant_of, last_grant};
+ghost use Rattle.mu_model.specs.Entering.{has_read_min, last_opened, min_read_since, min_read_under, open_target};
+ghost use Rattle.mu_model.specs.Leaderships.{begins_leadership, grant_at_joining, grant_for, noted_grant};
+ghost use Rattle.mu_leadership.specs.Leadership.{StandForRegionNotes, StandsForRegionNotes, grant_of, last_grant, Adds, AddsUnfenced, NotesTake, NotesTakeUnfenced, TakesAt, last_minimum, last_seen, IfSeen};
 ghost use Rattle.mu_leadership.specs.Bearing.{reads_fence, region_named};
 
 use crate::bearing::region_of;
@@ -64,11 +60,10 @@ fn grant_named(r: u8, fence: Fence) -> Option<u32>
 
 /// The noted grant of `p` after the event, which reads no fence.
 fn noted_after(held: Option<u32>, r: u8, event: &Event) -> Option<u32>
-    ensures { (p : ℕ) → (mine : List Event) → reads_fence event.now.verb ≡ false
-        → held ≡ noted_grant r p mine → result ≡ noted_grant r p (event.now ∷ mine) }
+    ensures { AddsUnfenced (noted_grant r) event.now held result }
 {
     match event.verb {
-        Verb::Ask(q) => { if event.by == r && q == 0 { None } else { held } }
+        Verb::Ask(q) if event.by == r && q == 0 => None,
         _ => held,
     }
 }
@@ -85,75 +80,43 @@ fn joined_after(
         → result ≡ grant_at_joining r p (event.now ∷ mine) }
 {
     match (event.verb, event.answer) {
-        (Verb::Ask(q), _) => { if event.by == r && q == 0 { None } else { held } }
-        (Verb::PutMin(q, _), Answer::Done) => {
-            if event.by == r && q == p && held.is_none() {
-                Some(noted)
-            } else {
-                held
-            }
-        }
-        _ => held,
-    }
-}
-
-/// The target that `r` entered `p` with in its leadership, after the event.
-fn entered_after(held: Option<Target>, r: u8, p: u8, event: &Event) -> Option<Target>
-    ensures { (mine : List Event) → held ≡ open_target r p mine
-        → result ≡ open_target r p (event.now ∷ mine) }
-{
-    match (event.verb, event.answer) {
-        (Verb::Ask(q), _) => { if event.by == r && q == 0 { None } else { held } }
-        (Verb::Enter(q, target), Answer::Entered) => {
-            if event.by == r && q == p {
-                Some(target)
-            } else {
-                held
-            }
-        }
-        (Verb::Enter(q, _), _) | (Verb::PutMin(q, _), _) | (Verb::PutSlot(q, _, _, _), _) => {
-            if event.by == r && q == p {
-                Some(Target::None)
-            } else {
-                held
-            }
-        }
+        (Verb::Ask(q), _) if event.by == r && q == 0 => None,
+        (Verb::PutMin(q, _), Answer::Done) if event.by == r && q == p => held.or(Some(noted)),
         _ => held,
     }
 }
 
 /// The target that `r` entered `p` with, after the event.
 fn opened_after(held: Option<Target>, r: u8, p: u8, event: &Event) -> Option<Target>
-    ensures { (mine : List Event) → held ≡ last_opened r p mine
-        → result ≡ last_opened r p (event.now ∷ mine) }
+    ensures whole { Adds (last_opened r p) event.now held result }
+    ensures leading { begins_leadership r event.now ≡ false
+        → Adds (open_target r p) event.now held result }
 {
     match (event.verb, event.answer) {
-        (Verb::Enter(q, target), Answer::Entered) => {
-            if event.by == r && q == p {
-                Some(target)
-            } else {
-                held
-            }
-        }
-        (Verb::Enter(q, _), _) | (Verb::PutMin(q, _), _) | (Verb::PutSlot(q, _, _, _), _) => {
-            if event.by == r && q == p {
-                Some(Target::None)
-            } else {
-                held
-            }
-        }
+        (Verb::Enter(q, target), Answer::Entered) if event.by == r && q == p => Some(target),
+        (Verb::Enter(q, _), _) | (Verb::PutMin(q, _), _) | (Verb::PutSlot(q, _, _, _), _)
+            if event.by == r && q == p => Some(Target::None),
         _ => held,
+    }
+}
+
+/// The target that `r` entered `p` with in its leadership, after the event.
+fn entered_after(held: Option<Target>, r: u8, p: u8, event: &Event) -> Option<Target>
+    ensures { Adds (open_target r p) event.now held result }
+{
+    if begins(r, event) {
+        None
+    } else {
+        opened_after(held, r, p, event)
     }
 }
 
 /// The minimum of `p` that `r` read last, after the event.
 fn minimum_after(held: u64, r: u8, p: u8, event: &Event) -> u64
-    ensures { (mine : List Event)
-        → held ≡ or_zero (newest (λ e. min_read r p e.by e.verb e.answer) mine)
-        → result ≡ or_zero (newest (λ e. min_read r p e.by e.verb e.answer) (event.now ∷ mine)) }
+    ensures { Adds (last_minimum r p) event.now held result }
 {
     match (event.verb, event.answer) {
-        (Verb::Min(q), Answer::Number(x)) => { if event.by == r && q == p { x } else { held } }
+        (Verb::Min(q), Answer::Number(x)) if event.by == r && q == p => x,
         _ => held,
     }
 }
@@ -186,7 +149,7 @@ fn has_read_under(held: bool, shown: Option<u32>, grant: u32) -> bool
 /// event, which reads no fence.
 fn has_read_after(held: bool, seen: Option<Fence>, r: u8, p: u8, event: &Event) -> bool
     ensures { (mine : List Event) → reads_fence event.now.verb ≡ false
-        → seen ≡ newest (λ e. fence_seen r p e.by e.verb e.answer) mine
+        → seen ≡ last_seen r p mine
         → held ≡ min_read_since r p mine (last_grant r p mine)
         → result ≡ min_read_since r p (event.now ∷ mine) (last_grant r p (event.now ∷ mine)) }
 {
@@ -240,11 +203,10 @@ fn row_with(held: u8, numbered: bool, r: u8, fence: Fence) -> u8
 /// How many times in a row `r` saw the region `p` open to another, after the event, which reads no
 /// fence.
 fn foreign_after(held: u8, r: u8, event: &Event) -> u8
-    ensures { (p : ℕ) → (mine : List Event) → reads_fence event.now.verb ≡ false
-        → held ≡ foreign_row r p mine → result ≡ foreign_row r p (event.now ∷ mine) }
+    ensures { AddsUnfenced (foreign_row r) event.now held result }
 {
     match event.verb {
-        Verb::Ask(q) => { if event.by == r && q == 0 { 0 } else { held } }
+        Verb::Ask(q) if event.by == r && q == 0 => 0,
         _ => held,
     }
 }
@@ -269,8 +231,7 @@ impl RegionNotes {
     /// What `r` has done at `p` after the event, which reads no fence.
     pub fn after(self, r: u8, p: u8, event: &Event) -> RegionNotes
         ensures { (mine : List Event) → reads_fence event.now.verb ≡ false
-            → StandsForRegionNotes r p mine self
-            → StandsForRegionNotes r p (event.now ∷ mine) result }
+            → TakesAt r p mine event.now self result }
     {
         RegionNotes {
             noted: noted_after(self.noted, r, event),
@@ -288,10 +249,7 @@ impl RegionNotes {
     #[inline(always)]
     fn see(&mut self, r: u8, fence: Fence, numbered: bool)
         ensures { (c : Config) → (p : ℕ) → (e : Event) → (mine : List Event)
-            → IsPossible c r (e ∷ mine) → e.verb ≡ SomeVerb.Fence p
-            → e.answer ≡ SomeAnswer.Seen fence → numbered ≡ is_some (proposal_number r mine)
-            → StandsForRegionNotes r p mine self.old
-            → StandsForRegionNotes r p (e ∷ mine) self.new }
+            → IfSeen c r p mine e fence numbered (TakesAt r p mine e self.old self.new) }
     {
         self.noted = grant_named(r, fence);
         self.has_read = has_read_under(self.has_read, grant_in(self.seen), fence.grant);
@@ -318,9 +276,7 @@ pub(crate) fn no_notes() -> [RegionNotes; 7]
 
 /// What was done at each region, with the event, which reads no fence.
 fn take_at_each(notes: &mut [RegionNotes; 7], r: u8, event: &Event)
-    ensures { (mine : List Event) → reads_fence event.now.verb ≡ false
-        → StandForRegionNotes r mine notes.old
-        → StandForRegionNotes r (event.now ∷ mine) notes.new }
+    ensures { NotesTakeUnfenced r event.now notes.old notes.new }
 {
     for p in 0..7u8 {
         let at = usize::from(p);
@@ -332,8 +288,7 @@ fn take_at_each(notes: &mut [RegionNotes; 7], r: u8, event: &Event)
 /// What was done at the region that the event names, with the event, which reads no fence.
 fn take_at(notes: &mut [RegionNotes; 7], p: u8, r: u8, event: &Event)
     ensures { (mine : List Event) → reads_fence event.now.verb ≡ false
-        → region_named event.now.verb ≡ Some p → StandForRegionNotes r mine notes.old
-        → StandForRegionNotes r (event.now ∷ mine) notes.new }
+        → region_named event.now.verb ≡ Some p → NotesTake r mine event.now notes.old notes.new }
 {
     if p < 7 {
         let at = usize::from(p);
@@ -345,10 +300,8 @@ fn take_at(notes: &mut [RegionNotes; 7], p: u8, r: u8, event: &Event)
 /// Notes at `p` the fence that `r` saw there.
 #[inline(always)]
 pub(crate) fn see_at(notes: &mut [RegionNotes; 7], p: u8, r: u8, fence: Fence, numbered: bool)
-    ensures { (c : Config) → (e : Event) → (mine : List Event) → IsPossible c r (e ∷ mine)
-        → e.verb ≡ SomeVerb.Fence p → e.answer ≡ SomeAnswer.Seen fence
-        → numbered ≡ is_some (proposal_number r mine)
-        → StandForRegionNotes r mine notes.old → StandForRegionNotes r (e ∷ mine) notes.new }
+    ensures { (c : Config) → (e : Event) → (mine : List Event)
+        → IfSeen c r p mine e fence numbered (NotesTake r mine e notes.old notes.new) }
 {
     if p < 7 {
         notes[usize::from(p)].see(r, fence, numbered);
@@ -357,9 +310,7 @@ pub(crate) fn see_at(notes: &mut [RegionNotes; 7], p: u8, r: u8, fence: Fence, n
 
 /// What was done at the regions that the event bears on, with the event, which reads no fence.
 pub(crate) fn take_at_regions(notes: &mut [RegionNotes; 7], r: u8, event: &Event)
-    ensures { (mine : List Event) → reads_fence event.now.verb ≡ false
-        → StandForRegionNotes r mine notes.old
-        → StandForRegionNotes r (event.now ∷ mine) notes.new }
+    ensures { NotesTakeUnfenced r event.now notes.old notes.new }
 {
     match region_of(&event.verb) {
         Some(p) => take_at(notes, p, r, event),

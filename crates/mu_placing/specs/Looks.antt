@@ -1,8 +1,8 @@
--- stands for (looks): the state of looks, first puts and FUOs that were read stands for the events
--- of r.
+-- stands for, tells, takes (looks): the state of looks, first puts and FUOs that were read stands
+-- for the events of r, tells what has come of them, and takes one more.
 --
 -- Times are told with it: the events of r count from 1, and 0 is never.
-use Rattle.std.specs.Prelude.{Bool, List, None, Some, [], false, if◌then◌else◌, length, nat_lt, true, ℕ, ◌%◌, ◌&&◌, ◌+◌, ◌==◌, ◌∷◌, ◌≡◌, ◌≤◌}
+use Rattle.std.specs.Prelude.{Bool, List, None, Some, [], false, if◌then◌else◌, is_some, length, nat_lt, not, true, ℕ, ◌%◌, ◌&&◌, ◌+◌, ◌<◌, ◌==◌, ◌||◌, ◌∷◌, ◌≡◌, ◌≤◌}
 use Rattle.std.specs.declared.option.Option.{Option}
 use Rattle.std.specs.List.{slice_get}
 use Rattle.mu_model.specs.declared.config.Config.{Config}
@@ -13,10 +13,12 @@ use Rattle.mu_model.specs.Answers.{is_enter_of}
 use Rattle.mu_model.specs.Contents.{row_count}
 use Rattle.mu_model.specs.Entering.{last_opened}
 use Rattle.mu_model.specs.Histories.{has, newer_or}
-use Rattle.mu_model.specs.Leaderships.{begins_leadership, lands_min, leadership}
-use Rattle.mu_model.specs.Picks.{first_value, is_joining, is_past_look, joined_since_first_put, last_look, look_answer}
+use Rattle.mu_model.specs.Leaderships.{begins_leadership, is_member, lands_min, leadership}
+use Rattle.mu_model.specs.Picks.{entry_of, first_value, is_joining, is_past_look, joined_since_first_put, last_look, look_answer}
 use Rattle.mu_model.specs.Placing.{fuo_read_or_raised, is_within_ring, looked_before_entering, reaches_head, has_looked_since}
 use Rattle.mu_model.specs.Room.{reserve}
+use Rattle.mu_leadership.specs.Leadership.{StandsForLeadership}
+use Rattle.mu_leadership.specs.declared.leadership.Leadership.{Leadership}
 use Rattle.mu_placing.specs.declared.region_looks.Look.{Look}
 use Rattle.mu_placing.specs.declared.region_looks.RegionLooks.{RegionLooks}
 use Rattle.mu_placing.specs.declared.looks.First.{First}
@@ -55,6 +57,29 @@ member_time r p (e ∷ past) =
 abbrev pub enter_time : ℕ → ℕ → List Event → ℕ
 enter_time r p mine = last_time (is_enter_of r p) mine
 
+-- in its leadership r read or raised a FUO of p within a ring of position i
+abbrev pub has_fuo_near : ℕ → ℕ → ℕ → ℕ → List Event → Bool
+has_fuo_near r p ring i mine =
+    has (λ e. is_within_ring i ring (fuo_read_or_raised r p e.by e.verb e.answer))
+    (leadership r mine)
+
+-- in its leadership r saw `Past` at position i of p
+abbrev pub has_seen_past : ℕ → ℕ → ℕ → List Event → Bool
+has_seen_past r p i mine =
+    has (λ e. is_past_look (look_answer r p i e.by e.verb e.answer)) (leadership r mine)
+
+-- p is no member, or r did not see it past position i
+abbrev pub is_clear : ℕ → ℕ → ℕ → List Event → Bool
+is_clear r p i mine = not (is_member r p mine && has_seen_past r p i mine)
+
+-- p is no member, or r looked at position i there since a region joined last
+abbrev pub is_looked_at : ℕ → ℕ → ℕ → List Event → Bool
+is_looked_at r p i mine = not (is_member r p mine) || is_some (last_look r p i mine)
+
+-- the entry that the last look at position i of p showed, if p is a member
+abbrev pub entry_shown : ℕ → ℕ → ℕ → List Event → Option (ℕ × ℕ)
+entry_shown r p i mine = if is_member r p mine then entry_of (last_look r p i mine) else None
+
 -- the step is a put of r at p in the place s
 abbrev pub is_put_in_place : ℕ → ℕ → ℕ → ℕ → ℕ → Verb → Bool
 is_put_in_place r p ring s by (Verb.PutSlot q j b v) = (by == r) && ((q == p) && (j % ring == s))
@@ -76,9 +101,7 @@ pub record HoldsLook (c : Config) (r p i : ℕ) (mine : List Event) (look : Look
       last_look r p i mine
       ≡ (if nat_lt (joining_time r mine) look.made_at then Some look.seen else None)
   pub past_in_time : look.past_at ≤ length mine
-  pub past :
-      has (λ e. is_past_look (look_answer r p i e.by e.verb e.answer)) (leadership r mine)
-      ≡ nat_lt (begun_time r mine) look.past_at
+  pub past : has_seen_past r p i mine ≡ nat_lt (begun_time r mine) look.past_at
   pub good_in_time : look.good_at ≤ length mine
   pub good :
       has_looked_since c r p i mine
@@ -101,10 +124,7 @@ HoldsPuts ring r p mine puts =
 -- the FUO of p that reaches farthest of those that r read or raised in its leadership
 abbrev pub HoldsReach : ℕ → ℕ → List Event → Option ℕ → Type 0
 HoldsReach r p mine reach =
-    (i ring : ℕ)
-    → has (λ e. is_within_ring i ring (fuo_read_or_raised r p e.by e.verb e.answer))
-    (leadership r mine)
-    ≡ is_within_ring i ring reach
+    (i ring : ℕ) → has_fuo_near r p ring i mine ≡ is_within_ring i ring reach
 
 -- the FUO of p that reaches farthest of all that r read or raised
 abbrev pub HoldsOwnReach : ℕ → List Event → Option ℕ → Type 0
@@ -168,3 +188,39 @@ pub record StandsForLooks (c : Config) (r : ℕ) (mine : List Event) (state : Lo
   pub firsts : HoldsFirsts r mine state.firsts.items
   pub seven : length state.regions.items ≡ 7
   pub regions : HoldsEachRegion c r mine state.regions.items
+
+-- what a state tells: of position i
+abbrev pub TellsAt : {A : Type 0} → Looks → (ℕ → ℕ → List Event → A) → ℕ → A → Type 0
+TellsAt state of i answer =
+    (c : Config) → (r : ℕ) → (mine : List Event) → i ≤ row_count c + reserve c
+    → StandsForLooks c r mine state → answer ≡ of r i mine
+
+-- what it tells of position i of the region p
+abbrev pub TellsOf : {A : Type 0} → Looks → (ℕ → ℕ → ℕ → List Event → A) → ℕ → ℕ → A → Type 0
+TellsOf state of p i answer =
+    (c : Config) → (r : ℕ) → (mine : List Event) → p < 7 → i ≤ row_count c + reserve c
+    → StandsForLooks c r mine state → answer ≡ of r p i mine
+
+-- what it tells of it beside a state of the leadership
+abbrev pub TellsBeside :
+    {A : Type 0} → Leadership → Looks → (ℕ → ℕ → ℕ → List Event → A) → ℕ → ℕ → A → Type 0
+TellsBeside leading state of p i answer =
+    (c : Config) → (r : ℕ) → (mine : List Event) → p < 7 → i ≤ row_count c + reserve c
+    → StandsForLeadership r mine leading → StandsForLooks c r mine state → answer ≡ of r p i mine
+
+-- what is held of the events adds one more, at the time `at`
+abbrev pub AddsAt : {A : Type 0} → ℕ → (List Event → A) → Event → A → A → Type 0
+AddsAt at of e held now =
+    (mine : List Event) → at ≡ length mine + 1 → held ≡ of mine → now ≡ of (e ∷ mine)
+
+-- the state of a region takes one more event, at the time `at`
+abbrev pub RegionTakes : ℕ → ℕ → Event → RegionLooks → RegionLooks → Type 0
+RegionTakes r at e before after =
+    (c : Config) → (p : ℕ) → (mine : List Event) → 0 < c.ring → at ≡ length mine + 1
+    → StandsForRegionLooks c r p mine before → StandsForRegionLooks c r p (e ∷ mine) after
+
+-- the states of all regions take one more event, at the time `at`
+abbrev pub RegionsTake : ℕ → ℕ → Event → List RegionLooks → List RegionLooks → Type 0
+RegionsTake r at e before after =
+    (c : Config) → (mine : List Event) → 0 < c.ring → at ≡ length mine + 1
+    → HoldsEachRegion c r mine before → HoldsEachRegion c r (e ∷ mine) after

@@ -11,8 +11,8 @@ ghost use Rattle.mu_model.specs.Leaderships.{begins_leadership, leadership};
 ghost use Rattle.mu_model.specs.Parts.{IsPossible};
 ghost use Rattle.mu_model.specs.Placing.{is_caught_up_at};
 ghost use Rattle.mu_placing.specs.Naming.{region_of_step};
-ghost use Rattle.mu_placing.specs.FilledLogs.{HoldsCoverage, HoldsCoverages, StandsForFilledLogs, IsFirstBehind, has_known};
-ghost use Rattle.mu_knowledge.specs.FilledLog.{IsFilledTo, filled_spot};
+ghost use Rattle.mu_placing.specs.FilledLogs.{HoldsCoverage, StandsForFilledLogs, IsFirstBehind, has_known, CoveragesTake, Knowing, KnowingAll};
+ghost use Rattle.mu_knowledge.specs.FilledLog.{filled_spot};
 ghost use Rattle.mu_placing.specs.LandedPuts.{StandsForLandedPuts};
 
 use crate::landed_puts::LandedPuts;
@@ -77,11 +77,9 @@ fn spot_filled(
     landings: &LandedPuts,
     event: &Event,
 ) -> Option<u16>
-    ensures { (c : Config) → (mine : List Event) → IsConfig c → IsPossible c r (event.now ∷ mine)
-        → known_before.now ≡ known c r mine → known_after.now ≡ known c r (event.now ∷ mine)
-        → StandsForLandedPuts c r (event.now ∷ mine) landings.now
-        → result
-        ≡ filled_spot c r p mine event.now.by event.now.verb event.now.answer (event.now ∷ mine) }
+    ensures { Knowing r event.now known_before.now known_after.now landings.now
+        (λ c mine. result
+        ≡ filled_spot c r p mine event.now.by event.now.verb event.now.answer (event.now ∷ mine)) }
 {
     match (event.verb, event.answer) {
         (Verb::PutSlot(q, i, b, v), Answer::Done) => {
@@ -101,9 +99,7 @@ fn spot_filled(
 /// put there was of this value: as long as the position isn't known all puts are alike, and later
 /// ones are of the known value.
 fn has_put_known(p: u8, at: u64, values: &[u16], landings: &LandedPuts) -> bool
-    ensures { (c : Config) → (r : ℕ) → (mine : List Event) → IsConfig c → IsPossible c r mine
-        → values.now ≡ known c r mine → StandsForLandedPuts c r mine landings.now
-        → result ≡ has_known c r p mine at }
+    ensures { KnowingAll values.now landings.now (λ c r mine. result ≡ has_known c r p mine at) }
 {
     match u16::try_from(at) {
         Err(_) => false,
@@ -116,9 +112,8 @@ fn has_put_known(p: u8, at: u64, values: &[u16], landings: &LandedPuts) -> bool
 
 /// The first position from this one on whose known value wasn't put at `p` in the leadership.
 fn first_behind(p: u8, from: u64, values: &[u16], landings: &LandedPuts) -> u64
-    ensures { (c : Config) → (r : ℕ) → (mine : List Event) → IsConfig c → IsPossible c r mine
-        → values.now ≡ known c r mine → StandsForLandedPuts c r mine landings.now
-        → IsFirstBehind c r p mine from result }
+    ensures { KnowingAll values.now landings.now
+        (λ c r mine. IsFirstBehind c r p mine from result) }
 {
     let len = values.len() as u64;
     for at in from..len {
@@ -170,11 +165,9 @@ impl Coverage {
         landings: &LandedPuts,
         event: &Event,
     )
-        ensures { (c : Config) → (p : ℕ) → (mine : List Event) → IsConfig c
-            → IsPossible c r (event.now ∷ mine) → known_before.now ≡ known c r mine
-            → known_after.now ≡ known c r (event.now ∷ mine)
-            → StandsForLandedPuts c r (event.now ∷ mine) landings.now
-            → HoldsCoverage c r p mine self.old → HoldsCoverage c r p (event.now ∷ mine) self.new }
+        ensures { Knowing r event.now known_before.now known_after.now landings.now
+            (λ c mine. (p : ℕ) → HoldsCoverage c r p mine self.old
+            → HoldsCoverage c r p (event.now ∷ mine) self.new) }
     {
         let p = self.id;
         let read = fuo_in(r, p, event);
@@ -218,10 +211,8 @@ fn take_at_each(
     landings: &LandedPuts,
     event: &Event,
 )
-    ensures { (c : Config) → (mine : List Event) → IsConfig c → IsPossible c r (event.now ∷ mine)
-        → known_before.now ≡ known c r mine → known_after.now ≡ known c r (event.now ∷ mine)
-        → StandsForLandedPuts c r (event.now ∷ mine) landings.now
-        → HoldsCoverages c r mine regions.old → HoldsCoverages c r (event.now ∷ mine) regions.new }
+    ensures { Knowing r event.now known_before.now known_after.now landings.now
+        (CoveragesTake r event.now regions.old regions.new) }
 {
     for region in regions.iter_mut() {
         region.take(r, known_before, known_after, landings, event);
@@ -254,12 +245,10 @@ fn take_at(
     landings: &LandedPuts,
     event: &Event,
 )
-    ensures { (c : Config) → (mine : List Event) → IsConfig c → IsPossible c r (event.now ∷ mine)
-        → known_before.now ≡ known c r mine → known_after.now ≡ known c r (event.now ∷ mine)
-        → StandsForLandedPuts c r (event.now ∷ mine) landings.now
-        → length (known c r mine) ≡ length (known c r (event.now ∷ mine))
+    ensures { Knowing r event.now known_before.now known_after.now landings.now
+        (λ c mine. length (known c r mine) ≡ length (known c r (event.now ∷ mine))
         → region_of_step event.now.verb ≡ Some p
-        → HoldsCoverages c r mine regions.old → HoldsCoverages c r (event.now ∷ mine) regions.new }
+        → CoveragesTake r event.now regions.old regions.new c mine) }
 {
     let at = usize::from(p);
     if at < regions.len() {
@@ -277,10 +266,8 @@ fn take_at_regions(
     landings: &LandedPuts,
     event: &Event,
 )
-    ensures { (c : Config) → (mine : List Event) → IsConfig c → IsPossible c r (event.now ∷ mine)
-        → known_before.now ≡ known c r mine → known_after.now ≡ known c r (event.now ∷ mine)
-        → StandsForLandedPuts c r (event.now ∷ mine) landings.now
-        → HoldsCoverages c r mine regions.old → HoldsCoverages c r (event.now ∷ mine) regions.new }
+    ensures { Knowing r event.now known_before.now known_after.now landings.now
+        (CoveragesTake r event.now regions.old regions.new) }
 {
     match region_alone(known_before, known_after, event) {
         Some(p) => take_at(regions, p, r, known_before, known_after, landings, event),
@@ -315,12 +302,9 @@ impl FilledLogs {
         landings: &LandedPuts,
         event: &Event,
     )
-        ensures { (c : Config) → (mine : List Event) → IsConfig c
-            → IsPossible c r (event.now ∷ mine)
-            → known_before.now ≡ known c r mine → known_after.now ≡ known c r (event.now ∷ mine)
-            → StandsForLandedPuts c r (event.now ∷ mine) landings.now
-            → StandsForFilledLogs c r mine self.old
-            → StandsForFilledLogs c r (event.now ∷ mine) self.new }
+        ensures { Knowing r event.now known_before.now known_after.now landings.now
+            (λ c mine. StandsForFilledLogs c r mine self.old
+            → StandsForFilledLogs c r (event.now ∷ mine) self.new) }
     {
         if !is_leader_verb(&event.verb) {
             return;
@@ -333,17 +317,6 @@ impl FilledLogs {
             landings,
             event,
         );
-    }
-
-    /// The position of `p` below which all are known to be filled.
-    pub fn filled_to(&self, p: u8) -> u64
-        ensures { (c : Config) → (r : ℕ) → (mine : List Event) → p < 7
-            → StandsForFilledLogs c r mine self.now → IsFilledTo c r p mine result }
-    {
-        match self.regions.get(usize::from(p)) {
-            None => 0,
-            Some(region) => region.log.filled_to(),
-        }
     }
 
     /// Whether all positions of `p` below `u` are known to be filled.

@@ -4,8 +4,7 @@ ghost use Rattle.mu_model.specs.declared.config.Config.{Config};
 ghost use Rattle.mu_model.specs.declared.event.Event.{Event};
 ghost use Rattle.mu_model.specs.Room.{is_mark_candidate, lacks_room, last_head};
 ghost use Rattle.mu_model.specs.Scores.{score};
-ghost use Rattle.mu_detect.specs.Stands.{StandsFor};
-ghost use Rattle.mu_placing.specs.Heads.{StandsForHeads, HoldsPeer, HoldsPeers, StandsForStuck, tells_of_heads, tells_of_peers};
+ghost use Rattle.mu_placing.specs.Heads.{StandsForHeads, HoldsPeer, StandsForStuck, tells_of_heads, tells_of_peers, PeersTake, TellsOfHead};
 
 use mu_detect::Scores;
 use mu_model::{Answer, Config, Event, Verb};
@@ -54,7 +53,7 @@ fn head_after(held: u64, r: u8, q: u8, event: &Event) -> u64
         → result ≡ last_head r q (event.now ∷ mine) }
 {
     match (event.verb, event.answer) {
-        (Verb::Head(p), Answer::Number(x)) => { if event.by == r && p == q { x } else { held } }
+        (Verb::Head(p), Answer::Number(x)) if event.by == r && p == q => x,
         _ => held,
     }
 }
@@ -78,13 +77,9 @@ fn stuck_after(held: Option<u64>, alive: bool, r: u8, q: u8, event: &Event) -> O
         → StandsForStuck c r q mine held → StandsForStuck c r q (event.now ∷ mine) result }
 {
     match (event.verb, event.answer) {
-        (Verb::Ask(p), _) => { if event.by == r && p == 0 { None } else { held } }
-        (Verb::Head(p), Answer::Number(x)) => {
-            if event.by == r && p == q && !alive {
-                Some(least_head(held, x))
-            } else {
-                held
-            }
+        (Verb::Ask(p), _) if event.by == r && p == 0 => None,
+        (Verb::Head(p), Answer::Number(x)) if event.by == r && p == q && !alive => {
+            Some(least_head(held, x))
         }
         _ => held,
     }
@@ -124,8 +119,7 @@ fn is_short(head: Option<u64>, ring: u16, limit: u64) -> bool
 
 /// Takes the event at each peer: the scores are those before it.
 fn take_at_peers(peers: &mut [Peer; 7], scores: &Scores, r: u8, event: &Event)
-    ensures { (c : Config) → (mine : List Event) → StandsFor c.replicas r mine scores.now
-        → HoldsPeers c r mine peers.old → HoldsPeers c r (event.now ∷ mine) peers.new }
+    ensures { PeersTake r scores.now event.now peers.old peers.new }
 {
     for q in 0..7u8 {
         let at = usize::from(q);
@@ -136,8 +130,7 @@ fn take_at_peers(peers: &mut [Peer; 7], scores: &Scores, r: u8, event: &Event)
 /// Takes the event at the peers, if it bears on one: most events read a count of beats.
 #[inline(always)]
 fn take_heads(peers: &mut [Peer; 7], scores: &Scores, r: u8, event: &Event)
-    ensures { (c : Config) → (mine : List Event) → StandsFor c.replicas r mine scores.now
-        → HoldsPeers c r mine peers.old → HoldsPeers c r (event.now ∷ mine) peers.new }
+    ensures { PeersTake r scores.now event.now peers.old peers.new }
 {
     if tells_of_heads(&event.verb) {
         take_at_peers(peers, scores, r, event);
@@ -187,9 +180,8 @@ impl Heads {
     /// Whether the head of `q` that was read last leaves room for the position `i` and for `free`
     /// more in a log of `ring` slots.
     pub fn leaves_room(&self, q: u8, ring: u16, i: u16, free: u8) -> bool
-        ensures { (c : Config) → (r : ℕ) → (mine : List Event) → q < c.replicas → ring ≡ c.ring
-            → StandsForHeads c r mine self.now
-            → result ≡ nat_lt (i + free) (last_head r q mine + c.ring) }
+        ensures { TellsOfHead self.now
+            (λ c r mine. nat_lt (i + free) (last_head r q mine + c.ring)) q ring result }
     {
         match self.peers.get(usize::from(q)) {
             Some(peer) => peer.leaves_room(ring, i, free),
@@ -200,8 +192,8 @@ impl Heads {
     /// Whether in the leadership under way a head of `q` was read that leaves no room up to the
     /// limit in a log of `ring` slots, and `q` was failed then.
     pub fn is_candidate(&self, q: u8, ring: u16, limit: u64) -> bool
-        ensures { (c : Config) → (r : ℕ) → (mine : List Event) → q < c.replicas → ring ≡ c.ring
-            → StandsForHeads c r mine self.now → result ≡ is_mark_candidate c r q limit mine }
+        ensures { TellsOfHead self.now
+            (λ c r mine. is_mark_candidate c r q limit mine) q ring result }
     {
         match self.peers.get(usize::from(q)) {
             Some(peer) => is_short(peer.stuck, ring, limit),

@@ -1,19 +1,19 @@
 //! What a replica has looked at and put, as far as it decides what it may put next.
-ghost use Rattle.std.specs.Prelude.{IfOk, List, None, Some, [], if◌then◌else◌, is_some, length, nat_lt, not, vec_capacity, ◌&&◌, ◌+◌, ◌<◌, ◌||◌, ◌∷◌, ◌≡◌, ◌≤◌, ℕ};
+ghost use Rattle.std.specs.Prelude.{IfOk, List, None, Some, [], if◌then◌else◌, is_some, length, nat_lt, vec_capacity, ◌&&◌, ◌+◌, ◌<◌, ◌||◌, ◌∷◌, ◌≡◌, ◌≤◌, ℕ};
 ghost use Rattle.mu_model.specs.declared.config.Config.{Config};
 ghost use Rattle.mu_model.specs.declared.event.Event.{Event};
 ghost use Rattle.mu_model.specs.declared.event.Target.{Target as SomeTarget};
 ghost use Rattle.mu_model.specs.Contents.{IsConfig, row_count};
 ghost use Rattle.mu_model.specs.Entering.{last_opened};
-ghost use Rattle.mu_model.specs.Histories.{all_below, has};
-ghost use Rattle.mu_model.specs.Leaderships.{is_member, leadership};
+ghost use Rattle.mu_model.specs.Histories.{has};
+ghost use Rattle.mu_model.specs.Leaderships.{is_member};
 ghost use Rattle.mu_model.specs.Parts.{IsPossible};
-ghost use Rattle.mu_model.specs.Picks.{entry_of, first_value, highest_accepted, is_joining, is_past_look, joined_since_first_put, larger, last_look, look_answer};
+ghost use Rattle.mu_model.specs.Picks.{entry_of, first_value, highest_accepted, is_joining, joined_since_first_put, larger, last_look};
 ghost use Rattle.mu_model.specs.Placing.{fuo_read_or_raised, is_within_ring, looked_before_entering, reaches_head};
 ghost use Rattle.mu_model.specs.Room.{reserve};
 ghost use Rattle.mu_leadership.specs.Leadership.{StandsForLeadership};
 ghost use Rattle.mu_placing.specs.Naming.{region_of_step};
-ghost use Rattle.mu_placing.specs.Looks.{HoldsEachRegion, HoldsFirst, HoldsFirsts, HoldsOwnReach, StandsForLooks, begun_time, joining_time};
+ghost use Rattle.mu_placing.specs.Looks.{HoldsFirst, HoldsFirsts, HoldsOwnReach, StandsForLooks, begun_time, joining_time, AddsAt, RegionsTake, TellsAt, TellsBeside, TellsOf, entry_shown, has_fuo_near, has_seen_past, is_clear, is_looked_at};
 
 use crate::naming::region_of_step;
 use crate::region_looks::{RegionLooks, farther};
@@ -53,8 +53,7 @@ pub struct Looks {
 
 /// The time when the leadership began, after the event.
 fn begun_after(held: u32, r: u8, now: u32, event: &Event) -> u32
-    ensures { (mine : List Event) → now ≡ length mine + 1 → held ≡ begun_time r mine
-        → result ≡ begun_time r (event.now ∷ mine) }
+    ensures { AddsAt now (begun_time r) event.now held result }
 {
     if begins(r, event) { now } else { held }
 }
@@ -88,20 +87,8 @@ fn own_reach_after(held: Option<u64>, r: u8, event: &Event) -> Option<u64>
         → HoldsOwnReach r (event.now ∷ mine) result }
 {
     match (event.verb, event.answer) {
-        (Verb::Fuo(q), Answer::Number(x)) => {
-            if event.by == r && q == r {
-                farther(held, x)
-            } else {
-                held
-            }
-        }
-        (Verb::RaiseFuo(q, u), _) => {
-            if event.by == r && q == r {
-                farther(held, u64::from(u))
-            } else {
-                held
-            }
-        }
+        (Verb::Fuo(q), Answer::Number(x)) if event.by == r && q == r => farther(held, x),
+        (Verb::RaiseFuo(q, u), _) if event.by == r && q == r => farther(held, u64::from(u)),
         _ => held,
     }
 }
@@ -134,9 +121,7 @@ fn note_first(firsts: &mut [First], begun_at: u32, r: u8, now: u32, event: &Even
 
 /// Takes the event at each region.
 fn take_at_each(regions: &mut [RegionLooks], r: u8, now: u32, event: &Event)
-    ensures { (c : Config) → (mine : List Event) → 0 < c.ring → now ≡ length mine + 1
-        → HoldsEachRegion c r mine regions.old
-        → HoldsEachRegion c r (event.now ∷ mine) regions.new }
+    ensures { RegionsTake r now event.now regions.old regions.new }
 {
     for looks in regions.iter_mut() {
         looks.take(r, now, event);
@@ -146,9 +131,8 @@ fn take_at_each(regions: &mut [RegionLooks], r: u8, now: u32, event: &Event)
 /// Takes the event at the region `p` that it names.
 #[inline(always)]
 fn take_at(regions: &mut [RegionLooks], p: u8, r: u8, now: u32, event: &Event)
-    ensures { (c : Config) → (mine : List Event) → 0 < c.ring → now ≡ length mine + 1
-        → region_of_step event.now.verb ≡ Some p → HoldsEachRegion c r mine regions.old
-        → HoldsEachRegion c r (event.now ∷ mine) regions.new }
+    ensures { region_of_step event.now.verb ≡ Some p
+        → RegionsTake r now event.now regions.old regions.new }
 {
     let at = usize::from(p);
     if at < regions.len() {
@@ -159,9 +143,7 @@ fn take_at(regions: &mut [RegionLooks], p: u8, r: u8, now: u32, event: &Event)
 /// Takes the event at the regions that it bears on.
 #[inline(always)]
 fn take_at_regions(regions: &mut [RegionLooks], r: u8, now: u32, event: &Event)
-    ensures { (c : Config) → (mine : List Event) → 0 < c.ring → now ≡ length mine + 1
-        → HoldsEachRegion c r mine regions.old
-        → HoldsEachRegion c r (event.now ∷ mine) regions.new }
+    ensures { RegionsTake r now event.now regions.old regions.new }
 {
     match region_of_step(&event.verb) {
         Some(p) => take_at(regions, p, r, now, event),
@@ -260,9 +242,7 @@ impl Looks {
     pub fn is_within_ring(&self, p: u8, ring: u16, i: u16) -> bool
         ensures { (c : Config) → (r : ℕ) → (mine : List Event) → p < 7
             → StandsForLooks c r mine self.now
-            → result
-            ≡ has (λ e. is_within_ring i ring (fuo_read_or_raised r p e.by e.verb e.answer))
-            (leadership r mine) }
+            → result ≡ has_fuo_near r p ring i mine }
     {
         match self.regions.get(usize::from(p)) {
             Some(looks) => looks.is_within_ring(ring, i),
@@ -295,8 +275,7 @@ impl Looks {
 
     /// What the last look at position `i` of `p` saw since a region joined last.
     pub fn last_look(&self, p: u8, i: u16) -> Option<Answer>
-        ensures { (c : Config) → (r : ℕ) → (mine : List Event) → p < 7 → i ≤ row_count c + reserve c
-            → StandsForLooks c r mine self.now → result ≡ last_look r p i mine }
+        ensures { TellsOf self.now last_look p i result }
     {
         match self.regions.get(usize::from(p)) {
             Some(looks) => looks.last_look(self.joined_at, i),
@@ -306,10 +285,7 @@ impl Looks {
 
     /// Whether a look at position `i` of `p` saw `Past` in the leadership.
     fn has_seen_past(&self, p: u8, i: u16) -> bool
-        ensures { (c : Config) → (r : ℕ) → (mine : List Event) → p < 7 → i ≤ row_count c + reserve c
-            → StandsForLooks c r mine self.now
-            → result
-            ≡ has (λ e. is_past_look (look_answer r p i e.by e.verb e.answer)) (leadership r mine) }
+        ensures { TellsOf self.now has_seen_past p i result }
     {
         match self.regions.get(usize::from(p)) {
             Some(looks) => looks.has_seen_past(self.begun_at, i),
@@ -331,8 +307,7 @@ impl Looks {
 
     /// The value of the first put at position `i` in the leadership.
     pub fn first_value(&self, i: u16) -> Option<u16>
-        ensures { (c : Config) → (r : ℕ) → (mine : List Event) → i ≤ row_count c + reserve c
-            → StandsForLooks c r mine self.now → result ≡ first_value r i mine }
+        ensures { TellsAt self.now first_value i result }
     {
         let first = self.first(i);
         if self.begun_at < first.put_at {
@@ -344,8 +319,7 @@ impl Looks {
 
     /// Whether a region joined since the first put at position `i` in the leadership.
     pub fn joined_since(&self, i: u16) -> bool
-        ensures { (c : Config) → (r : ℕ) → (mine : List Event) → i ≤ row_count c + reserve c
-            → StandsForLooks c r mine self.now → result ≡ joined_since_first_put r i mine }
+        ensures { TellsAt self.now joined_since_first_put i result }
     {
         let first = self.first(i);
         self.begun_at < first.put_at && first.put_at < self.joined_at
@@ -353,13 +327,7 @@ impl Looks {
 
     /// Whether `p` is no member, or no look at position `i` there saw `Past` in the leadership.
     pub fn is_clear(&self, p: u8, leading: &Leadership, i: u16) -> bool
-        ensures { (c : Config) → (r : ℕ) → (mine : List Event) → p < 7 → i ≤ row_count c + reserve c
-            → StandsForLeadership r mine leading.now → StandsForLooks c r mine self.now
-            → result
-            ≡ not
-            (is_member r p mine
-            && has (λ e. is_past_look (look_answer r p i e.by e.verb e.answer))
-            (leadership r mine)) }
+        ensures { TellsBeside leading.now self.now is_clear p i result }
     {
         if leading.is_member(p) {
             !self.has_seen_past(p, i)
@@ -368,56 +336,16 @@ impl Looks {
         }
     }
 
-    /// Whether no look at position `i` of a member below `n` saw `Past` in the leadership.
-    pub fn none_past(&self, n: u8, leading: &Leadership, i: u16) -> bool
-        ensures { (c : Config) → (r : ℕ) → (mine : List Event) → n ≤ 7 → i ≤ row_count c + reserve c
-            → StandsForLeadership r mine leading.now → StandsForLooks c r mine self.now
-            → result
-            ≡ all_below n
-            (λ p. not
-            (is_member r p mine
-            && has (λ e. is_past_look (look_answer r p i e.by e.verb e.answer))
-            (leadership r mine))) }
-    {
-        let mut none = true;
-        for p in 0..n {
-            if !self.is_clear(p, leading, i) {
-                none = false;
-            }
-        }
-        none
-    }
-
     /// Whether `p` is no member, or was looked at in position `i` since a region joined last.
-    fn is_looked_at(&self, p: u8, leading: &Leadership, i: u16) -> bool
-        ensures { (c : Config) → (r : ℕ) → (mine : List Event) → p < 7 → i ≤ row_count c + reserve c
-            → StandsForLeadership r mine leading.now → StandsForLooks c r mine self.now
-            → result ≡ (not (is_member r p mine) || is_some (last_look r p i mine)) }
+    pub fn is_looked_at(&self, p: u8, leading: &Leadership, i: u16) -> bool
+        ensures { TellsBeside leading.now self.now is_looked_at p i result }
     {
         !leading.is_member(p) || self.last_look(p, i).is_some()
     }
 
-    /// Whether each member below `n` was looked at in position `i` since a region joined last.
-    pub fn have_looked(&self, n: u8, leading: &Leadership, i: u16) -> bool
-        ensures { (c : Config) → (r : ℕ) → (mine : List Event) → n ≤ 7 → i ≤ row_count c + reserve c
-            → StandsForLeadership r mine leading.now → StandsForLooks c r mine self.now
-            → result ≡ all_below n
-            (λ p. not (is_member r p mine) || is_some (last_look r p i mine)) }
-    {
-        let mut all = true;
-        for p in 0..n {
-            if !self.is_looked_at(p, leading, i) {
-                all = false;
-            }
-        }
-        all
-    }
-
     /// What the last look at position `i` of `p` showed, if `p` is a member.
     fn entry_shown(&self, p: u8, leading: &Leadership, i: u16) -> Option<(u32, u16)>
-        ensures { (c : Config) → (r : ℕ) → (mine : List Event) → p < 7 → i ≤ row_count c + reserve c
-            → StandsForLeadership r mine leading.now → StandsForLooks c r mine self.now
-            → result ≡ (if is_member r p mine then entry_of (last_look r p i mine) else None) }
+        ensures { TellsBeside leading.now self.now entry_shown p i result }
     {
         if leading.is_member(p) {
             entry_in(self.last_look(p, i))

@@ -6,12 +6,10 @@ ghost use Rattle.mu_model.specs.declared.event.Target.{Target as SomeTarget};
 ghost use Rattle.mu_model.specs.declared.event.Verb.{Verb as SomeVerb};
 ghost use Rattle.mu_model.specs.Contents.{row_count};
 ghost use Rattle.mu_model.specs.Entering.{last_opened};
-ghost use Rattle.mu_model.specs.Histories.{has};
-ghost use Rattle.mu_model.specs.Leaderships.{leadership};
-ghost use Rattle.mu_model.specs.Picks.{is_past, is_past_look, last_look, look_answer};
-ghost use Rattle.mu_model.specs.Placing.{fuo_read_or_raised, is_within_ring, looked_before_entering, reaches_head, has_looked_since};
+ghost use Rattle.mu_model.specs.Picks.{is_past, last_look};
+ghost use Rattle.mu_model.specs.Placing.{is_within_ring, looked_before_entering, reaches_head, has_looked_since};
 ghost use Rattle.mu_model.specs.Room.{reserve};
-ghost use Rattle.mu_placing.specs.Looks.{HoldsEachLook, HoldsLook, StandsForRegionLooks, HoldsPuts, HoldsReach, begun_time, enter_time, is_at, is_good_since, joining_time, member_time, put_time};
+ghost use Rattle.mu_placing.specs.Looks.{HoldsEachLook, HoldsLook, StandsForRegionLooks, HoldsPuts, HoldsReach, begun_time, enter_time, is_at, is_good_since, joining_time, member_time, put_time, AddsAt, RegionTakes, has_fuo_near, has_seen_past};
 
 use mu_model::{Answer, Config, Event, NoMemory, Verb, positions_in};
 use std::alloc::Global;
@@ -84,50 +82,30 @@ fn reach_after(held: Option<u64>, r: u8, p: u8, event: &Event) -> Option<u64>
         → HoldsReach r p (event.now ∷ mine) result }
 {
     match (event.verb, event.answer) {
-        (Verb::Ask(q), _) => { if event.by == r && q == 0 { None } else { held } }
-        (Verb::Fuo(q), Answer::Number(x)) => {
-            if event.by == r && q == p {
-                farther(held, x)
-            } else {
-                held
-            }
-        }
-        (Verb::RaiseFuo(q, u), _) => {
-            if event.by == r && q == p {
-                farther(held, u64::from(u))
-            } else {
-                held
-            }
-        }
+        (Verb::Ask(q), _) if event.by == r && q == 0 => None,
+        (Verb::Fuo(q), Answer::Number(x)) if event.by == r && q == p => farther(held, x),
+        (Verb::RaiseFuo(q, u), _) if event.by == r && q == p => farther(held, u64::from(u)),
         _ => held,
     }
 }
 
 /// The time when `p` became a member, after the event.
 fn member_since_after(held: Option<u32>, r: u8, p: u8, now: u32, event: &Event) -> Option<u32>
-    ensures { (mine : List Event) → now ≡ length mine + 1 → held ≡ member_time r p mine
-        → result ≡ member_time r p (event.now ∷ mine) }
+    ensures { AddsAt now (member_time r p) event.now held result }
 {
     match (event.verb, event.answer) {
-        (Verb::Ask(q), _) => { if event.by == r && q == 0 { None } else { held } }
-        (Verb::PutMin(q, _), Answer::Done) => {
-            if event.by == r && q == p {
-                held.or(Some(now))
-            } else {
-                held
-            }
-        }
+        (Verb::Ask(q), _) if event.by == r && q == 0 => None,
+        (Verb::PutMin(q, _), Answer::Done) if event.by == r && q == p => held.or(Some(now)),
         _ => held,
     }
 }
 
 /// The time of the last `Enter` at `p`, after the event.
 fn entered_after(held: u32, r: u8, p: u8, now: u32, event: &Event) -> u32
-    ensures { (mine : List Event) → now ≡ length mine + 1 → held ≡ enter_time r p mine
-        → result ≡ enter_time r p (event.now ∷ mine) }
+    ensures { AddsAt now (enter_time r p) event.now held result }
 {
     match event.verb {
-        Verb::Enter(q, _) => { if event.by == r && q == p { now } else { held } }
+        Verb::Enter(q, _) if event.by == r && q == p => now,
         _ => held,
     }
 }
@@ -317,9 +295,7 @@ impl RegionLooks {
     /// Takes the next event of `r`, at the time `now`. Takes no memory.
     #[inline(always)]
     pub fn take(&mut self, r: u8, now: u32, event: &Event)
-        ensures { (c : Config) → (p : ℕ) → (mine : List Event) → 0 < c.ring → now ≡ length mine + 1
-            → StandsForRegionLooks c r p mine self.old
-            → StandsForRegionLooks c r p (event.now ∷ mine) self.new }
+        ensures { RegionTakes r now event.now self.old self.new }
     {
         if !is_at(self.region, &event.verb) {
             return;
@@ -330,9 +306,7 @@ impl RegionLooks {
     /// Takes an event that may change it.
     #[inline(never)]
     fn take_here(&mut self, r: u8, now: u32, event: &Event)
-        ensures { (c : Config) → (p : ℕ) → (mine : List Event) → 0 < c.ring → now ≡ length mine + 1
-            → StandsForRegionLooks c r p mine self.old
-            → StandsForRegionLooks c r p (event.now ∷ mine) self.new }
+        ensures { RegionTakes r now event.now self.old self.new }
     {
         let p = self.region;
         let is_good = self.has_looked_before(event);
@@ -347,9 +321,7 @@ impl RegionLooks {
     pub fn is_within_ring(&self, ring: u16, i: u16) -> bool
         ensures { (c : Config) → (r p : ℕ) → (mine : List Event)
             → StandsForRegionLooks c r p mine self.now
-            → result
-            ≡ has (λ e. is_within_ring i ring (fuo_read_or_raised r p e.by e.verb e.answer))
-            (leadership r mine) }
+            → result ≡ has_fuo_near r p ring i mine }
     {
         reaches(self.reach, ring, i)
     }
@@ -358,8 +330,7 @@ impl RegionLooks {
     pub fn has_seen_past(&self, begun_at: u32, i: u16) -> bool
         ensures { (c : Config) → (r p : ℕ) → (mine : List Event) → begun_at ≡ begun_time r mine
             → i ≤ row_count c + reserve c → StandsForRegionLooks c r p mine self.now
-            → result
-            ≡ has (λ e. is_past_look (look_answer r p i e.by e.verb e.answer)) (leadership r mine) }
+            → result ≡ has_seen_past r p i mine }
     {
         begun_at < self.look(i).past_at
     }

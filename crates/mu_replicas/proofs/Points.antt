@@ -6,12 +6,13 @@ use Rattle.std.specs.declared.option.Option.{Option}
 use Rattle.std.proofs.lemmas.Bool.{and_parts, eq-eqb, eqb-true, eqb-false, false≢true, le-leb, leb-true, lt-ltb, ltb-true, ne_eqb, not-true, not_from_false}
 use Rattle.mu_model.specs.declared.config.Config.{Config}
 use Rattle.mu_model.specs.declared.event.Event.{Event}
+use Rattle.mu_model.specs.declared.event.Verb.{Verb}
 use Rattle.mu_model.specs.Entering.{any_min_read}
 use Rattle.mu_model.specs.Histories.{all_below, greatest}
 use Rattle.mu_model.specs.Leaderships.{leadership, number_put, proposal_number}
 use Rattle.mu_model.specs.Serving.{has_unserved_ask, is_least_waiting}
 use Rattle.mu_model.specs.declared.reason.Reason.{Reason}
-use Rattle.mu_model.specs.Points.{AreMet, IsMet, each_below, first_below, greatest_used, right_number}
+use Rattle.mu_model.specs.Points.{AreMet, IsMet, bounds, each_below, first_below, greatest_used, points, right_number}
 use Rattle.mu_model.specs.Reasons.{Finds}
 use Rattle.mu_model.proofs.AllMet.{met_append, met_front, met_rest}
 use Rattle.mu_model.proofs.Reasons.{found_on}
@@ -92,11 +93,21 @@ none_met c r past reasons (Some q) false is finds = (
   λ m. absurd (finds.fails (met_rest c r past finds.before (q ∷ finds.after) (subst (AreMet c r past) finds.order m)).0),
 )
 
+-- a verb's points are met if a search over them that began with nothing finds none
+pub met_by : (c : Config) (r : ℕ) (past : List Event) (verb of : Verb) (fresh found : Option Reason) (none : Bool) → fresh ≡ None → verb ≡ of → (Finds c r past (bounds r past) fresh → Finds c r past (points c r past of) found)
+    → ((reasons : List Reason) → Finds c r past reasons found → (IsTrue none ↔ AreMet c r past reasons)) → AreMet c r past (bounds r past) → (IsTrue none ↔ AreMet c r past (points c r past verb))
+met_by c r past verb of fresh found none new is search tells met =
+    subst (λ v. (IsTrue none ↔ AreMet c r past (points c r past v))) (sym is) (tells (points c r past of) (search (subst (λ f. Finds c r past (bounds r past) f) (sym new) met)))
+
 -- a list of points of numbers, with those of one number more
 pub one_more : (c : Config) (r : ℕ) (past : List Event) (xs : List Reason) (n : ℕ) (of_each : ℕ → List Reason) (found : Option Reason) → Finds c r past ((xs ++ each_below n of_each) ++ of_each n) found → Finds c r past (xs ++ each_below (n + 1) of_each) found
 one_more c r past xs n of_each found finds =
     let next : suc n ≡ n + 1 = omega arith in
     subst (λ k. Finds c r past (xs ++ each_below k of_each) found) next (apart c r past xs (each_below n of_each) (of_each n) found finds)
+
+-- a list of points of as many numbers
+pub all_of : (c : Config) (r : ℕ) (past : List Event) (xs : List Reason) (n m : ℕ) (of_each : ℕ → List Reason) (found : Option Reason) → n ≡ m → Finds c r past (xs ++ each_below n of_each) found → Finds c r past (xs ++ each_below m of_each) found
+all_of c r past xs n m of_each found same finds = subst (λ k. Finds c r past (xs ++ each_below k of_each) found) same finds
 
 -- further points that are met
 pub more_met : (c : Config) (r : ℕ) (past : List Event) (xs more : List Reason) (found : Option Reason) → AreMet c r past more → Finds c r past xs found → Finds c r past (xs ++ more) found

@@ -1,11 +1,14 @@
--- stands for (replicas): the running state of a replica holds what its events make of it: grants,
--- leadership, heads with the scores, known log, rows, puts, filled logs and looks; and the same of
--- every replica of a history.
-use Rattle.std.specs.Prelude.{List, Some, length, ℕ, ◌≡◌}
+-- stands for, tells (replicas): the running state of a replica holds what its events make of it:
+-- grants, leadership, heads with the scores, known log, rows, puts, filled logs and looks, and tells
+-- it; and the same of every replica of a history.
+use Rattle.std.specs.Prelude.{Bool, List, Some, length, not, ℕ, ◌&&◌, ◌<◌, ◌==◌, ◌≡◌}
 use Rattle.std.specs.List.{slice_get}
 use Rattle.mu_model.specs.declared.config.Config.{Config}
 use Rattle.mu_model.specs.declared.event.Event.{Event}
+use Rattle.mu_model.specs.Contents.{is_mark, marked}
 use Rattle.mu_model.specs.Histories.{part}
+use Rattle.mu_model.specs.Knowledge.{known}
+use Rattle.mu_model.specs.Room.{is_mark_candidate}
 use Rattle.mu_replicas.specs.declared.replica.Replica.{Replica}
 use Rattle.mu_replicas.specs.declared.replicas.Replicas.{Replicas}
 use Rattle.mu_grant.specs.Stands.{StandsFor}
@@ -37,3 +40,21 @@ pub record StandsForReplicas (c : Config) (past : List Event) (states : Replicas
   pub each :
       (r : ℕ) (state : Replica) → slice_get states.replicas.items r ≡ Some state
       → StandsForReplica c r (part r past) state
+
+-- what a state tells: of the events of r that it stands for
+abbrev pub Tells : {A : Type 0} → Config → Replica → (ℕ → List Event → A) → A → Type 0
+Tells c state of answer =
+    (r : ℕ) → (mine : List Event) → StandsForReplica c r mine state → answer ≡ of r mine
+
+-- what it tells of the replica q
+abbrev pub TellsOf : {A : Type 0} → Config → Replica → ℕ → (ℕ → List Event → A) → A → Type 0
+TellsOf c state q of answer =
+    (r : ℕ) → (mine : List Event) → q < c.replicas → StandsForReplica c r mine state
+    → answer ≡ of r mine
+
+-- v is the mark of q, which r may mark
+abbrev pub may_mark : Config → ℕ → ℕ → ℕ → ℕ → List Event → Bool
+may_mark c q v limit r mine =
+    is_mark c q v
+    && (not (q == r)
+    && (not (marked c q (known c r mine)) && is_mark_candidate c r q limit mine))

@@ -4,8 +4,9 @@ ghost use Rattle.mu_model.specs.declared.event.Event.{Event};
 ghost use Rattle.mu_model.specs.declared.event.Verb.{Verb as SomeVerb};
 ghost use Rattle.mu_model.specs.Contents.{IsConfig};
 ghost use Rattle.mu_model.specs.Parts.{IsPossible};
-ghost use Rattle.mu_model.specs.Points.{AreMet, bounds, points};
+ghost use Rattle.mu_model.specs.Points.{AreMet, points};
 ghost use Rattle.mu_replicas.specs.Stands.{StandsForReplica};
+ghost use Rattle.mu_replicas.specs.Finding.{TellsIfMet};
 
 use crate::found::Found;
 use crate::replica::Replica;
@@ -17,11 +18,7 @@ impl Replica {
     #[inline(never)]
     fn meets_put(&self, config: &Config, p: u8, i: u16, b: u32, v: u16) -> bool
         requires { IsConfig config.now }
-        ensures { (r : ℕ) → (mine : List Event) → IsPossible config.now r mine
-            → StandsForReplica config.now r mine self.now
-            → AreMet config.now r mine (bounds r mine)
-            → (IsTrue result
-            ↔ AreMet config.now r mine (points config.now r mine (SomeVerb.PutSlot p i b v))) }
+        ensures { TellsIfMet config.now self.now (SomeVerb.PutSlot p i b v) result }
     {
         self.why_no_put(config, p, i, b, v, Found::new()).is_none()
     }
@@ -30,10 +27,7 @@ impl Replica {
     #[inline(never)]
     fn meets_any(&self, config: &Config, verb: &Verb) -> bool
         requires { IsConfig config.now }
-        ensures { (r : ℕ) → (mine : List Event) → IsPossible config.now r mine
-            → StandsForReplica config.now r mine self.now
-            → AreMet config.now r mine (bounds r mine)
-            → (IsTrue result ↔ AreMet config.now r mine (points config.now r mine verb.now)) }
+        ensures { TellsIfMet config.now self.now verb.now result }
     {
         self.why_no_verb(config, verb, Found::new()).is_none()
     }
@@ -42,10 +36,7 @@ impl Replica {
     #[inline(always)]
     fn meets_points(&self, config: &Config, verb: &Verb) -> bool
         requires { IsConfig config.now }
-        ensures { (r : ℕ) → (mine : List Event) → IsPossible config.now r mine
-            → StandsForReplica config.now r mine self.now
-            → AreMet config.now r mine (bounds r mine)
-            → (IsTrue result ↔ AreMet config.now r mine (points config.now r mine verb.now)) }
+        ensures { TellsIfMet config.now self.now verb.now result }
     {
         let found = Found::new();
         match *verb {
@@ -57,7 +48,7 @@ impl Replica {
             Verb::WriteRow(j, k, x) => self.why_no_write_row(config, j, k, x, found).is_none(),
             Verb::Head(q) => self.why_no_region(config, q, found).is_none(),
             Verb::Fuo(p) => self.why_no_region(config, p, found).is_none(),
-            Verb::Enter(p, target) => self.why_no_enter_for(config, p, target, found).is_none(),
+            Verb::Enter(p, target) => self.why_no_enter(config, p, target, found).is_none(),
             Verb::RaiseFuo(p, u) => self.why_no_raise_fuo(config, p, u, found).is_none(),
             Verb::RaiseHead(h) => self.why_no_raise_head(config, h, found).is_none(),
             Verb::PutSlot(p, i, b, v) => self.meets_put(config, p, i, b, v),

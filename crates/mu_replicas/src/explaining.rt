@@ -2,7 +2,6 @@
 ghost use Rattle.std.specs.Prelude.{IsTrue, List, None, Some, is_some, ◌||◌, true, ◌+◌, ◌/◌, ◌<◌, ◌≡◌, ◌↔◌, ℕ};
 ghost use Rattle.mu_model.specs.declared.config.Config.{Config};
 ghost use Rattle.mu_model.specs.declared.event.Event.{Event};
-ghost use Rattle.mu_model.specs.declared.event.Target.{Target as SomeTarget};
 ghost use Rattle.mu_model.specs.declared.event.Verb.{Verb as SomeVerb};
 ghost use Rattle.mu_model.specs.Contents.{IsConfig};
 ghost use Rattle.mu_model.specs.Entering.{has_confirmed_majority};
@@ -14,6 +13,7 @@ ghost use Rattle.mu_model.specs.Serving.{drained_since_close, must_drain};
 ghost use Rattle.mu_model.specs.Points.{bounds, last_position, least_number, points, right_number};
 ghost use Rattle.mu_model.specs.Reasons.{Finds};
 ghost use Rattle.mu_replicas.specs.Stands.{StandsForReplica};
+ghost use Rattle.mu_replicas.specs.Finding.{FindsFor, FindsIfPossible};
 
 use crate::found::Found;
 use crate::replica::{Replica, is_position};
@@ -106,115 +106,46 @@ impl Replica {
     #[inline(always)]
     fn why_no_ask(&self, config: &Config, p: u8, found: Found) -> Found
         requires { IsConfig config.now }
-        ensures { (r : ℕ) → (mine : List Event) → StandsForReplica config.now r mine self.now
-            → Finds config.now r mine (bounds r mine) found.reason
-            → Finds config.now r mine (points config.now r mine (SomeVerb.Ask p)) result.reason }
+        ensures { FindsFor config.now self.now (SomeVerb.Ask p) found result }
     {
         let asked = self.leadership.asked();
-        found
-            .needs(p < config.replicas, Reason::NoRegion { region: p })
-            .needs(
-                self.leadership.is_next_to_ask(p),
-                Reason::OutOfTurn { region: p, asked },
-            )
-    }
-
-    /// What a `Fence` needs.
-    #[inline(always)]
-    fn why_no_fence(&self, config: &Config, p: u8, found: Found) -> Found
-        requires { IsConfig config.now }
-        ensures { (r : ℕ) → (mine : List Event) → StandsForReplica config.now r mine self.now
-            → Finds config.now r mine (bounds r mine) found.reason
-            → Finds config.now r mine (points config.now r mine (SomeVerb.Fence p)) result.reason }
-    {
-        found
-            .needs(p < config.replicas, Reason::NoRegion { region: p })
-            .needs(self.leadership.has_begun(), Reason::NotBegun)
+        self.why_no_region(config, p, found).needs(
+            self.leadership.is_next_to_ask(p),
+            Reason::OutOfTurn { region: p, asked },
+        )
     }
 
     /// What a `Min` needs.
     #[inline(always)]
     fn why_no_minimum(&self, config: &Config, p: u8, found: Found) -> Found
         requires { IsConfig config.now }
-        ensures { (r : ℕ) → (mine : List Event) → StandsForReplica config.now r mine self.now
-            → Finds config.now r mine (bounds r mine) found.reason
-            → Finds config.now r mine (points config.now r mine (SomeVerb.Min p)) result.reason }
+        ensures { FindsFor config.now self.now (SomeVerb.Min p) found result }
     {
         let leading = &self.leadership;
-        found
-            .needs(p < config.replicas, Reason::NoRegion { region: p })
+        self.why_no_region(config, p, found)
             .needs(leading.noted(p).is_some(), Reason::NotGranted { region: p })
             .needs(!leading.is_over(), Reason::Over)
-    }
-
-    /// What an `Enter` for nothing needs.
-    #[inline(always)]
-    fn why_no_enter(&self, config: &Config, p: u8, found: Found) -> Found
-        requires { IsConfig config.now }
-        ensures { (r : ℕ) → (mine : List Event) → StandsForReplica config.now r mine self.now
-            → Finds config.now r mine (bounds r mine) found.reason
-            → Finds config.now r mine
-            (points config.now r mine (SomeVerb.Enter p SomeTarget.None)) result.reason }
-    {
-        found
-            .needs(p < config.replicas, Reason::NoRegion { region: p })
-            .needs(false, Reason::NoTarget)
-    }
-
-    /// What an `Enter` for a minimum needs.
-    #[inline(always)]
-    fn why_no_enter_for_minimum(&self, config: &Config, p: u8, found: Found) -> Found
-        requires { IsConfig config.now }
-        ensures { (r : ℕ) → (mine : List Event) → StandsForReplica config.now r mine self.now
-            → Finds config.now r mine (bounds r mine) found.reason
-            → Finds config.now r mine
-            (points config.now r mine (SomeVerb.Enter p SomeTarget.Min)) result.reason }
-    {
-        let leading = &self.leadership;
-        found
-            .needs(p < config.replicas, Reason::NoRegion { region: p })
-            .needs(leading.noted(p).is_some(), Reason::NotGranted { region: p })
-            .needs(!leading.is_over(), Reason::Over)
-            .needs(leading.has_read(p), Reason::MinimumUnread { region: p })
-            .needs(self.is_confirmed(config), Reason::Unconfirmed)
-    }
-
-    /// What an `Enter` for a place needs.
-    #[inline(always)]
-    fn why_no_enter_for_place(&self, config: &Config, p: u8, s: u16, found: Found) -> Found
-        requires { IsConfig config.now }
-        ensures { (r : ℕ) → (mine : List Event) → StandsForReplica config.now r mine self.now
-            → Finds config.now r mine (bounds r mine) found.reason
-            → Finds config.now r mine
-            (points config.now r mine (SomeVerb.Enter p (SomeTarget.Place s))) result.reason }
-    {
-        let leading = &self.leadership;
-        found
-            .needs(p < config.replicas, Reason::NoRegion { region: p })
-            .needs(leading.is_member(p), Reason::NotMember { region: p })
-            .needs(!leading.is_over(), Reason::Over)
-            .needs(s < config.ring, Reason::NoPlace { place: s })
     }
 
     /// What an `Enter` needs.
     #[inline(always)]
-    pub(crate) fn why_no_enter_for(
-        &self,
-        config: &Config,
-        p: u8,
-        target: Target,
-        found: Found,
-    ) -> Found
+    pub(crate) fn why_no_enter(&self, config: &Config, p: u8, target: Target, found: Found) -> Found
         requires { IsConfig config.now }
-        ensures { (r : ℕ) → (mine : List Event) → StandsForReplica config.now r mine self.now
-            → Finds config.now r mine (bounds r mine) found.reason
-            → Finds config.now r mine (points config.now r mine (SomeVerb.Enter p target))
-            result.reason }
+        ensures { FindsFor config.now self.now (SomeVerb.Enter p target) found result }
     {
+        let leading = &self.leadership;
+        let found = self.why_no_region(config, p, found);
         match target {
-            Target::None => self.why_no_enter(config, p, found),
-            Target::Min => self.why_no_enter_for_minimum(config, p, found),
-            Target::Place(s) => self.why_no_enter_for_place(config, p, s, found),
+            Target::None => found.needs(false, Reason::NoTarget),
+            Target::Min => found
+                .needs(leading.noted(p).is_some(), Reason::NotGranted { region: p })
+                .needs(!leading.is_over(), Reason::Over)
+                .needs(leading.has_read(p), Reason::MinimumUnread { region: p })
+                .needs(self.is_confirmed(config), Reason::Unconfirmed),
+            Target::Place(s) => found
+                .needs(leading.is_member(p), Reason::NotMember { region: p })
+                .needs(!leading.is_over(), Reason::Over)
+                .needs(s < config.ring, Reason::NoPlace { place: s }),
         }
     }
 
@@ -222,10 +153,7 @@ impl Replica {
     #[inline(always)]
     fn why_no_put_minimum(&self, config: &Config, p: u8, b: u32, found: Found) -> Found
         requires { IsConfig config.now }
-        ensures { (r : ℕ) → (mine : List Event) → StandsForReplica config.now r mine self.now
-            → Finds config.now r mine (bounds r mine) found.reason
-            → Finds config.now r mine (points config.now r mine (SomeVerb.PutMin p b))
-            result.reason }
+        ensures { FindsFor config.now self.now (SomeVerb.PutMin p b) found result }
     {
         let leading = &self.leadership;
         let entered = leading.entered(p);
@@ -235,8 +163,7 @@ impl Replica {
         let put = leading.greatest_number();
         let right = right_number(self.replica, read.max(u64::from(put)), own);
         let open = is_entered_for(entered, Target::Min);
-        found
-            .needs(p < config.replicas, Reason::NoRegion { region: p })
+        self.why_no_region(config, p, found)
             .needs(!leading.is_over(), Reason::Over)
             .needs(open, Reason::NotEnteredForMinimum { region: p, entered })
             .needs(
@@ -259,14 +186,10 @@ impl Replica {
     #[inline(always)]
     pub(crate) fn why_no_look(&self, config: &Config, p: u8, i: u16, found: Found) -> Found
         requires { IsConfig config.now }
-        ensures { (r : ℕ) → (mine : List Event) → StandsForReplica config.now r mine self.now
-            → Finds config.now r mine (bounds r mine) found.reason
-            → Finds config.now r mine (points config.now r mine (SomeVerb.Look p i))
-            result.reason }
+        ensures { FindsFor config.now self.now (SomeVerb.Look p i) found result }
     {
         let last = last_position(config);
-        found
-            .needs(p < config.replicas, Reason::NoRegion { region: p })
+        self.why_no_region(config, p, found)
             .needs(
                 is_position(config, i),
                 Reason::NoPosition { position: i, last },
@@ -281,9 +204,7 @@ impl Replica {
     #[inline(always)]
     pub(crate) fn why_no_region(&self, config: &Config, p: u8, found: Found) -> Found
         requires { IsConfig config.now }
-        ensures { (r : ℕ) → (mine : List Event)
-            → Finds config.now r mine (bounds r mine) found.reason
-            → Finds config.now r mine (points config.now r mine (SomeVerb.Fuo p)) result.reason }
+        ensures { FindsFor config.now self.now (SomeVerb.Fuo p) found result }
     {
         found.needs(p < config.replicas, Reason::NoRegion { region: p })
     }
@@ -292,13 +213,9 @@ impl Replica {
     #[inline(always)]
     pub(crate) fn why_no_read_beat(&self, config: &Config, q: u8, found: Found) -> Found
         requires { IsConfig config.now }
-        ensures { (r : ℕ) → (mine : List Event) → StandsForReplica config.now r mine self.now
-            → Finds config.now r mine (bounds r mine) found.reason
-            → Finds config.now r mine (points config.now r mine (SomeVerb.ReadBeat q))
-            result.reason }
+        ensures { FindsFor config.now self.now (SomeVerb.ReadBeat q) found result }
     {
-        found
-            .needs(q < config.replicas, Reason::NoRegion { region: q })
+        self.why_no_region(config, q, found)
             .needs(q != self.replica, Reason::OwnBeat { replica: q })
     }
 
@@ -306,16 +223,13 @@ impl Replica {
     #[inline(always)]
     pub(crate) fn why_no_raise_fuo(&self, config: &Config, p: u8, u: u16, found: Found) -> Found
         requires { IsConfig config.now }
-        ensures { (r : ℕ) → (mine : List Event) → IsPossible config.now r mine
-            → StandsForReplica config.now r mine self.now
-            → Finds config.now r mine (bounds r mine) found.reason
-            → Finds config.now r mine (points config.now r mine (SomeVerb.RaiseFuo p u))
-            result.reason }
+        ensures { FindsIfPossible config.now self.now (SomeVerb.RaiseFuo p u) found result }
     {
         let known = self.known_log.known().len();
-        let found = found
-            .needs(p < config.replicas, Reason::NoRegion { region: p })
-            .needs(usize::from(u) <= known, Reason::NotKnown { fuo: u, known });
+        let found = self.why_no_region(config, p, found).needs(
+            usize::from(u) <= known,
+            Reason::NotKnown { fuo: u, known },
+        );
         let all = self.filled_logs.are_filled(p, u);
         if all {
             return found;
@@ -334,60 +248,15 @@ impl Replica {
         found
     }
 
-    /// What a `Close` needs.
-    #[inline(always)]
-    fn why_no_close(&self, config: &Config, found: Found) -> Found
-        requires { IsConfig config.now }
-        ensures { (r : ℕ) → (mine : List Event) → StandsForReplica config.now r mine self.now
-            → Finds config.now r mine (bounds r mine) found.reason
-            → Finds config.now r mine (points config.now r mine SomeVerb.Close) result.reason }
-    {
-        found
-            .needs(!self.grants.is_closing(), Reason::Closing)
-            .needs(self.grants.is_awaited(), Reason::NobodyWaits)
-    }
-
-    /// What a `LookTarget` needs.
-    #[inline(always)]
-    fn why_no_look_target(&self, config: &Config, found: Found) -> Found
-        requires { IsConfig config.now }
-        ensures { (r : ℕ) → (mine : List Event) → StandsForReplica config.now r mine self.now
-            → Finds config.now r mine (bounds r mine) found.reason
-            → Finds config.now r mine (points config.now r mine SomeVerb.LookTarget)
-            result.reason }
-    {
-        found
-            .needs(self.grants.has_to_drain(), Reason::NothingToDrain)
-            .needs(!self.grants.has_looked(), Reason::TargetLooked)
-    }
-
-    /// What a `Drain` needs.
-    #[inline(always)]
-    fn why_no_drain(&self, config: &Config, found: Found) -> Found
-        requires { IsConfig config.now }
-        ensures { (r : ℕ) → (mine : List Event) → StandsForReplica config.now r mine self.now
-            → Finds config.now r mine (bounds r mine) found.reason
-            → Finds config.now r mine (points config.now r mine SomeVerb.Drain) result.reason }
-    {
-        found
-            .needs(self.grants.has_to_drain(), Reason::NothingToDrain)
-            .needs(self.grants.has_looked(), Reason::TargetNotLooked)
-            .needs(!self.grants.has_drained(), Reason::Drained)
-    }
-
     /// What a `Grant` needs.
     #[inline(always)]
     fn why_no_grant(&self, config: &Config, w: u8, found: Found) -> Found
         requires { IsConfig config.now }
-        ensures { (r : ℕ) → (mine : List Event) → StandsForReplica config.now r mine self.now
-            → Finds config.now r mine (bounds r mine) found.reason
-            → Finds config.now r mine (points config.now r mine (SomeVerb.Grant w))
-            result.reason }
+        ensures { FindsFor config.now self.now (SomeVerb.Grant w) found result }
     {
         let grants = &self.grants;
         let least = grants.first_waiting();
-        found
-            .needs(w < config.replicas, Reason::NoRegion { region: w })
+        self.why_no_region(config, w, found)
             .needs(grants.is_closing(), Reason::NotClosing)
             .needs(self.is_drained(), Reason::NotDrained)
             .needs(
@@ -400,16 +269,15 @@ impl Replica {
     #[inline(never)]
     pub(crate) fn why_no_verb(&self, config: &Config, verb: &Verb, found: Found) -> Found
         requires { IsConfig config.now }
-        ensures { (r : ℕ) → (mine : List Event) → IsPossible config.now r mine
-            → StandsForReplica config.now r mine self.now
-            → Finds config.now r mine (bounds r mine) found.reason
-            → Finds config.now r mine (points config.now r mine verb.now) result.reason }
+        ensures { FindsIfPossible config.now self.now verb.now found result }
     {
         match *verb {
             Verb::Ask(p) => self.why_no_ask(config, p, found),
-            Verb::Fence(p) => self.why_no_fence(config, p, found),
+            Verb::Fence(p) => self
+                .why_no_region(config, p, found)
+                .needs(self.leadership.has_begun(), Reason::NotBegun),
             Verb::Min(p) => self.why_no_minimum(config, p, found),
-            Verb::Enter(p, target) => self.why_no_enter_for(config, p, target, found),
+            Verb::Enter(p, target) => self.why_no_enter(config, p, target, found),
             Verb::PutMin(p, b) => self.why_no_put_minimum(config, p, b, found),
             Verb::Look(p, i) => self.why_no_look(config, p, i, found),
             Verb::PutSlot(p, i, b, v) => self.why_no_put(config, p, i, b, v, found),
@@ -422,9 +290,16 @@ impl Replica {
             Verb::RaiseHead(h) => self.why_no_raise_head(config, h, found),
             Verb::Beat => found,
             Verb::ReadAsk(w) => self.why_no_region(config, w, found),
-            Verb::Close => self.why_no_close(config, found),
-            Verb::LookTarget => self.why_no_look_target(config, found),
-            Verb::Drain => self.why_no_drain(config, found),
+            Verb::Close => found
+                .needs(!self.grants.is_closing(), Reason::Closing)
+                .needs(self.grants.is_awaited(), Reason::NobodyWaits),
+            Verb::LookTarget => found
+                .needs(self.grants.has_to_drain(), Reason::NothingToDrain)
+                .needs(!self.grants.has_looked(), Reason::TargetLooked),
+            Verb::Drain => found
+                .needs(self.grants.has_to_drain(), Reason::NothingToDrain)
+                .needs(self.grants.has_looked(), Reason::TargetNotLooked)
+                .needs(!self.grants.has_drained(), Reason::Drained),
             Verb::Grant(w) => self.why_no_grant(config, w, found),
         }
     }

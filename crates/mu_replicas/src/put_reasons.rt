@@ -1,5 +1,5 @@
 //! Why a replica may not put an entry.
-ghost use Rattle.std.specs.Prelude.{IsTrue, List, None, Some, is_some, not, ◌||◌, [], ◌%◌, ◌++◌, ◌+◌, ◌/◌, ◌<◌, ◌∷◌, ◌≡◌, ◌≤◌, ◌↔◌, ℕ};
+ghost use Rattle.std.specs.Prelude.{IsTrue, List, None, Some, [], ◌%◌, ◌++◌, ◌+◌, ◌/◌, ◌<◌, ◌∷◌, ◌≡◌, ◌↔◌, ℕ};
 ghost use Rattle.mu_model.specs.declared.config.Config.{Config};
 ghost use Rattle.mu_model.specs.declared.event.Event.{Event};
 ghost use Rattle.mu_model.specs.declared.event.Verb.{Verb as SomeVerb};
@@ -8,12 +8,12 @@ ghost use Rattle.std.specs.List.{slice_get};
 ghost use Rattle.mu_model.specs.Knowledge.{is_value, known};
 ghost use Rattle.mu_model.specs.Leaderships.{is_member};
 ghost use Rattle.mu_model.specs.Parts.{IsPossible};
-ghost use Rattle.mu_model.specs.Picks.{first_value, highest_accepted, last_look};
-ghost use Rattle.mu_model.specs.Room.{reserve};
+ghost use Rattle.mu_model.specs.Picks.{first_value, highest_accepted};
 ghost use Rattle.mu_model.specs.declared.reason.Reason.{Reason as SomeReason};
-ghost use Rattle.mu_model.specs.Points.{batch_written, bounds, clear_members, each_below, last_position, new_values, offers, picks, points, proposals, puts, reserved_rooms, rooms, row_written, values};
+ghost use Rattle.mu_model.specs.Points.{batch_written, bounds, clear_members, each_below, last_position, offers, picks, proposals, puts, reserved_rooms, rooms, row_written, values};
 ghost use Rattle.mu_model.specs.Reasons.{Finds};
 ghost use Rattle.mu_replicas.specs.Stands.{StandsForReplica};
+ghost use Rattle.mu_replicas.specs.Finding.{FindsIfPossible, GoesOn, GoesOnIf, IsPosition};
 
 use crate::explaining::{is_entered_for, last_position};
 use crate::found::Found;
@@ -32,17 +32,6 @@ fn is_number(own: Option<u32>, b: u32) -> bool
 }
 
 impl Replica {
-    /// Whether the region is no member, or its position was looked at since a region joined last.
-    #[inline(always)]
-    fn is_looked_at(&self, p: u8, i: u16) -> bool
-        ensures { (c : Config) → (r : ℕ) → (mine : List Event) → p < 7
-            → i ≤ row_count c + reserve c → StandsForReplica c r mine self.now
-            → result ≡ (not (is_member r p mine) || is_some (last_look r p i mine)) }
-    {
-        let looked = self.looks.last_look(p, i).is_some();
-        !self.leadership.is_member(p) || looked
-    }
-
     /// Whether the value is known at the position.
     #[inline(always)]
     fn knows_at(&self, i: u16, v: u16) -> bool
@@ -59,10 +48,8 @@ impl Replica {
     #[inline(always)]
     fn why_no_room(&self, config: &Config, i: u16, free: u8, found: Found) -> Found
         requires { IsConfig config.now }
-        ensures { (r : ℕ) → (mine : List Event) → (reasons : List SomeReason)
-            → StandsForReplica config.now r mine self.now
-            → Finds config.now r mine reasons found.reason
-            → Finds config.now r mine (reasons ++ rooms config.now r mine i free) result.reason }
+        ensures { GoesOn config.now self.now
+            (λ r mine. rooms config.now r mine i free) found result }
     {
         let mut found = found;
         for q in 0..config.replicas {
@@ -85,12 +72,8 @@ impl Replica {
     #[inline(always)]
     fn why_no_reserve(&self, config: &Config, i: u16, v: u16, found: Found) -> Found
         requires { IsConfig config.now }
-        ensures { (r : ℕ) → (mine : List Event) → (reasons : List SomeReason)
-            → i ≤ row_count config.now + reserve config.now
-            → StandsForReplica config.now r mine self.now
-            → Finds config.now r mine reasons found.reason
-            → Finds config.now r mine (reasons ++ reserved_rooms config.now r mine i v)
-            result.reason }
+        ensures { GoesOnIf (IsPosition config.now i) config.now self.now
+            (λ r mine. reserved_rooms config.now r mine i v) found result }
     {
         if self.is_fresh(config, i, v) {
             self.why_no_room(config, i, reserve_of(config), found)
@@ -103,11 +86,8 @@ impl Replica {
     #[inline(always)]
     fn why_row_not_written(&self, config: &Config, v: u16, j: u16, found: Found) -> Found
         requires { IsConfig config.now }
-        ensures { (r : ℕ) → (mine : List Event) → (reasons : List SomeReason)
-            → j < row_count config.now
-            → StandsForReplica config.now r mine self.now
-            → Finds config.now r mine reasons found.reason
-            → Finds config.now r mine (reasons ++ row_written v j) result.reason }
+        ensures { GoesOnIf (j < row_count config.now) config.now self.now
+            (λ r mine. row_written v j) found result }
     {
         let mut found = found;
         for k in 0..12u8 {
@@ -128,11 +108,8 @@ impl Replica {
     #[inline(always)]
     fn why_not_written(&self, config: &Config, v: u16, found: Found) -> Found
         requires { IsConfig config.now }
-        ensures { (r : ℕ) → (mine : List Event) → (reasons : List SomeReason)
-            → v % 4096 < row_count config.now
-            → StandsForReplica config.now r mine self.now
-            → Finds config.now r mine reasons found.reason
-            → Finds config.now r mine (reasons ++ batch_written config.now v) result.reason }
+        ensures { GoesOnIf (v % 4096 < row_count config.now) config.now self.now
+            (λ r mine. batch_written config.now v) found result }
     {
         let row = v % PAYLOADS;
         let all = self.held_rows.wrote_batch(config, row);
@@ -151,10 +128,8 @@ impl Replica {
     #[inline(always)]
     fn why_no_offer(&self, config: &Config, v: u16, found: Found) -> Found
         requires { IsConfig config.now }
-        ensures { (r : ℕ) → (mine : List Event) → (reasons : List SomeReason)
-            → StandsForReplica config.now r mine self.now
-            → Finds config.now r mine reasons found.reason
-            → Finds config.now r mine (reasons ++ offers config.now r mine v) result.reason }
+        ensures { GoesOn config.now self.now
+            (λ r mine. offers config.now r mine v) found result }
     {
         if self.is_offer_of_mark(config, v) {
             return found;
@@ -185,14 +160,9 @@ impl Replica {
     #[inline(always)]
     fn why_no_pick(&self, config: &Config, i: u16, v: u16, found: Found) -> Found
         requires { IsConfig config.now }
-        ensures { (r : ℕ) → (mine : List Event) → (reasons : List SomeReason)
-            → i ≤ row_count config.now + reserve config.now
-            → StandsForReplica config.now r mine self.now
-            → Finds config.now r mine reasons found.reason
-            → Finds config.now r mine
-            (reasons
-            ++ picks config.now r mine i v (highest_accepted r i mine config.now.replicas))
-            result.reason }
+        ensures { GoesOnIf (IsPosition config.now i) config.now self.now
+            (λ r mine. picks config.now r mine i v (highest_accepted r i mine config.now.replicas))
+            found result }
     {
         match self
             .looks
@@ -215,18 +185,13 @@ impl Replica {
     #[inline(always)]
     fn why_not_looked(&self, config: &Config, i: u16, found: Found) -> Found
         requires { IsConfig config.now }
-        ensures { (r : ℕ) → (mine : List Event) → (reasons : List SomeReason)
-            → i ≤ row_count config.now + reserve config.now
-            → StandsForReplica config.now r mine self.now
-            → Finds config.now r mine reasons found.reason
-            → Finds config.now r mine
-            (reasons
-            ++ each_below config.now.replicas (λ p. SomeReason.MemberNotLooked p i ∷ []))
-            result.reason }
+        ensures { GoesOnIf (IsPosition config.now i) config.now self.now
+            (λ r mine. each_below config.now.replicas (λ p. SomeReason.MemberNotLooked p i ∷ []))
+            found result }
     {
         let mut found = found;
         for p in 0..config.replicas {
-            let looked = self.is_looked_at(p, i);
+            let looked = self.looks.is_looked_at(p, &self.leadership, i);
             found = found.needs(
                 looked,
                 Reason::MemberNotLooked {
@@ -242,12 +207,8 @@ impl Replica {
     #[inline(always)]
     fn why_no_proposal(&self, config: &Config, i: u16, v: u16, found: Found) -> Found
         requires { IsConfig config.now }
-        ensures { (r : ℕ) → (mine : List Event) → (reasons : List SomeReason)
-            → i ≤ row_count config.now + reserve config.now
-            → StandsForReplica config.now r mine self.now
-            → Finds config.now r mine reasons found.reason
-            → Finds config.now r mine
-            (reasons ++ proposals config.now r mine i v (first_value r i mine)) result.reason }
+        ensures { GoesOnIf (IsPosition config.now i) config.now self.now
+            (λ r mine. proposals config.now r mine i v (first_value r i mine)) found result }
     {
         match self.looks.first_value(i) {
             Some(first) => found
@@ -274,11 +235,8 @@ impl Replica {
     #[inline(always)]
     fn why_past_seen(&self, config: &Config, i: u16, found: Found) -> Found
         requires { IsConfig config.now }
-        ensures { (r : ℕ) → (mine : List Event) → (reasons : List SomeReason)
-            → i ≤ row_count config.now + reserve config.now
-            → StandsForReplica config.now r mine self.now
-            → Finds config.now r mine reasons found.reason
-            → Finds config.now r mine (reasons ++ clear_members config.now i) result.reason }
+        ensures { GoesOnIf (IsPosition config.now i) config.now self.now
+            (λ r mine. clear_members config.now i) found result }
     {
         let mut found = found;
         for p in 0..config.replicas {
@@ -294,17 +252,16 @@ impl Replica {
         found
     }
 
-    /// Looks whether the value may be put at a new position.
+    /// Looks whether the value is known at the position, or may be put there as new.
     #[inline(always)]
-    fn why_not_new(&self, config: &Config, i: u16, v: u16, found: Found) -> Found
+    fn why_no_value(&self, config: &Config, i: u16, v: u16, found: Found) -> Found
         requires { IsConfig config.now }
-        ensures { (r : ℕ) → (mine : List Event) → (reasons : List SomeReason)
-            → i ≤ row_count config.now + reserve config.now
-            → StandsForReplica config.now r mine self.now
-            → Finds config.now r mine reasons found.reason
-            → Finds config.now r mine (reasons ++ new_values config.now r mine i v)
-            result.reason }
+        ensures { GoesOnIf (IsPosition config.now i) config.now self.now
+            (λ r mine. values config.now r mine i v) found result }
     {
+        if self.knows_at(i, v) {
+            return found;
+        }
         let known = self.known_log.known().len();
         let found = found.needs(
             usize::from(i) == known,
@@ -314,23 +271,6 @@ impl Replica {
         let found = self.why_no_reserve(config, i, v, found);
         let found = self.why_past_seen(config, i, found);
         self.why_no_proposal(config, i, v, found)
-    }
-
-    /// Looks whether the value is known at the position, or may be put there as new.
-    #[inline(always)]
-    fn why_no_value(&self, config: &Config, i: u16, v: u16, found: Found) -> Found
-        requires { IsConfig config.now }
-        ensures { (r : ℕ) → (mine : List Event) → (reasons : List SomeReason)
-            → i ≤ row_count config.now + reserve config.now
-            → StandsForReplica config.now r mine self.now
-            → Finds config.now r mine reasons found.reason
-            → Finds config.now r mine (reasons ++ values config.now r mine i v) result.reason }
-    {
-        if self.knows_at(i, v) {
-            found
-        } else {
-            self.why_not_new(config, i, v, found)
-        }
     }
 
     /// Looks whether the region has what is known below the position.
@@ -427,16 +367,12 @@ impl Replica {
         found: Found,
     ) -> Found
         requires { IsConfig config.now }
-        ensures { (r : ℕ) → (mine : List Event) → IsPossible config.now r mine
-            → StandsForReplica config.now r mine self.now
-            → Finds config.now r mine (bounds r mine) found.reason
-            → Finds config.now r mine (points config.now r mine (SomeVerb.PutSlot p i b v))
-            result.reason }
+        ensures { FindsIfPossible config.now self.now (SomeVerb.PutSlot p i b v) found result }
     {
         let there = is_position(config, i);
         let last = last_position(config);
-        let found = found
-            .needs(p < config.replicas, Reason::NoRegion { region: p })
+        let found = self
+            .why_no_region(config, p, found)
             .needs(there, Reason::NoPosition { position: i, last });
         if !there {
             return found;

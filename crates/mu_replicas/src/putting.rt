@@ -3,14 +3,14 @@
 ghost use Rattle.std.specs.Prelude.{IsTrue, List, nat_lt, not, true, ℕ, ◌&&◌, ◌+◌, ◌<◌, ◌==◌, ◌||◌, ◌↔◌, ◌≡◌, ◌≤◌};
 ghost use Rattle.mu_model.specs.declared.config.Config.{Config};
 ghost use Rattle.mu_model.specs.declared.event.Event.{Event};
-ghost use Rattle.mu_model.specs.Contents.{IsConfig, is_mark, marked, row_count};
+ghost use Rattle.mu_model.specs.Contents.{IsConfig, marked, row_count};
 ghost use Rattle.mu_model.specs.Histories.{all_below, has};
 ghost use Rattle.mu_model.specs.Knowledge.{known};
 ghost use Rattle.mu_model.specs.Leaderships.{leadership};
 ghost use Rattle.mu_model.specs.Picks.{highest_accepted, is_fresh_batch, is_mark_offer};
 ghost use Rattle.mu_model.specs.Placing.{fuo_read_or_raised, is_within_ring};
-ghost use Rattle.mu_model.specs.Room.{is_mark_candidate, last_head, reserve};
-ghost use Rattle.mu_replicas.specs.Stands.{StandsForReplica};
+ghost use Rattle.mu_model.specs.Room.{last_head, reserve};
+ghost use Rattle.mu_replicas.specs.Stands.{StandsForReplica, Tells, TellsOf, may_mark};
 
 use crate::replica::Replica;
 use mu_model::{Config, PAYLOADS, reserve_of, stands_for_batch, stands_for_mark};
@@ -20,11 +20,9 @@ impl Replica {
     #[inline(always)]
     pub(crate) fn leaves_room(&self, config: &Config, q: u8, i: u16, free: u8) -> bool
         requires { config.now.replicas ≤ 7 }
-        ensures { (r : ℕ) → (mine : List Event) → q < config.now.replicas
-            → StandsForReplica config.now r mine self.now
-            → result
-            ≡ (marked config.now q (known config.now r mine)
-            || nat_lt (i + free) (last_head r q mine + config.now.ring)) }
+        ensures { TellsOf config.now self.now q
+            (λ r mine. marked config.now q (known config.now r mine)
+            || nat_lt (i + free) (last_head r q mine + config.now.ring)) result }
     {
         let gone = self.known_log.is_marked(q);
         let room = self.heads.leaves_room(q, config.ring, i, free);
@@ -35,13 +33,7 @@ impl Replica {
     #[inline(always)]
     fn may_mark(&self, config: &Config, q: u8, v: u16, limit: u64) -> bool
         requires { config.now.replicas ≤ 7 }
-        ensures { (r : ℕ) → (mine : List Event) → q < config.now.replicas
-            → StandsForReplica config.now r mine self.now
-            → result
-            ≡ (is_mark config.now q v
-            && (not (q == r)
-            && (not (marked config.now q (known config.now r mine))
-            && is_mark_candidate config.now r q limit mine))) }
+        ensures { TellsOf config.now self.now q (may_mark config.now q v limit) result }
     {
         let other = q != self.replica;
         let here = !self.known_log.is_marked(q);
@@ -53,14 +45,9 @@ impl Replica {
     #[inline(always)]
     fn marks_nobody(&self, config: &Config, v: u16, limit: u64) -> bool
         requires { config.now.replicas ≤ 7 }
-        ensures { (r : ℕ) → (mine : List Event) → StandsForReplica config.now r mine self.now
-            → result
-            ≡ all_below config.now.replicas
-            (λ q. not
-            (is_mark config.now q v
-            && (not (q == r)
-            && (not (marked config.now q (known config.now r mine))
-            && is_mark_candidate config.now r q limit mine)))) }
+        ensures { Tells config.now self.now
+            (λ r mine. all_below config.now.replicas (λ q. not (may_mark config.now q v limit r mine)))
+            result }
     {
         let mut none = true;
         for q in 0..config.replicas {
@@ -73,8 +60,7 @@ impl Replica {
     #[inline(always)]
     pub(crate) fn is_offer_of_mark(&self, config: &Config, v: u16) -> bool
         requires { IsConfig config.now }
-        ensures { (r : ℕ) → (mine : List Event) → StandsForReplica config.now r mine self.now
-            → result ≡ is_mark_offer config.now r mine v }
+        ensures { Tells config.now self.now (λ r mine. is_mark_offer config.now r mine v) result }
     {
         let limit = self.known_log.known().len() as u64 + u64::from(reserve_of(config));
         let nobody = self.marks_nobody(config, v, limit);

@@ -7,9 +7,10 @@ ghost use Rattle.mu_model.specs.Contents.{IsConfig, row_count};
 ghost use Rattle.std.specs.List.{slice_get};
 ghost use Rattle.mu_model.specs.Knowledge.{applied, known};
 ghost use Rattle.mu_model.specs.declared.reason.Reason.{Reason as SomeReason};
-ghost use Rattle.mu_model.specs.Points.{applied_to, bounds, entry_there, points, row_there};
+ghost use Rattle.mu_model.specs.Points.{applied_to, entry_there, row_there};
 ghost use Rattle.mu_model.specs.Reasons.{Finds};
 ghost use Rattle.mu_replicas.specs.Stands.{StandsForReplica};
+ghost use Rattle.mu_replicas.specs.Finding.{FindsFor, GoesOn};
 
 use crate::found::Found;
 use crate::replica::Replica;
@@ -37,10 +38,7 @@ impl Replica {
         found: Found,
     ) -> Found
         requires { IsConfig config.now }
-        ensures { (r : ℕ) → (mine : List Event) → StandsForReplica config.now r mine self.now
-            → Finds config.now r mine (bounds r mine) found.reason
-            → Finds config.now r mine (points config.now r mine (SomeVerb.WriteRow j k x))
-            result.reason }
+        ensures { FindsFor config.now self.now (SomeVerb.WriteRow j k x) found result }
     {
         let found = found
             .needs(is_row(config, j), Reason::NoRow { row: j })
@@ -71,10 +69,7 @@ impl Replica {
     #[inline(always)]
     pub(crate) fn why_no_read_row(&self, config: &Config, v: u16, k: u8, found: Found) -> Found
         requires { IsConfig config.now }
-        ensures { (r : ℕ) → (mine : List Event)
-            → Finds config.now r mine (bounds r mine) found.reason
-            → Finds config.now r mine (points config.now r mine (SomeVerb.ReadRow v k))
-            result.reason }
+        ensures { FindsFor config.now self.now (SomeVerb.ReadRow v k) found result }
     {
         let row = v % PAYLOADS;
         let there = v / PAYLOADS < u16::from(config.replicas);
@@ -129,11 +124,8 @@ impl Replica {
         found: Found,
     ) -> Found
         requires { IsConfig config.now }
-        ensures { (r : ℕ) → (mine : List Event) → (reasons : List SomeReason)
-            → StandsForReplica config.now r mine self.now
-            → Finds config.now r mine reasons found.reason
-            → Finds config.now r mine (reasons ++ entry_there config.now h applied (Some v))
-            result.reason }
+        ensures { GoesOn config.now self.now
+            (λ r mine. entry_there config.now h applied (Some v)) found result }
     {
         if !stands_for_batch(config, v) {
             return found;
@@ -150,13 +142,9 @@ impl Replica {
     #[inline(always)]
     fn why_next_not_there(&self, config: &Config, h: u16, applied: usize, found: Found) -> Found
         requires { IsConfig config.now }
-        ensures { (r : ℕ) → (mine : List Event) → (reasons : List SomeReason)
-            → StandsForReplica config.now r mine self.now
-            → Finds config.now r mine reasons found.reason
-            → Finds config.now r mine
-            (reasons
-            ++ entry_there config.now h applied (slice_get (known config.now r mine) applied))
-            result.reason }
+        ensures { GoesOn config.now self.now
+            (λ r mine. entry_there config.now h applied (slice_get (known config.now r mine) applied))
+            found result }
     {
         match self.value_at(applied) {
             None => found,
@@ -168,12 +156,9 @@ impl Replica {
     #[inline(always)]
     fn why_not_applied(&self, config: &Config, h: u16, found: Found) -> Found
         requires { IsConfig config.now }
-        ensures { (r : ℕ) → (mine : List Event) → (reasons : List SomeReason)
-            → StandsForReplica config.now r mine self.now
-            → Finds config.now r mine reasons found.reason
-            → Finds config.now r mine
-            (reasons ++ applied_to config.now r mine h (length (applied config.now r mine)))
-            result.reason }
+        ensures { GoesOn config.now self.now
+            (λ r mine. applied_to config.now r mine h (length (applied config.now r mine)))
+            found result }
     {
         let applied = self.held_rows.applied_length();
         let done = usize::from(h) <= applied;
@@ -188,10 +173,7 @@ impl Replica {
     #[inline(always)]
     pub(crate) fn why_no_raise_head(&self, config: &Config, h: u16, found: Found) -> Found
         requires { IsConfig config.now }
-        ensures { (r : ℕ) → (mine : List Event) → StandsForReplica config.now r mine self.now
-            → Finds config.now r mine (bounds r mine) found.reason
-            → Finds config.now r mine (points config.now r mine (SomeVerb.RaiseHead h))
-            result.reason }
+        ensures { FindsFor config.now self.now (SomeVerb.RaiseHead h) found result }
     {
         let found = self.why_not_applied(config, h, found);
         found.needs(self.looks.reaches_head(h), Reason::NotReached { head: h })

@@ -7,7 +7,7 @@ use Rattle.mu_grant.proofs.Others.{guest_kept}
 use Rattle.mu_grant.proofs.grants.take_at.Goals as goal
 
 pub returns-then-w-guests : goal.returns-then-w-guests
-returns-then-w-guests c mine owner closing named held q guest there =
+returns-then-w-guests c named mine owner closing held q guest there =
     let r = c.args.r in
     let w = c.args.w in
     let e = c.args.event.now in
@@ -21,7 +21,7 @@ returns-then-w-guests c mine owner closing named held q guest there =
     ]
 
 pub returns-else-w-guests : goal.returns-else-w-guests
-returns-else-w-guests c mine owner closing named held q guest there =
+returns-else-w-guests c named mine owner closing held q guest there =
     let e = c.args.event.now in
     let low = slice_get_within c.args.guests.now q guest there in
     guest_kept c.args.r q e.by e.verb e.answer mine guest (λ p is same. absurd (omega (arith, low, c.if-w-guests.false, same, same_some p c.args.w (sym is ∙ named)))) (held q guest there)

@@ -4,7 +4,7 @@ use Rattle.mu_grant.proofs.Others.{guest_kept}
 use Rattle.mu_grant.proofs.grants.take_at_guests.Goals as goal
 
 pub returns-in-Some : goal.returns-in-Some
-returns-in-Some c mine owner closing held = c.take_at.ensures mine owner closing (sym c.guest_of.ensures ∙ (c.in-Some.is ∙ ap Some (sym c.from.ensures))) held
+returns-in-Some c mine owner closing held = c.take_at.ensures (sym c.guest_of.ensures ∙ (c.in-Some.is ∙ ap Some (sym c.from.ensures))) mine owner closing held
 
 pub returns-in-None : goal.returns-in-None
 returns-in-None c mine owner closing held w guest there =

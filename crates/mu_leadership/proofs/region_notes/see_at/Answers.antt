@@ -1,24 +1,14 @@
-use Rattle.std.proofs.Common.{◌∷◌, ◌∙◌, ap, arith, inl, inr, subst, sym, rules}
-use Rattle.std.proofs.lemmas.Option.{slice_get_within}
-use Rattle.mu_model.proofs.Lists.{item_read, set_get}
+use Rattle.std.proofs.Common.{◌∷◌, ap, arith, rules}
 use Rattle.mu_leadership.specs.Bearing.{region_named}
 use Rattle.mu_leadership.specs.Leadership.{StandsForRegionNotes}
-use Rattle.mu_leadership.proofs.Elsewhere.{notes_kept}
+use Rattle.mu_leadership.proofs.Elsewhere.{kept_elsewhere}
+use Rattle.mu_leadership.proofs.SetOne.{none_set, one_set}
 use Rattle.mu_leadership.proofs.region_notes.see_at.Goals as goal
 
 pub returns-then-p-lt7 : goal.returns-then-p-lt7
-returns-then-p-lt7 c c' e mine possible is seen numbered held k notes there =
-    let r = c.args.r in
-    let p = c.args.p in
-    elim (set_get c.args.notes.now c.from.result c.see.new.self k notes there) [
-      | inl here ↦
-          let was = item_read (λ k d. StandsForRegionNotes r k mine d) c.args.notes.now c.from.result p _ c.from.ensures (search rules) held in
-          let now = c.see.ensures c' p e mine possible is seen numbered was in
-          subst (λ k. StandsForRegionNotes r k (e ∷ mine) notes) (sym (here.0 ∙ c.from.ensures)) (subst (λ d. StandsForRegionNotes r p (e ∷ mine) d) here.1 now)
-      | inr other ↦ notes_kept r k p e.by e.verb e.answer mine notes (ap region_named is) (λ same. other.0 (sym same ∙ sym c.from.ensures)) (held k notes other.1)
-    ]
+returns-then-p-lt7 c c' e mine possible is seen numbered held =
+    one_set (λ q d. StandsForRegionNotes c.args.r q mine d) (λ q d. StandsForRegionNotes c.args.r q (e ∷ mine) d) c.from.result c.args.p c.args.notes.now _ c.see.new.self c.from.ensures (search rules) (c.see.ensures c' c.args.p e mine possible is seen numbered) (kept_elsewhere c.args.r c.args.p e mine (ap region_named is)) held
 
 pub returns-else-p-lt7 : goal.returns-else-p-lt7
-returns-else-p-lt7 c c' e mine possible is seen numbered held k notes there =
-    let low = slice_get_within c.args.notes.now k notes there in
-    notes_kept c.args.r k c.args.p e.by e.verb e.answer mine notes (ap region_named is) (λ same. omega (arith, low, c.if-p-lt7.false, c.told-notes, same)) (held k notes there)
+returns-else-p-lt7 c c' e mine possible is seen numbered held =
+    none_set (λ q d. StandsForRegionNotes c.args.r q mine d) (λ q d. StandsForRegionNotes c.args.r q (e ∷ mine) d) c.args.p c.args.notes.now (omega (arith, c.if-p-lt7.false, c.told-notes)) (kept_elsewhere c.args.r c.args.p e mine (ap region_named is)) held

@@ -9,7 +9,7 @@ loop-region-init c c' mine config possible before after landings held p region a
 pub loop-region-preserved : goal.loop-region-preserved
 loop-region-preserved c c' mine config possible before after landings held =
     upto_next (λ p region. HoldsCoverage c' c.args.r p mine region) (λ p region. HoldsCoverage c' c.args.r p (c.args.event.now ∷ mine) region) c.loop-region.region-index c.loop-region.region-index c.loop-region.regions c.region-item.result c.take.new.self refl (omega (arith, c.loop-region-test.true, c.loop-region.auto.regions))
-    (λ was. c.take.ensures c' c.loop-region.region-index mine config possible before after landings was)
+    (λ was. c.take.ensures c' mine config possible before after landings c.loop-region.region-index was)
     (c.loop-region.invariant c' mine config possible before after landings held)
 
 pub returns : goal.returns

@@ -18,8 +18,8 @@ returns c n r mine looked held =
       owner = c.owner_after-self.ensures mine was.owner;
       closing = c.closing_after-self.ensures mine was.closing;
       named = c.named_after-self.ensures mine was.named;
-      looked = c.looked_after-self.ensures mine was.looked;
-      drained = c.drained_after-self.ensures mine was.drained;
+      looked = c.since_close_after-looked.ensures.looked mine was.looked;
+      drained = c.since_close_after-looked.ensures.drained mine was.drained;
       looked_first = in_order c.args.self.now.id e.by e.verb e.answer mine first was.looked_first;
       guests = c.take_at_guests.ensures mine was.owner was.closing was.guests;
     })

@@ -1,10 +1,11 @@
-use Rattle.std.proofs.Common.{ap, subst, ◌<◌, ◌≡◌, ◌∙◌}
+use Rattle.std.proofs.Common.{ap, refl, subst, ◌<◌, ◌≡◌, ◌∙◌}
 use Rattle.std.specs.Prelude.{is_some}
 use Rattle.mu_model.specs.Leaderships.{ends_leadership, is_changed}
 use Rattle.mu_model.proofs.Basics.{same_number}
 use Rattle.mu_agree.proofs.Possible.{parts_shorten_law}
 use Rattle.mu_leadership.specs.Leadership.{ReadsWithin}
-use Rattle.mu_leadership.proofs.Fences.{fence_shown, fenced_stands}
+use Rattle.mu_leadership.proofs.Entries.{ended_stands}
+use Rattle.mu_leadership.proofs.Fences.{fence_shown}
 use Rattle.mu_leadership.proofs.Within.{reads_within}
 use Rattle.mu_leadership.proofs.leadership.Leadership.take_fence.Goals as goal
 
@@ -19,7 +20,7 @@ returns-in-Seen c c' mine few is possible held =
     let changed = c.is_fence_changed.ensures ∙ ap (λ j. is_changed j f) (c.joined.ensures r mine low held) in
     let ends : c.is_fence_changed.result ≡ ends_leadership r mine e.by e.verb e.answer = rw (own, is, c.in-Seen.is, same_number r) changed in
     let notes = c.see_at.ensures c' e mine possible is c.in-Seen.is (c.is_some-numbered.ensures ∙ ap is_some held.number) held.notes in
-    fenced_stands r p e mine c.args.self.now c.is_fence_changed.result c.see_at.new.notes is ends notes held
+    ended_stands r e mine c.args.self.now c.is_fence_changed.result c.see_at.new.notes (rw is refl) ends notes held
 
 pub returns-in_default : goal.returns-in_default
 returns-in_default c c' mine few is possible held =

@@ -5,7 +5,7 @@ use Rattle.mu_placing.proofs.Cover.{coverage_step}
 use Rattle.mu_placing.proofs.filled_logs.Coverage.take.Goals as goal
 
 pub returns : goal.returns
-returns c c' p mine config possible before after landings held =
+returns c c' mine config possible before after landings p held =
     let r = c.args.r in
     let e = c.args.event.now in
     let own = c.args.self.now.id in

@@ -6,7 +6,7 @@ use Rattle.mu_model.specs.declared.reason.Reason.{Reason}
 use Rattle.mu_model.specs.Points.{each_below}
 use Rattle.mu_model.specs.Reasons.{Finds}
 use Rattle.mu_model.proofs.AllMet.{each_met, met_each, met_rest}
-use Rattle.mu_replicas.proofs.Points.{more_met, one_more}
+use Rattle.mu_replicas.proofs.Points.{more_met, one_more, all_of}
 use Rattle.mu_replicas.proofs.replica.Replica.why_behind.Goals as goal
 
 pub loop-j-init : goal.loop-j-init
@@ -28,10 +28,7 @@ loop-j-preserved c r mine reasons possible held start =
 
 pub returns : goal.returns
 returns c r mine reasons possible held start =
-    let k = c.args.config.now in
-    let of_each : ℕ → List Reason = λ j. Reason.Behind c.args.p j ∷ [] in
-    let all : c.loop-j.j ≡ c.args.i = omega (arith, c.loop-j-test.false, c.loop-j.auto.j-end) in
-    subst (λ n. Finds k r mine (reasons ++ each_below n of_each) c.loop-j.found.reason) all (c.loop-j.invariant r mine reasons possible held start)
+    all_of c.args.config.now r mine reasons c.loop-j.j c.args.i (λ j. Reason.Behind c.args.p j ∷ []) _ (omega (arith, c.loop-j-test.false, c.loop-j.auto.j-end)) (c.loop-j.invariant r mine reasons possible held start)
 
 pub returns-then-all : goal.returns-then-all
 returns-then-all c r mine reasons possible held start =

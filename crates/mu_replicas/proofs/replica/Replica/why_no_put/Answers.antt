@@ -3,7 +3,7 @@ use Rattle.std.proofs.lemmas.Bool.{false≢true}
 use Rattle.mu_model.specs.declared.reason.Reason.{Reason}
 use Rattle.mu_model.specs.Points.{bounds, each_below, last_position, values, puts}
 use Rattle.mu_model.specs.Reasons.{Finds}
-use Rattle.mu_replicas.proofs.Points.{apart, less, stops}
+use Rattle.mu_replicas.proofs.Points.{apart, stops}
 use Rattle.mu_replicas.proofs.replica.Replica.why_no_put.Goals as goal
 
 pub returns-then-not-there : goal.returns-then-not-there
@@ -11,7 +11,7 @@ returns-then-not-there c r mine possible held start =
     let k = c.args.config.now in
     let p = c.args.p in
     let i = c.args.i in
-    let one = c.needs.ensures k r mine (bounds r mine) start (λ m. less _ _) in
+    let one = c.why_no_region.ensures r mine held start in
     let two = subst (λ n. Finds k r mine (bounds r mine ++ Reason.NoRegion p ∷ Reason.NoPosition i n ∷ []) c.needs-found.result.reason) c.last_position-last.ensures (c.needs-found.ensures k r mine (bounds r mine ++ Reason.NoRegion p ∷ []) one (λ m. c.is_position-there.ensures)) in
     let of_each : ℕ → List Reason = λ j. Reason.Behind p j ∷ [] in
     stops k r mine (bounds r mine ++ Reason.NoRegion p ∷ Reason.NoPosition i (last_position k) ∷ []) (puts k r mine p i c.args.b ++ (each_below i of_each ++ values k r mine i c.args.v)) _
@@ -24,7 +24,7 @@ returns c r mine possible held start =
     let i = c.args.i in
     let near = c.is_position-there.ensures.0 c.if-not-there.false in
     let of_each : ℕ → List Reason = λ j. Reason.Behind p j ∷ [] in
-    let one = c.needs.ensures k r mine (bounds r mine) start (λ m. less _ _) in
+    let one = c.why_no_region.ensures r mine held start in
     let two = subst (λ n. Finds k r mine (bounds r mine ++ Reason.NoRegion p ∷ Reason.NoPosition i n ∷ []) c.needs-found.result.reason) c.last_position-last.ensures (c.needs-found.ensures k r mine (bounds r mine ++ Reason.NoRegion p ∷ []) one (λ m. c.is_position-there.ensures)) in
     let three = c.why_not_leading-found.ensures r mine held two in
     let front = bounds r mine ++ Reason.NoRegion p ∷ Reason.NoPosition i (last_position k) ∷ [] in

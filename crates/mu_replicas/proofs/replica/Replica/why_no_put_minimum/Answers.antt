@@ -6,7 +6,7 @@ use Rattle.std.proofs.lemmas.Bool.{cases_lt}
 use Rattle.std.specs.Prelude.{max}
 use Rattle.mu_model.specs.declared.reason.Reason.{Reason}
 use Rattle.mu_model.specs.Points.{bounds, greatest_used, right_number}
-use Rattle.mu_replicas.proofs.Points.{at_most_as, denies, less, low, elsewhere, number_told}
+use Rattle.mu_replicas.proofs.Points.{at_most_as, denies, low, elsewhere, number_told}
 use Rattle.mu_replicas.proofs.replica.Replica.why_no_put_minimum.Goals as goal
 
 pub returns : goal.returns
@@ -15,13 +15,13 @@ returns c r mine held start =
     let few = c.requires.replicas.1 in
     let p = c.args.p in
     let b = c.args.b in
-    let one = c.needs.ensures k r mine (bounds r mine) start (λ m. less _ _) in
-    let two = c.needs-2.ensures k r mine (bounds r mine ++ Reason.NoRegion p ∷ []) one (λ m. denies _ _ (c.is_over.ensures r mine held.leadership)) in
-    let three = c.needs-3.ensures k r mine (bounds r mine ++ Reason.NoRegion p ∷ Reason.Over ∷ []) two (λ m.
+    let one = c.why_no_region.ensures r mine held start in
+    let two = c.needs.ensures k r mine (bounds r mine ++ Reason.NoRegion p ∷ []) one (λ m. denies _ _ (c.is_over.ensures r mine held.leadership)) in
+    let three = c.needs-2.ensures k r mine (bounds r mine ++ Reason.NoRegion p ∷ Reason.Over ∷ []) two (λ m.
     let here = c.entered-entered.ensures r mine (low _ _ m.1.1.0 few) held.leadership in
     (λ t. sym here ∙ c.is_entered_for-open.ensures.0 t, λ h. c.is_entered_for-open.ensures.1 (here ∙ h))) in
-    let four = c.needs-4.ensures k r mine (bounds r mine ++ Reason.NoRegion p ∷ Reason.Over ∷ Reason.NotEnteredForMinimum p c.entered-entered.result ∷ []) three (λ m. at_most_as _ _ _ _ refl c.from-2.ensures) in
-    let five = c.needs-5.ensures k r mine (bounds r mine ++ Reason.NoRegion p ∷ Reason.Over ∷ Reason.NotEnteredForMinimum p c.entered-entered.result ∷ Reason.BelowMinimum b c.minimum-minimum.result ∷ []) four (λ m. c.may_take_number.ensures r mine held.leadership) in
+    let four = c.needs-3.ensures k r mine (bounds r mine ++ Reason.NoRegion p ∷ Reason.Over ∷ Reason.NotEnteredForMinimum p c.entered-entered.result ∷ []) three (λ m. at_most_as _ _ _ _ refl c.from-2.ensures) in
+    let five = c.needs-4.ensures k r mine (bounds r mine ++ Reason.NoRegion p ∷ Reason.Over ∷ Reason.NotEnteredForMinimum p c.entered-entered.result ∷ Reason.BelowMinimum b c.minimum-minimum.result ∷ []) four (λ m. c.may_take_number.ensures r mine held.leadership) in
     let right = number_told r mine _ _ _ _ _ _ (c.number-own.ensures r mine held.leadership) (c.greatest_minimum-read.ensures r mine held.leadership) (c.greatest_number-put.ensures r mine held.leadership) held.replica (c.max.ensures ∙ ap (λ n. max c.greatest_minimum-read.result n) c.from.ensures) c.right_number-right.ensures in
     elim (cases_lt p k.replicas) [
       | inl below ↦

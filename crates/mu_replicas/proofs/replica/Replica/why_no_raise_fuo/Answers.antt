@@ -6,13 +6,13 @@ use Rattle.mu_model.specs.declared.reason.Reason.{Reason}
 use Rattle.mu_model.specs.Points.{bounds, each_below}
 use Rattle.mu_model.specs.Reasons.{Finds}
 use Rattle.mu_model.proofs.AllMet.{each_met, met_each, met_rest}
-use Rattle.mu_replicas.proofs.Points.{at_most_as, less, more_met, no_more, one_more}
+use Rattle.mu_replicas.proofs.Points.{at_most_as, more_met, no_more, one_more}
 use Rattle.mu_replicas.proofs.replica.Replica.why_no_raise_fuo.Goals as goal
 
 pub loop-j-init : goal.loop-j-init
 loop-j-init c r mine possible held start =
     let k = c.args.config.now in
-    let one = c.needs.ensures k r mine (bounds r mine) start (λ m. less _ _) in
+    let one = c.why_no_region.ensures r mine held start in
     let two = c.needs-found.ensures k r mine (bounds r mine ++ Reason.NoRegion c.args.p ∷ []) one (λ m. at_most_as _ _ _ _ c.from.ensures refl) in
     let count = ap length (c.known-known.ensures k r mine held.known_log) in
     no_more k r mine (bounds r mine ++ Reason.NoRegion c.args.p ∷ Reason.NotKnown c.args.u (length (known k r mine)) ∷ []) _
@@ -47,7 +47,7 @@ returns-then-all c r mine possible held start =
     let p = c.args.p in
     let u = c.args.u in
     let of_each : ℕ → List Reason = λ j. Reason.NotFilled p j ∷ [] in
-    let one = c.needs.ensures k r mine (bounds r mine) start (λ m. less _ _) in
+    let one = c.why_no_region.ensures r mine held start in
     let two = c.needs-found.ensures k r mine (bounds r mine ++ Reason.NoRegion p ∷ []) one (λ m. at_most_as _ _ _ _ c.from.ensures refl) in
     let count = ap length (c.known-known.ensures k r mine held.known_log) in
     let three = subst (λ n. Finds k r mine (bounds r mine ++ Reason.NoRegion p ∷ Reason.NotKnown u n ∷ []) c.needs-found.result.reason) count two in

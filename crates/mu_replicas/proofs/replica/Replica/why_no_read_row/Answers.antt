@@ -6,7 +6,7 @@ use Rattle.mu_replicas.proofs.Points.{less, less_as}
 use Rattle.mu_replicas.proofs.replica.Replica.why_no_read_row.Goals as goal
 
 pub returns : goal.returns
-returns c r mine start =
+returns c r mine held start =
     let k = c.args.config.now in
     let few = c.requires.replicas.1 in
     let one = c.needs.ensures k r mine (bounds r mine) start (λ m. less_as _ _ _ c.from.ensures) in

@@ -3,11 +3,11 @@ use Rattle.std.specs.Prelude.{nat_lt, ◌||◌}
 use Rattle.mu_model.specs.Contents.{marked}
 use Rattle.mu_model.specs.Knowledge.{known}
 use Rattle.mu_model.specs.Room.{last_head}
-use Rattle.std.proofs.Common.{[], ◌++◌, ◌∷◌, ◌+◌, ◌≡◌, ℕ, List, sym, ◌∙◌, ap, subst, arith}
+use Rattle.std.proofs.Common.{[], ◌++◌, ◌∷◌, ◌+◌, ℕ, List, sym, ◌∙◌, ap, subst, arith}
 use Rattle.mu_model.specs.declared.reason.Reason.{Reason}
 use Rattle.mu_model.specs.Points.{each_below}
 use Rattle.mu_model.specs.Reasons.{Finds}
-use Rattle.mu_replicas.proofs.Points.{one_more, tells}
+use Rattle.mu_replicas.proofs.Points.{one_more, tells, all_of}
 use Rattle.mu_replicas.proofs.replica.Replica.why_no_room.Goals as goal
 
 pub loop-q-init : goal.loop-q-init
@@ -25,7 +25,4 @@ loop-q-preserved c r mine reasons held start =
 
 pub returns : goal.returns
 returns c r mine reasons held start =
-    let k = c.args.config.now in
-    let of_each : ℕ → List Reason = λ q. Reason.NoRoom c.args.i c.args.free q (last_head r q mine) ∷ [] in
-    let all : c.loop-q.q ≡ k.replicas = omega (arith, c.loop-q-test.false, c.loop-q.auto.q-end) in
-    subst (λ n. Finds k r mine (reasons ++ each_below n of_each) c.loop-q.found.reason) all (c.loop-q.invariant r mine reasons held start)
+    all_of c.args.config.now r mine reasons c.loop-q.q c.args.config.now.replicas (λ q. Reason.NoRoom c.args.i c.args.free q (last_head r q mine) ∷ []) _ (omega (arith, c.loop-q-test.false, c.loop-q.auto.q-end)) (c.loop-q.invariant r mine reasons held start)

@@ -1,9 +1,9 @@
 use Rattle.std.proofs.lemmas.List.{append-nil}
-use Rattle.std.proofs.Common.{[], ◌++◌, ◌∷◌, ◌≡◌, ℕ, List, sym, subst, arith}
+use Rattle.std.proofs.Common.{[], ◌++◌, ◌∷◌, ℕ, List, sym, subst, arith}
 use Rattle.mu_model.specs.declared.reason.Reason.{Reason}
 use Rattle.mu_model.specs.Points.{each_below}
 use Rattle.mu_model.specs.Reasons.{Finds}
-use Rattle.mu_replicas.proofs.Points.{one_more, low, tells}
+use Rattle.mu_replicas.proofs.Points.{one_more, low, tells, all_of}
 use Rattle.mu_replicas.proofs.replica.Replica.why_past_seen.Goals as goal
 
 pub loop-p-init : goal.loop-p-init
@@ -21,7 +21,4 @@ loop-p-preserved c r mine reasons near held start =
 
 pub returns : goal.returns
 returns c r mine reasons near held start =
-    let k = c.args.config.now in
-    let of_each : ℕ → List Reason = λ p. Reason.PastSeen p c.args.i ∷ [] in
-    let all : c.loop-p.p ≡ k.replicas = omega (arith, c.loop-p-test.false, c.loop-p.auto.p-end) in
-    subst (λ n. Finds k r mine (reasons ++ each_below n of_each) c.loop-p.found.reason) all (c.loop-p.invariant r mine reasons near held start)
+    all_of c.args.config.now r mine reasons c.loop-p.p c.args.config.now.replicas (λ p. Reason.PastSeen p c.args.i ∷ []) _ (omega (arith, c.loop-p-test.false, c.loop-p.auto.p-end)) (c.loop-p.invariant r mine reasons near held start)

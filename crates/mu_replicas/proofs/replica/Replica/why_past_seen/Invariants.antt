@@ -1,12 +1,8 @@
-use Rattle.std.proofs.Common.{[], ◌+◌, ◌≤◌, ◌++◌, ◌∷◌, ℕ, List}
-use Rattle.mu_model.specs.declared.event.Event.{Event}
-use Rattle.mu_model.specs.Contents.{row_count}
-use Rattle.mu_model.specs.Room.{reserve}
+use Rattle.std.proofs.Common.{[], ◌∷◌}
 use Rattle.mu_model.specs.declared.reason.Reason.{Reason}
 use Rattle.mu_model.specs.Points.{each_below}
-use Rattle.mu_model.specs.Reasons.{Finds}
-use Rattle.mu_replicas.specs.Stands.{StandsForReplica}
+use Rattle.mu_replicas.specs.Finding.{GoesOnIf, IsPosition}
 use Rattle.mu_replicas.proofs.replica.Replica.why_past_seen.Given as goal
 
 abbrev pub invariant-loop-p : goal.invariant-loop-p
-invariant-loop-p l = (r : ℕ) (mine : List Event) (reasons : List Reason) → l.i ≤ row_count l.config + reserve l.config → StandsForReplica l.config r mine l.self → Finds l.config r mine reasons l.initial.found.reason → Finds l.config r mine (reasons ++ each_below l.p (λ p. Reason.PastSeen p l.i ∷ [])) l.found.reason
+invariant-loop-p l = GoesOnIf (IsPosition l.config l.i) l.config l.self (λ r mine. each_below l.p (λ p. Reason.PastSeen p l.i ∷ [])) l.initial.found l.found

@@ -6,7 +6,7 @@ use Rattle.mu_knowledge.specs.HeldRows.{HasWords}
 use Rattle.mu_model.specs.declared.reason.Reason.{Reason}
 use Rattle.mu_model.specs.Points.{each_below}
 use Rattle.mu_model.specs.Reasons.{Finds}
-use Rattle.mu_replicas.proofs.Points.{one_more, tells}
+use Rattle.mu_replicas.proofs.Points.{one_more, tells, all_of}
 use Rattle.mu_replicas.proofs.replica.Replica.why_row_not_there.Goals as goal
 
 pub loop-k-init : goal.loop-k-init
@@ -25,7 +25,4 @@ loop-k-preserved c r mine reasons few near held start =
 
 pub returns : goal.returns
 returns c r mine reasons few near held start =
-    let g = c.args.config.now in
-    let of_each : ℕ → List Reason = λ k. Reason.NoRowWord c.args.h c.args.applied c.args.v k ∷ [] in
-    let all : c.loop-k.k ≡ 12 = omega (arith, c.loop-k-test.false, c.loop-k.auto.k-end) in
-    subst (λ n. Finds g r mine (reasons ++ each_below n of_each) c.loop-k.found.reason) all (c.loop-k.invariant r mine reasons few near held start)
+    all_of c.args.config.now r mine reasons c.loop-k.k 12 (λ k. Reason.NoRowWord c.args.h c.args.applied c.args.v k ∷ []) _ (omega (arith, c.loop-k-test.false, c.loop-k.auto.k-end)) (c.loop-k.invariant r mine reasons few near held start)
