@@ -16,7 +16,7 @@ pub returns-in-Row-clause-stands : goal.returns-in-Row-clause-stands
 returns-in-Row-clause-stands c mine n possible held none = c.note_row.ensures.stands mine n (sym c.kind_of.ensures ∙ c.in-Row.is) possible held
 
 pub returns-in-Put-clause-stands : goal.returns-in-Put-clause-stands
-returns-in-Put-clause-stands c mine n possible held none = c.note_put.ensures.stands mine n (sym c.kind_of.ensures ∙ c.in-Put.is) possible held none
+returns-in-Put-clause-stands c mine n possible held none = c.note_put.ensures.stands (sym c.kind_of.ensures ∙ c.in-Put.is) mine n possible held none
 
 pub returns-in-Head-clause-stands : goal.returns-in-Head-clause-stands
 returns-in-Head-clause-stands c mine n possible held none = c.note_head.ensures.stands mine n (sym c.kind_of.ensures ∙ c.in-Head.is) held
