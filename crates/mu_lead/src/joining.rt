@@ -17,14 +17,6 @@ use crate::regions::next_stranger;
 use mu_knowledge::KnownLog;
 
 impl Lead {
-    /// The first region from `p` on that isn't a member.
-    #[inline(always)]
-    pub(crate) fn stranger_from(&self, p: u8) -> Option<u8>
-        ensures { FindsFrom self.now stranger_from p result }
-    {
-        next_stranger(&self.leading, p, self.config.replicas)
-    }
-
     /// Goes on with the late followers from `p` on.
     pub(crate) fn late_from(&self, p: u8, known: &[u16], log: &KnownLog) -> Place
         ensures { ByKnown self.now known.now log.now
@@ -60,6 +52,14 @@ impl Lead {
         } else {
             Place::LateFuo(p)
         }
+    }
+
+    /// The first region from `p` on that isn't a member.
+    #[inline(always)]
+    pub(crate) fn stranger_from(&self, p: u8) -> Option<u8>
+        ensures { FindsFrom self.now stranger_from p result }
+    {
+        next_stranger(&self.leading, p, self.config.replicas)
     }
 
     /// The place after the FUO of the late follower `p`.

@@ -244,30 +244,27 @@ impl Lead {
         let end = end_of(known);
         match self.place {
             Place::Ask(p) => Some(Verb::Ask(p)),
-            Place::Confirm(_, p) => Some(Verb::Fence(p)),
-            Place::ReadMin(p) => Some(Verb::Min(p)),
-            Place::EnterMin(p) => Some(Verb::Enter(p, Target::Min)),
-            Place::PutMin(p) => Some(Verb::PutMin(p, self.number)),
-            Place::ReadFuo(p, _) => Some(Verb::Fuo(p)),
+            Place::Confirm(_, p)
+            | Place::FenceBehind(p, _)
+            | Place::LateFence(p)
+            | Place::Evidence(p) => Some(Verb::Fence(p)),
+            Place::ReadMin(p) | Place::LateMin(p) => Some(Verb::Min(p)),
+            Place::EnterMin(p) | Place::LateEnter(p) => Some(Verb::Enter(p, Target::Min)),
+            Place::PutMin(p) | Place::LatePut(p) => Some(Verb::PutMin(p, self.number)),
+            Place::ReadFuo(p, _) | Place::LateFuo(p) => Some(Verb::Fuo(p)),
             Place::Learn(p) => Some(Verb::Look(p, end)),
-            Place::WidenBehind(p, _) => Some(Verb::RaiseFuo(p, narrow(self.up_of(p)))),
+            Place::WidenBehind(p, _) | Place::RaiseBehind(p, _) => {
+                Some(Verb::RaiseFuo(p, narrow(self.up_of(p))))
+            }
             Place::LookBehind(p, _) => Some(Verb::Look(p, narrow(self.up_of(p)))),
             Place::EnterBehind(p, _) => Some(Verb::Enter(p, self.place_of(self.up_of(p)))),
             Place::PutBehind(p, _) => Some(self.put_behind(p, known)),
-            Place::RaiseBehind(p, _) => Some(Verb::RaiseFuo(p, narrow(self.up_of(p)))),
-            Place::FenceBehind(p, _) => Some(Verb::Fence(p)),
-            Place::LateFence(p) => Some(Verb::Fence(p)),
-            Place::LateMin(p) => Some(Verb::Min(p)),
-            Place::LateFuo(p) => Some(Verb::Fuo(p)),
-            Place::LateEnter(p) => Some(Verb::Enter(p, Target::Min)),
-            Place::LatePut(p) => Some(Verb::PutMin(p, self.number)),
             Place::ReadHead(q, _) => Some(Verb::Head(q)),
             Place::Look(p, position, _, _) => Some(Verb::Look(p, position)),
             Place::Write(j, _, _) => Some(self.write_next(j)),
             Place::Enter(p, _) => Some(Verb::Enter(p, self.place_of(u64::from(end)))),
             Place::Put(p, offer) => Some(Verb::PutSlot(p, end, self.number, offer.value)),
             Place::Raise(p) => Some(Verb::RaiseFuo(p, end)),
-            Place::Evidence(p) => Some(Verb::Fence(p)),
             Place::Outrun | Place::Rest => None,
         }
     }
