@@ -1,5 +1,5 @@
 -- What a node stands for, with one row more.
-use Rattle.std.proofs.Common.{◌≡◌, ◌∙◌, ◌%◌, ◌+◌, ◌<◌, ◌≤◌, ◌∷◌, List, [], ap, arith, length, refl, subst, sym, take, true≢false, ℕ, inl}
+use Rattle.std.proofs.Common.{◌≡◌, ◌∙◌, ◌%◌, ◌+◌, ◌<◌, ◌≤◌, ◌∷◌, List, [], ap, arith, length, refl, subst, sym, take, ℕ, inl}
 use Rattle.std.specs.Prelude.{if◌then◌else◌, vec_capacity}
 use Rattle.std.specs.List.{slice_get}
 use Rattle.kv_store.specs.Commands.{Request}

@@ -24,7 +24,7 @@ use Rattle.mu_lead.specs.Standing.{verb_at}
 use Rattle.mu_node.specs.Due.{write_due, or_ahead, verb_or_beat}
 use Rattle.mu_node.proofs.Failing.{Fails, ahead_fails, either, read_fails}
 use Rattle.mu_node.proofs.CatchingUp.{catches_reading, made_led, reading_fails}
-use Rattle.mu_node.specs.Cycle.{handed, other_at, place_now}
+use Rattle.mu_node.specs.Cycle.{handed, place_now}
 use Rattle.mu_node.specs.Journal.{WasMade}
 use Rattle.mu_node.proofs.Turning.{handed_here}
 

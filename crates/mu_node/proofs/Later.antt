@@ -1,25 +1,17 @@
 -- Once its number was put the listing of a leader goes on with later places, or begins again.
-use Rattle.std.proofs.Common.{◌≡◌, ◌≢◌, ℕ, ◌+◌, ◌*◌, ◌==◌, ◌&&◌, Bool, true, false, None, Some, List, refl, sym, get_or}
-use Rattle.std.specs.declared.option.Option.{Option}
-use Rattle.std.specs.Prelude.{if◌then◌else◌, is_some, nat_lt, not}
+use Rattle.std.proofs.Common.{◌≡◌, ℕ, ◌+◌, ◌==◌, Bool, true, false, Some, List, refl, sym, get_or}
+use Rattle.std.specs.Prelude.{if◌then◌else◌, is_some, nat_lt}
 use Rattle.std.proofs.lemmas.Bool.{true≢false}
 use Rattle.mu_model.specs.declared.config.Config.{Config}
 use Rattle.mu_model.specs.declared.event.Answer.{Answer}
 use Rattle.mu_model.specs.declared.event.Event.{Event}
-use Rattle.mu_model.specs.Contents.{holds_all, rest_of, row_count}
 use Rattle.mu_model.specs.Picks.{is_past}
-use Rattle.mu_model.specs.Placing.{is_within_ring}
-use Rattle.mu_model.specs.Knowledge.{known}
 use Rattle.mu_model.specs.Leaderships.{is_over, noted_grant}
-use Rattle.mu_model.specs.Room.{reserve}
-use Rattle.mu_knowledge.specs.Offers.{first_in}
-use Rattle.mu_lead.specs.declared.place.Offer.{Offer}
 use Rattle.mu_lead.specs.declared.place.Place.{Place}
-use Rattle.mu_lead.specs.declared.place.Sight.{Sight}
 use Rattle.mu_lead.specs.declared.place.Then.{Then}
 use Rattle.mu_lead.proofs.Onwards.{if_passes, is_onward, bring_onward, head_onward, late_onward, learning_onward, look_onward, region_onward, written_onward, or_passes}
 use Rattle.mu_lead.specs.Leading.{end_of}
-use Rattle.mu_lead.specs.Listing.{Tables, after_copy, after_head, after_look, after_members, after_region, behind_from, bring_up, bring_up_from, farther, first_member, heads_from, is_lost, is_missed, larger_sight, late_from, learn_from, least_candidate, low_from, may_mark, member_from, next_place, next_position, number_told, offer_row, or_else, own_offer, pick, sight_of, stranger_from, unless_lost, unless_missed, write_from}
+use Rattle.mu_lead.specs.Listing.{Tables, after_copy, after_look, bring_up, farther, first_member, is_lost, is_missed, larger_sight, late_from, learn_from, member_from, next_place, number_told, or_else, sight_of, unless_lost, unless_missed}
 
 -- the place comes after the number was put
 abbrev pub is_started : Place → Bool

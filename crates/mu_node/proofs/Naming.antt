@@ -1,6 +1,6 @@
 -- What a node's journal shows of its beats, of the counts that it reads, of whom it names and of its asks.
-use Rattle.std.proofs.Common.{◌≡◌, ◌∙◌, ◌≢◌, ℕ, ◌+◌, ◌-◌, ◌<◌, ◌≤◌, ◌==◌, ◌&&◌, ◌⊎◌, inl, inr, Bool, true, false, cond, None, Some, List, [], ◌∷◌, ◌++◌, ap, append_assoc, arith, drop, eqb-true, eq-eqb, length, refl, subst, sym, take}
-use Rattle.std.specs.Prelude.{if◌then◌else◌, nat_lt, not}
+use Rattle.std.proofs.Common.{◌≡◌, ◌∙◌, ◌≢◌, ℕ, ◌+◌, ◌<◌, ◌≤◌, ◌==◌, ◌&&◌, ◌⊎◌, inl, inr, Bool, true, false, cond, None, Some, List, [], ◌∷◌, ◌++◌, ap, append_assoc, arith, drop, eqb-true, eq-eqb, length, refl, subst, sym, take}
+use Rattle.std.specs.Prelude.{if◌then◌else◌, not}
 use Rattle.std.specs.declared.option.Option.{Option}
 use Rattle.std.proofs.Math.Nat.{mod-eq_of_lt}
 use Rattle.std.proofs.lemmas.Bool.{cases_eq, cases_lt, ne_eqb, true≢false, and_parts}
@@ -30,10 +30,10 @@ use Rattle.mu_lead.specs.Standing.{verb_at}
 use Rattle.mu_model.specs.Knowledge.{known}
 use Rattle.mu_node.specs.declared.zeal.Zeal.{Zeal}
 use Rattle.mu_node.specs.Watch.{is_beat_read as reads_beat}
-use Rattle.mu_node.proofs.Rounding.{cycle_fails, FailsBackground, background_fails, keeps_rounds, read_here}
+use Rattle.mu_node.proofs.Rounding.{cycle_fails, FailsBackground, keeps_rounds, read_here}
 use Rattle.mu_lead.specs.Ahead.{entry_before, word_after}
 use Rattle.mu_node.proofs.CatchingUp.{catches_reading, made_led, reading_fails}
-use Rattle.mu_node.specs.Cycle.{other_at, place_now}
+use Rattle.mu_node.specs.Cycle.{place_now}
 use Rattle.mu_node.specs.Due.{or_ahead, verb_or_beat, listed_due}
 use Rattle.mu_node.specs.Journal.{WasMade, was_named}
 use Rattle.mu_node.proofs.Asked.{of_lead}

@@ -18,7 +18,7 @@ use Rattle.mu_model.specs.Stretches.{is_odd}
 use Rattle.mu_model.proofs.Lists.{get_front}
 use Rattle.mu_grant.specs.Pace.{host_place}
 use Rattle.mu_grant.specs.Stands.{Gives, is_of_place}
-use Rattle.mu_knowledge.specs.RowWords.{IsOfKnown, IsReadKnown, ReadsKnown}
+use Rattle.mu_knowledge.specs.RowWords.{IsReadKnown, ReadsKnown}
 use Rattle.mu_knowledge.proofs.Fetched.{applied_grows}
 use Rattle.mu_follow.proofs.Waiting.{row_of_known}
 use Rattle.mu_follow.specs.Due.{ahead_due, filled_known, fuo_due, head_due, next_due, other_head_due, other_of, own_fuo, first_word_of, look_due, next_word_of, raise_due, replay_due, row_read, row_under_way, rows_had, word_due}
@@ -32,7 +32,7 @@ use Rattle.mu_node.specs.Due.{ReadsOn, held_write_due, lead_due, write_due, or_a
 use Rattle.mu_node.proofs.Failing.{ahead_fails, led_ahead_fails, read_fails}
 use Rattle.mu_node.proofs.CatchingUp.{made_led}
 use Rattle.mu_follow.specs.CatchingUp.{catch_up_due, entry_due, lacked_word_due, lacked_word_of, or_else, words_had}
-use Rattle.mu_node.specs.Cycle.{IsBackgroundDue, handed, handed_before, hands_on, other_at, place_now, read_at}
+use Rattle.mu_node.specs.Cycle.{IsBackgroundDue, handed, handed_before, hands_on, place_now, read_at}
 use Rattle.mu_node.specs.Journal.{WasMade}
 use Rattle.mu_node.specs.Reads.{IsNext, IsReadNext, ReadsNext}
 use Rattle.mu_lead.specs.Journal.{due_after, number_due, place_after, tables_at}
