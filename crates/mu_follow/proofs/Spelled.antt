@@ -26,7 +26,7 @@ within_first n (suc m) zero xs low = absurd (omega (arith, low))
 within_first n (suc m) (suc k) [] low = refl
 within_first n (suc m) (suc k) (x ∷ xs) low = within_first n m k xs (omega (arith, low))
 
-get_first : {A : Type 0} (n i : ℕ) (xs : List A) → i < n → slice_get (take n xs) i ≡ slice_get xs i
+pub get_first : {A : Type 0} (n i : ℕ) (xs : List A) → i < n → slice_get (take n xs) i ≡ slice_get xs i
 get_first zero i xs low = absurd (omega (arith, low))
 get_first (suc n) i [] low = refl
 get_first (suc n) zero (x ∷ xs) low = refl

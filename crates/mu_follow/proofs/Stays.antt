@@ -136,48 +136,39 @@ log_unmoved c r p e mine log reads shows held = record {
   next = held.next;
 }
 
--- a verb of no kind changes nothing
-pub other_keeps : (c : Config) (r n : ℕ) (e : Event) (mine : List Event) (state : Follow) → kind_of e.verb ≡ Kind.Other → HoldsFollow c r mine n state → HoldsFollow c r (e ∷ mine) n state
-other_keeps c r n e mine state kind held =
-    let same = applied_stays c r e.by e.verb e.answer mine (ap applies kind) in
+-- a verb of a kind that changes none of the others changes the heads at most
+pub heads_noted : (c : Config) (r n : ℕ) (e : Event) (mine : List Event) (state : Follow) (heads : Published) (other : Kind) → kind_of e.verb ≡ other → applies other ≡ false → shows other ≡ false → is_row other ≡ false → is_put other ≡ false → is_look other ≡ false → is_fuo other ≡ false
+    → HoldsFollow c r mine n state → HoldsPublished r (e ∷ mine) heads → HoldsFollow c r (e ∷ mine) n (record state { heads = heads })
+heads_noted c r n e mine state heads other kind apply show row put look fuo held noted =
+    let same = applied_stays c r e.by e.verb e.answer mine (ap applies kind ∙ apply) in
     record {
       config = held.config;
       replica = held.replica;
       inside = held.inside;
       steps = held.steps;
-      knowing = knowing_stays c r e.by e.verb e.answer mine state.knowing (ap shows kind) held.knowing;
-      rows = rows_stay c r e.by e.verb e.answer mine state.rows (ap applies kind) held.rows;
-      words = words_stay c r e.by e.verb e.answer mine state.words (ap is_row kind) held.words;
-      own_log = log_stays c r e.by e.verb e.answer mine state.own_log (ap shows kind) held.own_log;
-      heads = heads_stay r e.by e.verb e.answer mine state.heads (ap is_head kind) held.heads;
+      knowing = knowing_stays c r e.by e.verb e.answer mine state.knowing (ap shows kind ∙ show) held.knowing;
+      rows = rows_stay c r e.by e.verb e.answer mine state.rows (ap applies kind ∙ apply) held.rows;
+      words = words_stay c r e.by e.verb e.answer mine state.words (ap is_row kind ∙ row) held.words;
+      own_log = log_stays c r e.by e.verb e.answer mine state.own_log (ap shows kind ∙ show) held.own_log;
+      heads = noted;
       completion = subst (λ l. HoldsCompletion c l state.completion) (sym same) held.completion;
-      commits = record { are = held.commits.are ∙ sym (commits_stay c r e.by e.verb e.answer mine (ap is_put kind)); room = held.commits.room };
-      outrun = held.outrun ∙ outrun_stays c r e.by e.verb e.answer mine (ap is_look kind);
+      commits = record { are = held.commits.are ∙ sym (commits_stay c r e.by e.verb e.answer mine (ap is_put kind ∙ put)); room = held.commits.room };
+      outrun = held.outrun ∙ outrun_stays c r e.by e.verb e.answer mine (ap is_look kind ∙ look);
       progress = record {
-        fuo = held.progress.fuo ∙ fuo_stays r e.by e.verb e.answer mine (ap is_fuo kind);
-        row = held.progress.row ∙ row_stays e.by e.verb e.answer mine (ap is_row kind);
+        fuo = held.progress.fuo ∙ fuo_stays r e.by e.verb e.answer mine (ap is_fuo kind ∙ fuo);
+        row = held.progress.row ∙ row_stays e.by e.verb e.answer mine (ap is_row kind ∙ row);
         handed = (let long = ap length same in omega (arith, held.progress.handed, long));
       };
     }
 
+-- a verb of no kind changes nothing
+pub other_keeps : (c : Config) (r n : ℕ) (e : Event) (mine : List Event) (state : Follow) → kind_of e.verb ≡ Kind.Other → HoldsFollow c r mine n state → HoldsFollow c r (e ∷ mine) n state
+other_keeps c r n e mine state kind held = heads_noted c r n e mine state state.heads Kind.Other kind refl refl refl refl refl refl held (heads_stay r e.by e.verb e.answer mine state.heads (ap is_head kind) held.heads)
+
 -- a word of a row leaves all but the rows, the words, what is counted and what is being read
 pub word_noted : (c : Config) (r n : ℕ) (e : Event) (mine : List Event) (state : Follow) (rows : HeldRows) (words : RowWords) (completion : Completion) (progress : Progress) → kind_of e.verb ≡ Kind.Row → HoldsFollow c r mine n state
     → StandsForHeldRows c r (e ∷ mine) rows → StandsForRowWords c r (e ∷ mine) words → HoldsCompletion c (applied c r (e ∷ mine)) completion → HoldsProgress c r (e ∷ mine) progress
-    → HoldsFollow c r (e ∷ mine) n
-    (record {
-      config = state.config;
-      replica = state.replica;
-      steps = state.steps;
-      knowing = state.knowing;
-      rows = rows;
-      words = words;
-      own_log = state.own_log;
-      heads = state.heads;
-      completion = completion;
-      commits = state.commits;
-      outrun = state.outrun;
-      progress = progress;
-    })
+    → HoldsFollow c r (e ∷ mine) n (record state { rows = rows; words = words; completion = completion; progress = progress })
 word_noted c r n e mine state rows words completion progress kind held there told counted reached = record {
   config = held.config;
   replica = held.replica;

@@ -2,7 +2,7 @@
 use Rattle.std.specs.Prelude.{Bool, List, Some, false, length, take, true, vec_capacity, ℕ, ◌+◌, ◌<◌, ◌≡◌, ◌≤◌}
 use Rattle.std.specs.List.{slice_get}
 use Rattle.mu_model.specs.declared.config.Config.{Config}
-use Rattle.mu_model.specs.Contents.{StandsForEntry, holds_all, includes, row_count, rows_in}
+use Rattle.mu_model.specs.Contents.{IsConfig, StandsForEntry, holds_all, includes, row_count, rows_in}
 use Rattle.mu_model.specs.Scores.{least_below}
 use Rattle.mu_follow.specs.declared.completion.Completion.{Completion}
 
@@ -35,3 +35,10 @@ pub record HoldsCompletion (c : Config) (values : List ℕ) (state : Completion)
   pub held : MarksRows c (λ j. includes j (rows_in c values)) state.held.items
   pub first : IsFirstMissing c (λ j. includes j (rows_in c values)) state.held_to
   pub full : state.full ≡ full_of c values
+
+-- the first `applied` of the values are counted, of which the first were counted before
+abbrev pub CountsTo : Config → List ℕ → ℕ → Completion → Completion → Type 0
+CountsTo c values applied before after =
+    IsConfig c → length values ≤ 65536 → applied ≤ length values → before.counted ≤ applied
+    → HoldsCompletion c (take before.counted values) before
+    → HoldsCompletion c (take applied values) after

@@ -1,16 +1,15 @@
 //! What a replica reads next to catch up, whatever the place of its cycle.
-ghost use Rattle.std.specs.Prelude.{IfSome, List, Some, false, length, ℕ, ◌%◌, ◌/◌, ◌<◌, ◌≡◌};
+ghost use Rattle.std.specs.Prelude.{List, Some, false, length, ℕ, ◌%◌, ◌/◌, ◌<◌, ◌≡◌};
 ghost use Rattle.std.specs.List.{slice_get};
 ghost use Rattle.mu_model.specs.declared.config.Config.{Config};
 ghost use Rattle.mu_model.specs.declared.event.Event.{Event};
-ghost use Rattle.mu_model.specs.Allowed.{Allowed};
 ghost use Rattle.mu_model.specs.Contents.{IsConfig, row_count};
 ghost use Rattle.mu_model.specs.Knowledge.{applied, has_word, known};
 ghost use Rattle.mu_model.specs.Parts.{IsPossible};
 ghost use Rattle.mu_knowledge.specs.HeldRows.{StandsForHeldRows};
 ghost use Rattle.mu_follow.specs.CatchingUp.{catch_up_due, entry_due, lacked_word_of, lacked_word_due, words_had as words_had_of};
-ghost use Rattle.mu_follow.specs.Due.{IsReplay, first_word_of};
-ghost use Rattle.mu_follow.specs.Follow.{StandsForFollow};
+ghost use Rattle.mu_follow.specs.Due.{first_word_of};
+ghost use Rattle.mu_follow.specs.Follow.{MayReplay, Plans, StandsForFollow};
 
 use crate::follow::{Follow, missing_row};
 use mu_knowledge::HeldRows;
@@ -50,11 +49,8 @@ impl Follow {
     /// it doesn't have in full, else a look at the next position of its own log, if it is decided.
     pub fn catching_up(&self) -> Option<Verb>
         requires config { IsConfig self.now.config }
-        ensures exact { (c : Config) → (r : ℕ) → (mine : List Event) → IsPossible c r mine
-            → StandsForFollow c r mine self.now → result ≡ catch_up_due c r mine }
-        ensures allowed { (c : Config) → (r : ℕ) → (mine : List Event) → IsPossible c r mine
-            → length mine < c.budget → StandsForFollow c r mine self.now
-            → IfSome result (λ verb. Allowed c r mine verb × IsReplay false verb) }
+        ensures exact { Plans self.now catch_up_due result }
+        ensures allowed { MayReplay self.now false result }
     {
         self.reading_on()
     }
@@ -62,8 +58,7 @@ impl Follow {
     /// The same, part by part.
     fn reading_on(&self) -> Option<Verb>
         requires config { IsConfig self.now.config }
-        ensures { (c : Config) → (r : ℕ) → (mine : List Event) → IsPossible c r mine
-            → StandsForFollow c r mine self.now → result ≡ catch_up_due c r mine }
+        ensures { Plans self.now catch_up_due result }
     {
         match self.lacked() {
             Some(verb) => Some(verb),
@@ -85,8 +80,7 @@ impl Follow {
     /// The first word of the next row, or a look at the next position.
     fn next_to_read(&self) -> Option<Verb>
         requires config { IsConfig self.now.config }
-        ensures { (c : Config) → (r : ℕ) → (mine : List Event) → IsPossible c r mine
-            → StandsForFollow c r mine self.now → result ≡ entry_due c r mine }
+        ensures { Plans self.now entry_due result }
     {
         match self.next_row() {
             Some(verb) => Some(verb),
@@ -97,10 +91,8 @@ impl Follow {
     /// The first word of a row of the first entry that the replica doesn't have in full.
     fn next_row(&self) -> Option<Verb>
         requires config { IsConfig self.now.config }
-        ensures { (c : Config) → (r : ℕ) → (mine : List Event) → IsPossible c r mine
-            → StandsForFollow c r mine self.now
-            → result ≡ first_word_of c r mine
-            (slice_get (known c r mine) (length (applied c r mine))) }
+        ensures { Plans self.now (λ c r mine. first_word_of c r mine
+            (slice_get (known c r mine) (length (applied c r mine)))) result }
     {
         match self.knowing.known().get(self.rows.applied_length()) {
             Some(v) => missing_row(&self.config, &self.rows, *v),

@@ -5,7 +5,7 @@ ghost use Rattle.mu_model.specs.declared.config.Config.{Config};
 ghost use Rattle.mu_model.specs.declared.config.Row.{Row as SomeRow};
 ghost use Rattle.mu_model.specs.Contents.{IsConfig, includes, row_count, rows_in, rows_of};
 ghost use Rattle.mu_model.specs.Histories.{all_below};
-ghost use Rattle.mu_follow.specs.Completion.{AreEntries, HasRoomForMark, HoldsCompletion, IsFirstMissing, MarksRows, full_of};
+ghost use Rattle.mu_follow.specs.Completion.{AreEntries, CountsTo, HasRoomForMark, HoldsCompletion, IsFirstMissing, MarksRows, full_of};
 
 use mu_model::{Config, NoMemory, PAYLOADS, row_rest, stands_for_batch};
 use std::alloc::Global;
@@ -139,10 +139,7 @@ impl Completion {
     /// Counts the first `applied` entries of the values.
     #[inline(always)]
     pub fn take(&mut self, config: &Config, values: &[u16], applied: usize)
-        ensures { IsConfig config.now → length values.now ≤ 65536 → applied ≤ length values.now
-            → self.old.counted ≤ applied
-            → HoldsCompletion config.now (take self.old.counted values.now) self.old
-            → HoldsCompletion config.now (take applied values.now) self.new }
+        ensures { CountsTo config.now values.now applied self.old self.new }
     {
         if self.counted < applied {
             self.count_to(config, values, applied);
@@ -152,10 +149,7 @@ impl Completion {
     /// The same, entry by entry: called only if there are some that weren't counted.
     #[inline(never)]
     fn count_to(&mut self, config: &Config, values: &[u16], applied: usize)
-        ensures { IsConfig config.now → length values.now ≤ 65536 → applied ≤ length values.now
-            → self.old.counted ≤ applied
-            → HoldsCompletion config.now (take self.old.counted values.now) self.old
-            → HoldsCompletion config.now (take applied values.now) self.new }
+        ensures { CountsTo config.now values.now applied self.old self.new }
     {
         while self.counted < applied && self.counted < values.len() && self.counted < 65_536 {
             self.count(config, values[self.counted]);

@@ -1,13 +1,11 @@
 //! What one replica knows and does as a replayer.
-ghost use Rattle.std.specs.Prelude.{IfOk, IfSome, List, None, Some, [], if◌then◌else◌, length, map, not, vec_capacity, ℕ, ◌%◌, ◌*◌, ◌+◌, ◌-◌, ◌/◌, ◌<◌, ◌==◌, ◌≡◌, ◌≤◌};
+ghost use Rattle.std.specs.Prelude.{IfOk, List, None, Some, [], if◌then◌else◌, length, map, not, vec_capacity, ℕ, ◌%◌, ◌*◌, ◌+◌, ◌-◌, ◌/◌, ◌<◌, ◌==◌, ◌≡◌, ◌≤◌};
 ghost use Rattle.std.specs.List.{slice_get};
 ghost use Rattle.mu_model.specs.declared.config.Config.{Config};
 ghost use Rattle.mu_model.specs.declared.event.Event.{Event};
-ghost use Rattle.mu_model.specs.Allowed.{Allowed};
 ghost use Rattle.mu_model.specs.Contents.{IsConfig, includes, row_count, rows_in};
 ghost use Rattle.mu_model.specs.Ends.{full_length, is_full, outrun};
 ghost use Rattle.mu_model.specs.Knowledge.{applied, commits, has_row, known};
-ghost use Rattle.mu_model.specs.Parts.{IsPossible};
 ghost use Rattle.mu_model.specs.Regions.{region_head};
 ghost use Rattle.mu_model.specs.Room.{reserve};
 ghost use Rattle.mu_model.specs.Scores.{least_below};
@@ -17,8 +15,9 @@ ghost use Rattle.mu_knowledge.specs.KnownLog.{StandsForKnownLog};
 ghost use Rattle.mu_knowledge.specs.RowWords.{StandsForRowWords};
 ghost use Rattle.mu_knowledge.specs.KnownLog.{HoldsValues};
 ghost use Rattle.mu_knowledge.specs.Commits.{pair_of};
-ghost use Rattle.mu_follow.specs.Due.{IsReplay, ahead_due, first_word_of, fuo_due, head_due, look_due, next_due, next_word_of, other_head_due, other_of, raise_due, replay_due, row_under_way, word_due};
-ghost use Rattle.mu_follow.specs.Follow.{HoldsFollow, StandsForFollow};
+ghost use Rattle.mu_follow.specs.Due.{ahead_due, first_word_of, fuo_due, head_due, look_due, next_due, next_word_of, other_head_due, other_of, raise_due, replay_due, row_under_way, word_due};
+ghost use Rattle.mu_knowledge.specs.Telling.{Tells};
+ghost use Rattle.mu_follow.specs.Follow.{HoldsFollow, MayReplay, Plans, StandsForFollow};
 ghost use Rattle.mu_follow.specs.Published.{head_heard};
 
 use crate::completion::Completion;
@@ -182,8 +181,7 @@ impl Follow {
 
     /// How many events there were.
     pub fn steps(&self) -> u32
-        ensures { (c : Config) → (r : ℕ) → (mine : List Event) → StandsForFollow c r mine self.now
-            → result ≡ length mine }
+        ensures { Tells StandsForFollow self.now (λ c r mine. length mine) result }
     {
         self.steps
     }
@@ -207,24 +205,22 @@ impl Follow {
     /// How many known values the replica has in full, before the first that it doesn't have in
     /// full.
     pub fn applied_count(&self) -> usize
-        ensures { (c : Config) → (r : ℕ) → (mine : List Event) → StandsForFollow c r mine self.now
-            → result ≡ length (applied c r mine) }
+        ensures { Tells StandsForFollow self.now (λ c r mine. length (applied c r mine)) result }
     {
         self.rows.applied_length()
     }
 
     /// What the replica committed, in order.
     pub fn commits(&self) -> &[Commit]
-        ensures { (c : Config) → (r : ℕ) → (mine : List Event) → StandsForFollow c r mine self.now
-            → map pair_of result.now ≡ commits c r mine }
+        ensures { Tells StandsForFollow self.now commits (map pair_of result.now) }
     {
         self.commits.as_slice()
     }
 
     /// How many of the applied entries hold every command, if they do.
     pub fn full_count(&self) -> Option<usize>
-        ensures { (c : Config) → (r : ℕ) → (mine : List Event) → StandsForFollow c r mine self.now
-            → result ≡ (if is_full c r mine then Some (full_length c r mine) else None) }
+        ensures { Tells StandsForFollow self.now
+            (λ c r mine. if is_full c r mine then Some (full_length c r mine) else None) result }
     {
         self.completion.full()
     }
@@ -240,8 +236,7 @@ impl Follow {
 
     /// The replica's own head.
     pub fn own_head(&self) -> u16
-        ensures { (c : Config) → (r : ℕ) → (mine : List Event) → StandsForFollow c r mine self.now
-            → result ≡ region_head r mine }
+        ensures { Tells StandsForFollow self.now (λ c r mine. region_head r mine) result }
     {
         self.heads.own()
     }
@@ -258,8 +253,7 @@ impl Follow {
     /// The region and the position of the first look at what the replica still had to read that
     /// found the place used again.
     pub fn outrun(&self) -> Option<(u8, u16)>
-        ensures { (c : Config) → (r : ℕ) → (mine : List Event) → StandsForFollow c r mine self.now
-            → result ≡ outrun c r mine }
+        ensures { Tells StandsForFollow self.now outrun result }
     {
         self.outrun
     }
@@ -268,12 +262,9 @@ impl Follow {
     /// leader while the replica leads.
     pub fn due(&self, place: u8, leading: bool) -> Option<Verb>
         requires config { IsConfig self.now.config }
-        ensures exact { (c : Config) → (r : ℕ) → (mine : List Event) → IsPossible c r mine
-            → StandsForFollow c r mine self.now
-            → result ≡ replay_due c r mine self.now.progress.handed place leading }
-        ensures allowed { (c : Config) → (r : ℕ) → (mine : List Event) → IsPossible c r mine
-            → length mine < c.budget → StandsForFollow c r mine self.now
-            → IfSome result (λ verb. Allowed c r mine verb × IsReplay leading verb) }
+        ensures exact { Plans self.now
+            (λ c r mine. replay_due c r mine self.now.progress.handed place leading) result }
+        ensures allowed { MayReplay self.now leading result }
     {
         self.planned(place, leading)
     }
@@ -281,9 +272,8 @@ impl Follow {
     /// The same, part by part.
     fn planned(&self, place: u8, leading: bool) -> Option<Verb>
         requires config { IsConfig self.now.config }
-        ensures { (c : Config) → (r : ℕ) → (mine : List Event) → IsPossible c r mine
-            → StandsForFollow c r mine self.now
-            → result ≡ replay_due c r mine self.now.progress.handed place leading }
+        ensures { Plans self.now
+            (λ c r mine. replay_due c r mine self.now.progress.handed place leading) result }
     {
         if place < 3 {
             if leading { None } else { self.look(place) }
@@ -297,8 +287,7 @@ impl Follow {
     /// The verb of the first three places: the replica reads its own FUO, and looks at its own log.
     fn look(&self, place: u8) -> Option<Verb>
         requires config { IsConfig self.now.config }
-        ensures { (c : Config) → (r : ℕ) → (mine : List Event) → IsPossible c r mine
-            → StandsForFollow c r mine self.now → result ≡ look_due c r mine place }
+        ensures { Plans self.now (λ c r mine. look_due c r mine place) result }
     {
         if place == 0 {
             Some(Verb::Fuo(self.replica))
@@ -312,9 +301,8 @@ impl Follow {
     /// The verb of the next twelve places: a row is read, word by word.
     fn word(&self, k: u8) -> Option<Verb>
         requires config { IsConfig self.now.config }
-        ensures { (c : Config) → (r : ℕ) → (mine : List Event) → IsPossible c r mine
-            → StandsForFollow c r mine self.now
-            → result ≡ word_due c r mine self.now.progress.handed k }
+        ensures { Plans self.now
+            (λ c r mine. word_due c r mine self.now.progress.handed k) result }
     {
         if k == 0 {
             self.first_word()
@@ -327,9 +315,8 @@ impl Follow {
     /// head.
     fn raise_or_read(&self, place: u8) -> Option<Verb>
         requires config { IsConfig self.now.config }
-        ensures { (c : Config) → (r : ℕ) → (mine : List Event) → IsPossible c r mine
-            → StandsForFollow c r mine self.now
-            → result ≡ raise_due c r mine self.now.progress.handed place }
+        ensures { Plans self.now
+            (λ c r mine. raise_due c r mine self.now.progress.handed place) result }
     {
         if place == 15 {
             self.raise_of_fuo()
@@ -345,8 +332,7 @@ impl Follow {
     /// The first position that isn't known.
     fn end(&self) -> u16
         requires config { IsConfig self.now.config }
-        ensures { (c : Config) → (r : ℕ) → (mine : List Event) → IsPossible c r mine
-            → StandsForFollow c r mine self.now → result ≡ length (known c r mine) }
+        ensures { Plans self.now (λ c r mine. length (known c r mine)) result }
     {
         as_position(self.knowing.known().len() as u64)
     }
@@ -354,8 +340,7 @@ impl Follow {
     /// The look at its own log, one position after the next.
     fn look_ahead(&self) -> Option<Verb>
         requires config { IsConfig self.now.config }
-        ensures { (c : Config) → (r : ℕ) → (mine : List Event) → IsPossible c r mine
-            → StandsForFollow c r mine self.now → result ≡ ahead_due c r mine }
+        ensures { Plans self.now ahead_due result }
     {
         let end = self.end();
         if usize::from(end) + 2 < positions_in(&self.config) {
@@ -368,8 +353,7 @@ impl Follow {
     /// The look at the next position of its own log, if it is decided.
     pub(crate) fn look_next(&self) -> Option<Verb>
         requires config { IsConfig self.now.config }
-        ensures { (c : Config) → (r : ℕ) → (mine : List Event) → IsPossible c r mine
-            → StandsForFollow c r mine self.now → result ≡ next_due c r mine }
+        ensures { Plans self.now next_due result }
     {
         let r = self.replica;
         let end = self.end();
@@ -383,10 +367,8 @@ impl Follow {
     /// The first word of a row of the first entry that wasn't handed on.
     fn first_word(&self) -> Option<Verb>
         requires config { IsConfig self.now.config }
-        ensures { (c : Config) → (r : ℕ) → (mine : List Event) → IsPossible c r mine
-            → StandsForFollow c r mine self.now
-            → result ≡ first_word_of c r mine
-            (slice_get (known c r mine) self.now.progress.handed) }
+        ensures { Plans self.now (λ c r mine. first_word_of c r mine
+            (slice_get (known c r mine) self.now.progress.handed)) result }
     {
         match self.knowing.known().get(self.progress.handed) {
             Some(v) => missing_row(&self.config, &self.rows, *v),
@@ -396,8 +378,8 @@ impl Follow {
 
     /// The next word of the row that is being read.
     fn next_word(&self, k: u8) -> Option<Verb>
-        ensures { (c : Config) → (r : ℕ) → (mine : List Event) → StandsForFollow c r mine self.now
-            → result ≡ next_word_of k (row_under_way mine) }
+        ensures { Tells StandsForFollow self.now
+            (λ c r mine. next_word_of k (row_under_way mine)) result }
     {
         match self.progress.row {
             Some(row) => Some(Verb::ReadRow(row, k)),
@@ -408,8 +390,7 @@ impl Follow {
     /// The raise of its own FUO to the position up to which the log is filled and known.
     fn raise_of_fuo(&self) -> Option<Verb>
         requires config { IsConfig self.now.config }
-        ensures { (c : Config) → (r : ℕ) → (mine : List Event) → IsPossible c r mine
-            → StandsForFollow c r mine self.now → result ≡ fuo_due c r mine }
+        ensures { Plans self.now fuo_due result }
     {
         let r = self.replica;
         let filled = self.own_log.filled_to().min(u64::from(self.end()));
@@ -423,9 +404,8 @@ impl Follow {
     /// The raise of its own head to what is handed on and decided.
     fn raise_of_head(&self) -> Option<Verb>
         requires config { IsConfig self.now.config }
-        ensures { (c : Config) → (r : ℕ) → (mine : List Event) → IsPossible c r mine
-            → StandsForFollow c r mine self.now
-            → result ≡ head_due r mine self.now.progress.handed }
+        ensures { Plans self.now
+            (λ c r mine. head_due r mine self.now.progress.handed) result }
     {
         let head = (self.progress.handed as u64).min(self.progress.fuo);
         if u64::from(self.heads.own()) < head {
@@ -438,8 +418,7 @@ impl Follow {
     /// The read of another's head: one in each cycle, ascending and round.
     fn read_of_head(&self) -> Option<Verb>
         requires config { IsConfig self.now.config }
-        ensures { (c : Config) → (r : ℕ) → (mine : List Event) → IsPossible c r mine
-            → StandsForFollow c r mine self.now → result ≡ other_head_due c r mine }
+        ensures { Plans self.now other_head_due result }
     {
         let n = self.config.replicas;
         if n == 1 {

@@ -7,6 +7,7 @@ ghost use Rattle.mu_model.specs.declared.event.Event.{Event};
 ghost use Rattle.mu_model.specs.Contents.{row_count};
 ghost use Rattle.mu_model.specs.Knowledge.{applied};
 ghost use Rattle.mu_knowledge.specs.RowWords.{config_words, words_held};
+ghost use Rattle.mu_knowledge.specs.Telling.{KeepsStanding, Tells};
 ghost use Rattle.mu_follow.specs.Follow.{StandsForFollow};
 ghost use Rattle.mu_follow.specs.Groups.{IsSpelled, Spells, group_size};
 
@@ -69,16 +70,16 @@ impl Follow {
 
     /// The entries that were handed on to be applied, in order.
     pub fn handed_on(&self) -> &[u16]
-        ensures { (c : Config) → (r : ℕ) → (mine : List Event) → StandsForFollow c r mine self.now
-            → result.now ≡ take self.now.progress.handed (applied c r mine) }
+        ensures { Tells StandsForFollow self.now
+            (λ c r mine. take self.now.progress.handed (applied c r mine)) result.now }
     {
         first_values(self.known(), self.progress.handed)
     }
 
     /// The entries that are applied and were not handed on yet, in order.
     pub fn to_hand_on(&self) -> &[u16]
-        ensures { (c : Config) → (r : ℕ) → (mine : List Event) → StandsForFollow c r mine self.now
-            → result.now ≡ drop self.now.progress.handed (applied c r mine) }
+        ensures { Tells StandsForFollow self.now
+            (λ c r mine. drop self.now.progress.handed (applied c r mine)) result.now }
     {
         let applied = first_values(self.known(), self.rows.applied_length());
         values_after(applied, self.progress.handed)
@@ -108,9 +109,7 @@ impl Follow {
     /// Notes that the entry that was to be applied next is applied now.
     pub fn applied(&mut self)
         requires ready { self.old.progress.handed < self.old.rows.applied }
-        ensures stands { (c : Config) → (r : ℕ) → (mine : List Event)
-            → StandsForFollow c r mine self.old
-            → StandsForFollow c r mine self.new }
+        ensures stands { KeepsStanding StandsForFollow self.old self.new }
         ensures one { self.new.progress.handed ≡ self.old.progress.handed + 1 }
         ensures rows { self.new.rows ≡ self.old.rows }
         ensures config { self.new.config ≡ self.old.config }

@@ -13,7 +13,7 @@ ghost use Rattle.mu_knowledge.specs.HeldRows.{StandsForHeldRows};
 ghost use Rattle.mu_knowledge.specs.KnownLog.{StandsForKnownLog};
 ghost use Rattle.mu_follow.specs.declared.kind.Kind.{Kind};
 ghost use Rattle.mu_follow.specs.Completion.{HoldsCompletion};
-ghost use Rattle.mu_follow.specs.Follow.{AwaitsEntry, HoldsFollow, StandsForFollow, commit_of};
+ghost use Rattle.mu_follow.specs.Follow.{AwaitsEntry, HoldsFollow, KeepsPlan, LeavesEntry, StandsForFollow, Takes, TakesKind, TakesWhole, commit_of};
 ghost use Rattle.mu_follow.specs.Kinds.{kind_of as kind_of_verb, put_spot};
 
 use crate::completion::Completion;
@@ -136,17 +136,9 @@ impl Follow {
     #[inline(always)]
     fn note_by_kind(&mut self, event: &Event)
         requires config { IsConfig self.old.config }
-        ensures stands { (mine : List Event) → (n : ℕ)
-            → IsPossible self.old.config event.now.by (event.now ∷ mine)
-            → HoldsFollow self.old.config event.now.by mine n self.old
-            → commit_of self.old.config event.now.by mine event.now ≡ None
-            → HoldsFollow self.old.config event.now.by (event.now ∷ mine) n self.new }
-        ensures awaits { (mine : List Event) → (n : ℕ) → (entry : ℕ × ℕ)
-            → HoldsFollow self.old.config event.now.by mine n self.old
-            → commit_of self.old.config event.now.by mine event.now ≡ Some entry
-            → HoldsFollow self.old.config event.now.by mine n self.new }
-        ensures config { self.new.config ≡ self.old.config }
-        ensures handed { self.new.progress.handed ≡ self.old.progress.handed }
+        ensures stands { TakesWhole event.now self.old self.new }
+        ensures awaits { LeavesEntry event.now self.old self.new }
+        ensures keeps { KeepsPlan self.old self.new }
     {
         match kind_of(&event.verb) {
             Kind::Look => self.note_look(event),
@@ -162,12 +154,8 @@ impl Follow {
     #[inline(never)]
     fn note_look(&mut self, event: &Event)
         requires config { IsConfig self.old.config }
-        ensures stands { (mine : List Event) → (n : ℕ) → kind_of_verb event.now.verb ≡ Kind.Look
-            → IsPossible self.old.config event.now.by (event.now ∷ mine)
-            → HoldsFollow self.old.config event.now.by mine n self.old
-            → HoldsFollow self.old.config event.now.by (event.now ∷ mine) n self.new }
-        ensures config { self.new.config ≡ self.old.config }
-        ensures handed { self.new.progress.handed ≡ self.old.progress.handed }
+        ensures stands { TakesKind Kind.Look event.now self.old self.new }
+        ensures keeps { KeepsPlan self.old self.new }
     {
         let r = event.by;
         let before = self.knowing.known().len();
@@ -187,17 +175,10 @@ impl Follow {
 
     /// Takes a put, except for the entry that it makes known.
     fn note_put(&mut self, event: &Event)
-        ensures stands { (mine : List Event) → (n : ℕ) → kind_of_verb event.now.verb ≡ Kind.Put
-            → IsPossible self.old.config event.now.by (event.now ∷ mine)
-            → HoldsFollow self.old.config event.now.by mine n self.old
-            → commit_of self.old.config event.now.by mine event.now ≡ None
-            → HoldsFollow self.old.config event.now.by (event.now ∷ mine) n self.new }
-        ensures awaits { (mine : List Event) → (n : ℕ) → (entry : ℕ × ℕ)
-            → HoldsFollow self.old.config event.now.by mine n self.old
-            → commit_of self.old.config event.now.by mine event.now ≡ Some entry
-            → HoldsFollow self.old.config event.now.by mine n self.new }
-        ensures config { self.new.config ≡ self.old.config }
-        ensures handed { self.new.progress.handed ≡ self.old.progress.handed }
+        ensures stands { kind_of_verb event.now.verb ≡ Kind.Put
+            → TakesWhole event.now self.old self.new }
+        ensures awaits { LeavesEntry event.now self.old self.new }
+        ensures keeps { KeepsPlan self.old self.new }
     {
         match spot_of_put(event.by, self.knowing.known(), event) {
             Some(i) => self.own_log.take(None, Some(i)),
@@ -208,12 +189,8 @@ impl Follow {
     /// Takes a read or a raise of a FUO.
     fn note_fuo(&mut self, event: &Event)
         requires config { IsConfig self.old.config }
-        ensures stands { (mine : List Event) → (n : ℕ) → kind_of_verb event.now.verb ≡ Kind.Fuo
-            → IsPossible self.old.config event.now.by (event.now ∷ mine)
-            → HoldsFollow self.old.config event.now.by mine n self.old
-            → HoldsFollow self.old.config event.now.by (event.now ∷ mine) n self.new }
-        ensures config { self.new.config ≡ self.old.config }
-        ensures handed { self.new.progress.handed ≡ self.old.progress.handed }
+        ensures stands { TakesKind Kind.Fuo event.now self.old self.new }
+        ensures keeps { KeepsPlan self.old self.new }
     {
         let r = event.by;
         self.knowing.take(&self.config, r, false, event);
@@ -225,12 +202,8 @@ impl Follow {
     #[inline(always)]
     fn note_row(&mut self, event: &Event)
         requires config { IsConfig self.old.config }
-        ensures stands { (mine : List Event) → (n : ℕ) → kind_of_verb event.now.verb ≡ Kind.Row
-            → IsPossible self.old.config event.now.by (event.now ∷ mine)
-            → HoldsFollow self.old.config event.now.by mine n self.old
-            → HoldsFollow self.old.config event.now.by (event.now ∷ mine) n self.new }
-        ensures config { self.new.config ≡ self.old.config }
-        ensures handed { self.new.progress.handed ≡ self.old.progress.handed }
+        ensures stands { TakesKind Kind.Row event.now self.old self.new }
+        ensures keeps { KeepsPlan self.old self.new }
     {
         match event.verb {
             Verb::WriteRow(row, word, x) => self.note_written(event.by, row, word, x),
@@ -244,12 +217,8 @@ impl Follow {
     fn note_written(&mut self, r: u8, row: u16, word: u8, x: u64)
         requires config { IsConfig self.old.config }
         ensures stands { (mine : List Event) → (n : ℕ) → (e : Event)
-            → e.verb ≡ Verb.WriteRow row word x
-            → IsPossible self.old.config r (e ∷ mine)
-            → HoldsFollow self.old.config r mine n self.old
-            → HoldsFollow self.old.config r (e ∷ mine) n self.new }
-        ensures config { self.new.config ≡ self.old.config }
-        ensures handed { self.new.progress.handed ≡ self.old.progress.handed }
+            → e.verb ≡ Verb.WriteRow row word x → Takes r mine n e self.old self.new }
+        ensures keeps { KeepsPlan self.old self.new }
     {
         self.words.note_written(row, word, x);
         self.rows
@@ -268,11 +237,8 @@ impl Follow {
         requires config { IsConfig self.old.config }
         ensures stands { (r : ℕ) → (mine : List Event) → (n : ℕ) → (e : Event)
             → e.verb ≡ Verb.ReadRow v word → e.answer ≡ Answer.Number x
-            → IsPossible self.old.config r (e ∷ mine)
-            → HoldsFollow self.old.config r mine n self.old
-            → HoldsFollow self.old.config r (e ∷ mine) n self.new }
-        ensures config { self.new.config ≡ self.old.config }
-        ensures handed { self.new.progress.handed ≡ self.old.progress.handed }
+            → Takes r mine n e self.old self.new }
+        ensures keeps { KeepsPlan self.old self.new }
     {
         self.words.note_read(v, word, x);
         self.rows
@@ -291,8 +257,7 @@ impl Follow {
         ensures stands { (mine : List Event) → (n : ℕ) → kind_of_verb event.now.verb ≡ Kind.Head
             → HoldsFollow self.old.config event.now.by mine n self.old
             → HoldsFollow self.old.config event.now.by (event.now ∷ mine) n self.new }
-        ensures config { self.new.config ≡ self.old.config }
-        ensures handed { self.new.progress.handed ≡ self.old.progress.handed }
+        ensures keeps { KeepsPlan self.old self.new }
     {
         self.heads.note(event.by, event);
     }

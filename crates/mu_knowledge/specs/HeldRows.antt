@@ -6,7 +6,7 @@ use Rattle.mu_model.specs.declared.config.Config.{Config}
 use Rattle.mu_model.specs.declared.event.Event.{Event}
 use Rattle.mu_model.specs.declared.event.Verb.{Verb}
 use Rattle.mu_model.specs.Contents.{row_count}
-use Rattle.mu_model.specs.Knowledge.{applied, has_word, wrote}
+use Rattle.mu_model.specs.Knowledge.{applied, has_row, has_word, wrote}
 use Rattle.mu_knowledge.specs.declared.held_rows.HeldRows.{HeldRows}
 
 -- the place of word k of the row of the payload number v in the table of all rows
@@ -22,6 +22,12 @@ AreThere rows is_there table =
 -- which words of all rows r has
 abbrev pub HasWords : Config → ℕ → List Event → List Bool → Type 0
 HasWords c r mine got = AreThere (row_count c) (λ v k. has_word r v k mine) got
+
+-- it is told whether the row of v is there, with all its words
+abbrev pub TellsRow : ℕ → HeldRows → Bool → Type 0
+TellsRow v state told =
+    (c : Config) → (r : ℕ) → (mine : List Event) → v / 4096 < 7 → v % 4096 < row_count c
+    → HasWords c r mine state.got.items → told ≡ has_row r v mine
 
 -- which words of its own rows r has written
 abbrev pub WroteWords : Config → ℕ → List Event → List Bool → Type 0

@@ -1,16 +1,18 @@
 -- stands for (known log), telling verb: the state of what replica r has learnt stands for its events,
 -- of which all but looks, puts of entries and reads of FUOs leave it as it was.
-use Rattle.std.specs.Prelude.{Bool, List, None, Some, false, length, true, vec_capacity, ℕ, ◌+◌, ◌<◌, ◌≡◌, ◌≤◌}
+use Rattle.std.specs.Prelude.{Bool, List, None, Some, false, length, true, vec_capacity, ℕ, ◌+◌, ◌<◌, ◌∷◌, ◌≡◌, ◌≤◌}
 use Rattle.std.specs.declared.option.Option.{Option}
 use Rattle.std.specs.List.{slice_get}
 use Rattle.mu_model.specs.declared.config.Config.{Config}
 use Rattle.mu_model.specs.declared.event.Event.{Event}
 use Rattle.mu_model.specs.declared.event.Verb.{Verb}
-use Rattle.mu_model.specs.Contents.{command_count, marked, row_count, rows_in}
+use Rattle.mu_model.specs.Contents.{IsConfig, command_count, marked, row_count, rows_in}
 use Rattle.mu_model.specs.Histories.{has}
 use Rattle.mu_model.specs.Knowledge.{entry_seen, greatest_fuo_read, is_accepted_by_all, known}
+use Rattle.mu_model.specs.Parts.{IsPossible}
 use Rattle.mu_model.specs.Room.{reserve}
 use Rattle.mu_knowledge.specs.Offers.{StandsForClientRows}
+use Rattle.mu_knowledge.specs.Telling.{TakesEvent}
 use Rattle.mu_knowledge.specs.declared.known_log.KnownLog.{KnownLog}
 
 -- for a put at position n the flag tells whether every member has taken it in the leadership, which
@@ -58,6 +60,18 @@ pub record StandsForKnownLog (c : Config) (r : ℕ) (mine : List Event)
   pub fuos : ReadsFuos r mine state.fuos
   pub positions : length state.seen.items ≡ row_count c + reserve c + 1
   pub seen : SeesEntries r mine state.seen.items
+
+-- this holds of any values that the state holds, for a client that there can be
+abbrev pub OfClient : Config → ℕ → KnownLog → (List ℕ → Type 0) → Type 0
+OfClient c client state holds =
+    (values : List ℕ) → IsConfig c → client < 256 → HoldsValues c values state → holds values
+
+-- the state takes an event of r, with what the flag tells of it
+abbrev pub TakesAccepted : Config → ℕ → Bool → Event → KnownLog → KnownLog → Type 0
+TakesAccepted c r accepted e before after =
+    (mine : List Event) → IsConfig c → IsPossible c r (e ∷ mine)
+    → TellsAccepted c r (e ∷ mine) (length (known c r mine)) e.verb accepted
+    → TakesEvent StandsForKnownLog c r mine e before after
 
 -- there is room for one row more, and for its position
 pub record HasRoomForRow (c : Config) (state : KnownLog) : Type 0 where

@@ -4,3 +4,4 @@ pub mod HeldRows
 pub mod KnownLog
 pub mod Offers
 pub mod RowWords
+pub mod Telling

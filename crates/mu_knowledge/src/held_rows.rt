@@ -1,15 +1,14 @@
 //! Which rows a replica has written or read, and what it has applied.
 ghost use Rattle.std.specs.Prelude.{IfOk, List, Some, [], length, replicate, ℕ, Bool, ◌%◌, ◌&&◌, ◌*◌, ◌+◌, ◌/◌, ◌<◌, ◌==◌, ◌||◌, ◌∷◌, ◌≡◌, ◌≤◌, false};
-ghost use Rattle.mu_model.specs.Growing.{with_more};
 ghost use Rattle.mu_model.specs.declared.config.Config.{Config};
-ghost use Rattle.mu_model.specs.declared.config.Row.{Row as SomeRow};
 ghost use Rattle.mu_model.specs.declared.event.Event.{Event};
 ghost use Rattle.mu_model.specs.declared.event.Verb.{Verb};
 ghost use Rattle.mu_model.specs.Contents.{IsConfig, row_count};
 ghost use Rattle.mu_model.specs.Histories.{all_below};
 ghost use Rattle.mu_model.specs.Knowledge.{applied, fetched_prefix, has_entry, has_row, has_word, known, wrote, wrote_batch};
 ghost use Rattle.mu_model.specs.Parts.{IsPossible};
-ghost use Rattle.mu_knowledge.specs.HeldRows.{AreThere, HasRoomForMarks, HasWords, StandsForHeldRows, IsOfRows, WroteWords, is_of_row, row_named, word_place};
+ghost use Rattle.mu_knowledge.specs.HeldRows.{AreThere, HasRoomForMarks, HasWords, IsOfRows, StandsForHeldRows, TellsRow, WroteWords, is_of_row, row_named, word_place};
+ghost use Rattle.mu_knowledge.specs.Telling.{GetsRow, KeepsStanding, TakesEvent, Tells};
 
 use crate::tables::add_marks;
 use mu_model::{Config, Event, NoMemory, PAYLOADS, Verb, row_rest, stands_for_batch};
@@ -97,8 +96,7 @@ impl HeldRows {
 
     /// Makes room for the words of one row more. Takes memory.
     pub fn make_room(&mut self) -> Result<(), NoMemory>
-        ensures keeps { (c : Config) → (r : ℕ) → (mine : List Event)
-            → StandsForHeldRows c r mine self.old → StandsForHeldRows c r mine self.new }
+        ensures keeps { KeepsStanding StandsForHeldRows self.old self.new }
         ensures room { IfOk result (λ done. (c : Config) → (r : ℕ) → (mine : List Event)
             → IsConfig c → StandsForHeldRows c r mine self.old → HasRoomForMarks c self.new) }
     {
@@ -109,10 +107,7 @@ impl HeldRows {
 
     /// Takes the last row of the configuration, which came after all others. Takes no memory.
     pub fn add_last(&mut self, config: &Config)
-        ensures { (c : Config) → (row : SomeRow) → (r : ℕ) → (mine : List Event) → IsConfig c
-            → IsConfig config.now → config.now ≡ with_more c (row ∷ []) → IsPossible c r mine
-            → HasRoomForMarks c self.old → StandsForHeldRows c r mine self.old
-            → StandsForHeldRows config.now r mine self.new }
+        ensures { GetsRow StandsForHeldRows HasRoomForMarks config.now self.old self.new }
     {
         let rows = config.rows.len().saturating_sub(1);
         add_marks(&mut self.written, rows, ROW_WORDS);
@@ -135,9 +130,7 @@ impl HeldRows {
     /// so the last one is asked for first.
     #[tactic(auto, using(mu_model::proofs::Scans::all_more))]
     pub fn has_row(&self, v: usize) -> bool
-        ensures { (c : Config) → (r : ℕ) → (mine : List Event) → v / 4096 < 7
-            → v % 4096 < row_count c
-            → HasWords c r mine self.now.got.items → result ≡ has_row r v mine }
+        ensures { TellsRow v self.now result }
     {
         self.has_word(v, LAST_WORD) && self.has_all_words(v)
     }
@@ -145,9 +138,7 @@ impl HeldRows {
     /// The same, word by word.
     #[tactic(auto, using(mu_model::proofs::Scans::all_more))]
     fn has_all_words(&self, v: usize) -> bool
-        ensures { (c : Config) → (r : ℕ) → (mine : List Event) → v / 4096 < 7
-            → v % 4096 < row_count c
-            → HasWords c r mine self.now.got.items → result ≡ has_row r v mine }
+        ensures { TellsRow v self.now result }
     {
         let mut all = true;
         for k in 0..12u8 {
@@ -221,8 +212,7 @@ impl HeldRows {
         ensures { (mine : List Event) → IsConfig config.now
             → IsPossible config.now r (event.now ∷ mine)
             → known_after.now ≡ known config.now r (event.now ∷ mine)
-            → StandsForHeldRows config.now r mine self.old
-            → StandsForHeldRows config.now r (event.now ∷ mine) self.new }
+            → TakesEvent StandsForHeldRows config.now r mine event.now self.old self.new }
     {
         match event.verb {
             Verb::WriteRow(row, word, _) => self.note_written(config, r, known_after, row, word),
@@ -239,8 +229,7 @@ impl HeldRows {
         ensures { (mine : List Event) → (e : Event) → (x : ℕ) → IsConfig config.now
             → e.verb ≡ Verb.WriteRow row word x → IsPossible config.now r (e ∷ mine)
             → known_after.now ≡ known config.now r (e ∷ mine)
-            → StandsForHeldRows config.now r mine self.old
-            → StandsForHeldRows config.now r (e ∷ mine) self.new }
+            → TakesEvent StandsForHeldRows config.now r mine e self.old self.new }
     {
         let v = usize::from(r) * 4096 + usize::from(row);
         mark_written(&mut self.written, row, word);
@@ -253,8 +242,7 @@ impl HeldRows {
         ensures { (r : ℕ) → (mine : List Event) → (e : Event) → IsConfig config.now
             → e.verb ≡ Verb.ReadRow v word → IsPossible config.now r (e ∷ mine)
             → known_after.now ≡ known config.now r (e ∷ mine)
-            → StandsForHeldRows config.now r mine self.old
-            → StandsForHeldRows config.now r (e ∷ mine) self.new }
+            → TakesEvent StandsForHeldRows config.now r mine e self.old self.new }
     {
         mark(&mut self.got, usize::from(v), word);
         self.advance(config, known_after, usize::from(v));
@@ -265,8 +253,7 @@ impl HeldRows {
     pub fn pass(&mut self, config: &Config, known_after: &[u16])
         ensures { (r : ℕ) → (mine : List Event) → (e : Event) → IsConfig config.now
             → is_of_row e.verb ≡ false → known_after.now ≡ known config.now r (e ∷ mine)
-            → StandsForHeldRows config.now r mine self.old
-            → StandsForHeldRows config.now r (e ∷ mine) self.new }
+            → TakesEvent StandsForHeldRows config.now r mine e self.old self.new }
     {
         let applied = self.applied;
         self.applied = self.front_from(config, known_after, applied);
@@ -323,8 +310,7 @@ impl HeldRows {
 
     /// How many of the known values the replica has applied.
     pub fn applied_length(&self) -> usize
-        ensures { (c : Config) → (r : ℕ) → (mine : List Event) → StandsForHeldRows c r mine self.now
-            → result ≡ length (applied c r mine) }
+        ensures { Tells StandsForHeldRows self.now (λ c r mine. length (applied c r mine)) result }
     {
         self.applied
     }

@@ -1,17 +1,15 @@
 //! What a replica has learnt.
 ghost use Rattle.std.specs.List.{slice_get};
-ghost use Rattle.mu_model.specs.Growing.{with_more};
-ghost use Rattle.mu_model.specs.declared.config.Row.{Row as SomeRow};
 ghost use Rattle.std.specs.Prelude.{false, IfOk, None, if◌then◌else◌, List, Some, [], length, replicate, vec_capacity, ℕ, ◌%◌, ◌++◌, ◌+◌, ◌<◌, ◌==◌, ◌||◌, ◌∷◌, ◌≡◌, ◌≤◌, take};
 ghost use Rattle.mu_model.specs.declared.config.Config.{Config};
 ghost use Rattle.mu_model.specs.declared.event.Event.{Event};
 ghost use Rattle.mu_model.specs.Contents.{IsConfig, client_of, command_count, marked, row_count, rows_in, rows_of};
 ghost use Rattle.mu_model.specs.Histories.{has};
 ghost use Rattle.mu_model.specs.Knowledge.{entry_seen, greatest_fuo_read, grown, is_known_decided, known, learnt_by};
-ghost use Rattle.mu_model.specs.Parts.{IsPossible};
 ghost use Rattle.mu_model.specs.Room.{reserve};
 ghost use Rattle.mu_knowledge.specs.Offers.{IsNextRow, NamesRow, batch_of, clients_below};
-ghost use Rattle.mu_knowledge.specs.KnownLog.{CountsCommands, HasRoomForRow, StandsForKnownLog, HoldsValues, IsPlaced, MarksReplicas, ReadsFuos, SeesEntries, TellsAccepted, is_telling};
+ghost use Rattle.mu_knowledge.specs.KnownLog.{CountsCommands, HasRoomForRow, StandsForKnownLog, HoldsValues, IsPlaced, MarksReplicas, OfClient, ReadsFuos, SeesEntries, TakesAccepted, TellsAccepted, is_telling};
+ghost use Rattle.mu_knowledge.specs.Telling.{GetsRow, Tells};
 
 use crate::client_rows::ClientRows;
 use mu_model::{
@@ -203,10 +201,7 @@ impl KnownLog {
 
     /// Takes the last row of the configuration, which came after all others. Takes no memory.
     pub fn add_last(&mut self, config: &Config)
-        ensures { (c : Config) → (row : SomeRow) → (r : ℕ) → (mine : List Event) → IsConfig c
-            → IsConfig config.now → config.now ≡ with_more c (row ∷ []) → IsPossible c r mine
-            → HasRoomForRow c self.old → StandsForKnownLog c r mine self.old
-            → StandsForKnownLog config.now r mine self.new }
+        ensures { GetsRow StandsForKnownLog HasRoomForRow config.now self.old self.new }
     {
         self.by_client.add_last(config);
         push_within(&mut self.seen, false);
@@ -214,8 +209,7 @@ impl KnownLog {
 
     /// Whether the replica `r` saw an entry at position `i` of its own region.
     pub fn has_seen(&self, i: usize) -> bool
-        ensures { (c : Config) → (r : ℕ) → (mine : List Event) → StandsForKnownLog c r mine self.now
-            → result ≡ has (entry_seen r r i) mine }
+        ensures { Tells StandsForKnownLog self.now (λ c r mine. has (entry_seen r r i) mine) result }
     {
         match self.seen.get(i) {
             None => false,
@@ -296,12 +290,7 @@ impl KnownLog {
     /// that is not over. Takes no memory.
     #[inline(always)]
     pub fn take(&mut self, config: &Config, r: u8, accepted: bool, event: &Event)
-        ensures { (mine : List Event) → IsConfig config.now
-            → IsPossible config.now r (event.now ∷ mine)
-            → TellsAccepted config.now r (event.now ∷ mine) (length (known config.now r mine))
-            event.now.verb accepted
-            → StandsForKnownLog config.now r mine self.old
-            → StandsForKnownLog config.now r (event.now ∷ mine) self.new }
+        ensures { TakesAccepted config.now r accepted event.now self.old self.new }
     {
         if !is_telling(&event.verb) {
             return;
@@ -312,12 +301,7 @@ impl KnownLog {
     /// Takes an event that may tell something.
     #[inline(never)]
     fn take_told(&mut self, config: &Config, r: u8, accepted: bool, event: &Event)
-        ensures { (mine : List Event) → IsConfig config.now
-            → IsPossible config.now r (event.now ∷ mine)
-            → TellsAccepted config.now r (event.now ∷ mine) (length (known config.now r mine))
-            event.now.verb accepted
-            → StandsForKnownLog config.now r mine self.old
-            → StandsForKnownLog config.now r (event.now ∷ mine) self.new }
+        ensures { TakesAccepted config.now r accepted event.now self.old self.new }
     {
         let learnt = self.learnt(r, accepted, event);
         self.learn(config, learnt);
@@ -327,8 +311,7 @@ impl KnownLog {
 
     /// The values that are known, in order.
     pub fn known(&self) -> &[u16]
-        ensures { (c : Config) → (r : ℕ) → (mine : List Event) → StandsForKnownLog c r mine self.now
-            → result.now ≡ known c r mine }
+        ensures { Tells StandsForKnownLog self.now known result.now }
     {
         self.values.as_slice()
     }
@@ -365,16 +348,13 @@ impl KnownLog {
 
     /// The row of the next batch of the client that isn't known, if there is one. Looks at one row.
     pub fn next_batch(&self, config: &Config, client: u16) -> Option<u16>
-        ensures is { (values : List ℕ) → IsConfig config.now → client < 256
-            → HoldsValues config.now values self.now
-            → result ≡ batch_of config.now values client }
-        ensures named { (values : List ℕ) → IsConfig config.now → client < 256
-            → HoldsValues config.now values self.now
-            → NamesRow result (λ j. IsNextRow config.now values j) }
-        ensures none { (values : List ℕ) → IsConfig config.now → client < 256
-            → HoldsValues config.now values self.now
-            → result ≡ None → (j : ℕ) → client_of config.now j ≡ client
-            → IsNextRow config.now values j → ⊥ }
+        ensures is { OfClient config.now client self.now
+            (λ values. result ≡ batch_of config.now values client) }
+        ensures named { OfClient config.now client self.now
+            (λ values. NamesRow result (λ j. IsNextRow config.now values j)) }
+        ensures none { OfClient config.now client self.now
+            (λ values. result ≡ None → (j : ℕ) → client_of config.now j ≡ client
+            → IsNextRow config.now values j → ⊥) }
     {
         self.by_client
             .batch_after(config, client, self.count_at(client))
@@ -392,8 +372,8 @@ impl KnownLog {
 
     /// How many commands of the client are known.
     pub fn count_of(&self, client: u8) -> u16
-        ensures { (c : Config) → (r : ℕ) → (mine : List Event) → StandsForKnownLog c r mine self.now
-            → result ≡ command_count c client (known c r mine) }
+        ensures { Tells StandsForKnownLog self.now
+            (λ c r mine. command_count c client (known c r mine)) result }
     {
         self.count_at(u16::from(client))
     }

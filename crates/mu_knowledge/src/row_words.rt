@@ -10,6 +10,7 @@ ghost use Rattle.mu_model.specs.declared.event.Verb.{Verb};
 ghost use Rattle.mu_model.specs.Contents.{IsConfig, row_count};
 ghost use Rattle.mu_knowledge.specs.HeldRows.{IsOfRows};
 ghost use Rattle.mu_knowledge.specs.RowWords.{HoldWords, StandsForRowWords, word_held, words_held};
+ghost use Rattle.mu_knowledge.specs.Telling.{KeepsStanding, TakesEvent};
 
 use crate::held_rows::ROW_WORDS;
 use crate::tables::add_words;
@@ -57,8 +58,7 @@ impl RowWords {
 
     /// Makes room for the words of one row more. Takes memory.
     pub fn make_room(&mut self) -> Result<(), NoMemory>
-        ensures keeps { (c : Config) → (r : ℕ) → (mine : List Event)
-            → StandsForRowWords c r mine self.old → StandsForRowWords c r mine self.new }
+        ensures keeps { KeepsStanding StandsForRowWords self.old self.new }
         ensures room { IfOk result (λ done. (c : Config) → (r : ℕ) → (mine : List Event)
             → StandsForRowWords c r mine self.old
             → row_count c * 12 + 12 ≤ vec_capacity self.new.words) }
@@ -82,8 +82,7 @@ impl RowWords {
     pub fn note_written(&mut self, row: u16, word: u8, x: u64)
         ensures { (c : Config) → (r : ℕ) → (mine : List Event) → (e : Event) → e.by ≡ r
             → e.verb ≡ Verb.WriteRow row word x → IsOfRows c e.verb
-            → StandsForRowWords c r mine self.old
-            → StandsForRowWords c r (e ∷ mine) self.new }
+            → TakesEvent StandsForRowWords c r mine e self.old self.new }
     {
         put(&mut self.words, row, word, x);
     }
@@ -93,8 +92,7 @@ impl RowWords {
     pub fn note_read(&mut self, v: u16, word: u8, x: u64)
         ensures { (c : Config) → (r : ℕ) → (mine : List Event) → (e : Event) → e.by ≡ r
             → e.verb ≡ Verb.ReadRow v word → e.answer ≡ Answer.Number x → IsOfRows c e.verb
-            → StandsForRowWords c r mine self.old
-            → StandsForRowWords c r (e ∷ mine) self.new }
+            → TakesEvent StandsForRowWords c r mine e self.old self.new }
     {
         put(&mut self.words, v % PAYLOADS, word, x);
     }

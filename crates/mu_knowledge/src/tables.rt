@@ -1,12 +1,11 @@
 //! Tables that grow by the places of one row.
-ghost use Rattle.std.specs.Prelude.{false, length, replicate, take, vec_capacity, ◌*◌, ◌++◌, ◌+◌, ◌≡◌, ◌≤◌};
+ghost use Rattle.std.specs.Prelude.{false};
+ghost use Rattle.mu_knowledge.specs.Telling.{AddsPlaces};
 
 /// Cuts the marks to those of the first `rows` rows, each of which has `each`, and adds those of
 /// one row more, none of them set. Takes no memory.
 pub(crate) fn add_marks(marks: &mut Vec<bool>, rows: usize, each: usize)
-    ensures { rows ≤ 1500 → each ≤ 84 → rows * each ≤ length marks.old.items
-        → rows * each + each ≤ vec_capacity marks.old
-        → marks.new.items ≡ take (rows * each) marks.old.items ++ replicate each false }
+    ensures { AddsPlaces rows each marks.old marks.new false }
 {
     let most = rows.saturating_mul(each);
     let full = most.saturating_add(each);
@@ -18,9 +17,7 @@ pub(crate) fn add_marks(marks: &mut Vec<bool>, rows: usize, each: usize)
 
 /// The same of words: those that are added are 0.
 pub(crate) fn add_words(words: &mut Vec<u64>, rows: usize, each: usize)
-    ensures { rows ≤ 1500 → each ≤ 84 → rows * each ≤ length words.old.items
-        → rows * each + each ≤ vec_capacity words.old
-        → words.new.items ≡ take (rows * each) words.old.items ++ replicate each 0 }
+    ensures { AddsPlaces rows each words.old words.new 0 }
 {
     let most = rows.saturating_mul(each);
     let full = most.saturating_add(each);

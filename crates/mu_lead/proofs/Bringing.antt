@@ -153,14 +153,7 @@ no_value values v false s u none = refl
 -- a look at another position than the first unknown one teaches nothing
 pub look_known : (c : Config) (r p i : ℕ) (answer : Answer) (mine : List Event) → i ≢ end_of c r mine → known c r (look_event r p i answer ∷ mine) ≡ known c r mine
 look_known c r p i (Answer.Entry b v) mine other = no_value (known c r mine) v (r == r) (i == length (known c r mine)) (is_known_decided r mine p i) (ne_eqb i (length (known c r mine)) other)
-look_known c r p i Answer.Done mine other = refl
-look_known c r p i Answer.Missed mine other = refl
-look_known c r p i Answer.Entered mine other = refl
-look_known c r p i (Answer.Lost f) mine other = refl
-look_known c r p i (Answer.Seen f) mine other = refl
-look_known c r p i (Answer.Number x) mine other = refl
-look_known c r p i Answer.Empty mine other = refl
-look_known c r p i Answer.Past mine other = refl
+look_known c r p i answer mine other = refl
 
 pub behind_looked : (c : Config) (r b p q i : ℕ) (answer : Answer) (mine : List Event) (up : List ℕ) (reach : List (Option ℕ)) (on : Then) → known c r (look_event r q i answer ∷ mine) ≡ known c r mine
     → Behind c r b mine up reach p on → Behind c r b (look_event r q i answer ∷ mine) up reach p on

@@ -1,7 +1,7 @@
 -- What holds at each place but rest holds with more rows at the end too.
-use Rattle.std.proofs.Common.{◌≡◌, ℕ, zero, suc, ◌*◌, ◌+◌, ◌<◌, ◌≤◌, ◌==◌, ◌&&◌, inl, inr, Bool, true, false, List, [], ◌∷◌, ◌++◌, Some, None, ap, refl, subst, sym, ◌∙◌, arith, get_or, length, length-append, true≢false}
+use Rattle.std.proofs.Common.{◌≡◌, ℕ, zero, suc, ◌*◌, ◌+◌, ◌<◌, inl, inr, Bool, true, false, List, [], ◌∷◌, ◌++◌, Some, None, ap, refl, subst, sym, ◌∙◌, arith, get_or, length, length-append, true≢false}
 use Rattle.std.specs.Prelude.{nat_lt}
-use Rattle.std.proofs.lemmas.Bool.{cases_lt, false_from_ne_true, ltb-true, ne_eqb}
+use Rattle.std.proofs.lemmas.Bool.{cases_lt, false_from_ne_true, ltb-true}
 use Rattle.std.proofs.lemmas.List.{get_or_append_left, get_or_past}
 use Rattle.mu_model.proofs.Putting.{new_met}
 use Rattle.std.specs.declared.option.Option.{Option}
@@ -9,7 +9,7 @@ use Rattle.mu_model.specs.declared.config.Config.{Config}
 use Rattle.mu_model.specs.declared.config.Row.{Row}
 use Rattle.mu_model.specs.declared.event.Event.{Event}
 use Rattle.mu_model.specs.Contents.{IsConfig, client_of, row_count}
-use Rattle.mu_model.specs.Knowledge.{known, wrote}
+use Rattle.mu_model.specs.Knowledge.{known}
 use Rattle.mu_model.specs.Parts.{IsPossible}
 use Rattle.mu_model.specs.Room.{reserve}
 use Rattle.mu_model.specs.Growing.{with_more}

@@ -33,7 +33,7 @@ mod NoteKinds
 pub mod Noted
 mod Numbering
 mod Offers
-mod Onwards
+pub mod Onwards
 pub mod Others
 mod Puts
 mod Quiet

@@ -131,14 +131,7 @@ put_apart n offer x = (
 -- nor one of a look at the first unknown position
 pub learning_quiet : (test : Note → Bool) (n : ℕ) (a : Answer) → test Note.Working ≡ false → ((i v : ℕ) → test (Note.Learnt i v) ≡ false) → test (note_of_learning n a) ≡ false
 learning_quiet test n (Answer.Entry b v) working learnt = learnt (n - 1) v
-learning_quiet test n Answer.Done working learnt = working
-learning_quiet test n Answer.Missed working learnt = working
-learning_quiet test n Answer.Entered working learnt = working
-learning_quiet test n (Answer.Lost f) working learnt = working
-learning_quiet test n (Answer.Seen f) working learnt = working
-learning_quiet test n (Answer.Number x) working learnt = working
-learning_quiet test n Answer.Empty working learnt = working
-learning_quiet test n Answer.Past working learnt = working
+learning_quiet test n a working learnt = working
 
 -- nor one of a look at a new position
 pub look_quiet : (test : Note → Bool) (i : ℕ) (s t : Bool) (v : ℕ) → test Note.Working ≡ false → ((i v : ℕ) → test (Note.Learnt i v) ≡ false) → test (if s then Note.Working else (if t then Note.Learnt i v else Note.Working)) ≡ false

@@ -1,5 +1,5 @@
 -- What the other machines do in the background leaves the rooms of the leader.
-use Rattle.std.proofs.Common.{◌≡◌, ℕ, Bool, true, false, List, ◌∷◌, refl, sym, ◌∙◌, ap, subst, true≢false}
+use Rattle.std.proofs.Common.{◌≡◌, ℕ, Bool, true, false, List, ◌∷◌, refl, sym, ◌∙◌, ap, subst, true≢false, inl, inr}
 use Rattle.mu_model.specs.declared.config.Config.{Config}
 use Rattle.mu_model.specs.declared.event.Answer.{Answer}
 use Rattle.mu_model.specs.declared.event.Event.{Event}
@@ -18,7 +18,6 @@ use Rattle.mu_pace.proofs.Away.{away_is_in_time}
 use Rattle.mu_pace.proofs.Placed.{places_lead}
 use Rattle.std.specs.Prelude.{if◌then◌else◌, is_some, not, ◌&&◌}
 use Rattle.std.specs.declared.option.Option.{Option}
-use Rattle.std.proofs.Common.{inl, inr}
 use Rattle.mu_pace.specs.Away.{IsAway, LooksBeside}
 use Rattle.mu_lead.specs.Beside.{is_beside as is_beside_leader, leads_at}
 use Rattle.mu_lead.specs.Confirming.{Fresh}

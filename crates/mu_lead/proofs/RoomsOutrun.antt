@@ -1,5 +1,5 @@
 -- A leader whose look is past at what it doesn't know is outrun: its journal ends, and its counts are in time.
-use Rattle.std.proofs.Common.{◌≡◌, ℕ, Bool, true, List, ◌∷◌, Some, None, inl, refl, subst, sym, true≢false}
+use Rattle.std.proofs.Common.{◌≡◌, ℕ, Bool, true, List, ◌∷◌, Some, None, inl, refl, subst, sym, true≢false, arith}
 use Rattle.std.specs.Prelude.{is_some}
 use Rattle.std.specs.declared.option.Option.{Option}
 use Rattle.mu_model.specs.declared.config.Config.{Config}
@@ -27,7 +27,6 @@ use Rattle.mu_lead.proofs.Bringing.{look_event}
 use Rattle.mu_lead.proofs.RoomsLearning.{past_none}
 use Rattle.mu_lead.proofs.RoomsQuiet.{IsSilent, known_look_silent, config_is_sized, steps_on}
 use Rattle.std.proofs.lemmas.Bool.{le-leb}
-use Rattle.std.proofs.Common.{arith}
 
 some_earlier : (x : ℕ × ℕ) (o : Option (ℕ × ℕ)) → is_some (earlier_or (Some x) o) ≡ true
 some_earlier x None = refl

@@ -306,14 +306,7 @@ one_more c r mine values v is = let long = ap length is in let more = length-app
 learning : (c : Config) (r p : ℕ) (mine : List Event) (up values : List ℕ) (answer : Answer) (note : Note) → is_caught_up_at c r p mine (end_of c r mine) ≡ true → values ≡ known c r (event_by r (Verb.Look p (end_of c r mine)) answer ∷ mine) → note ≡ note_of_learning (length values) answer → SaysReads c r mine up (Place.Learn p) (Verb.Look p (end_of c r mine)) answer note
 learning c r p mine up values (Answer.Entry b v) note caught told is = let grew = entry_taught c r p b v mine (caught_decided c r p mine caught) in
     look_taught c r p (end_of c r mine) v mine up (Place.Learn p) (Answer.Entry b v) note refl refl (is ∙ ap (λ n. Note.Learnt n v) (one_more c r (known c r mine) values v (told ∙ grew))) grew
-learning c r p mine up values Answer.Done note caught told is = look_idle c r p (end_of c r mine) mine up (Place.Learn p) Answer.Done note refl is refl
-learning c r p mine up values Answer.Missed note caught told is = look_idle c r p (end_of c r mine) mine up (Place.Learn p) Answer.Missed note refl is refl
-learning c r p mine up values Answer.Entered note caught told is = look_idle c r p (end_of c r mine) mine up (Place.Learn p) Answer.Entered note refl is refl
-learning c r p mine up values (Answer.Lost f) note caught told is = look_idle c r p (end_of c r mine) mine up (Place.Learn p) (Answer.Lost f) note refl is refl
-learning c r p mine up values (Answer.Seen f) note caught told is = look_idle c r p (end_of c r mine) mine up (Place.Learn p) (Answer.Seen f) note refl is refl
-learning c r p mine up values (Answer.Number x) note caught told is = look_idle c r p (end_of c r mine) mine up (Place.Learn p) (Answer.Number x) note refl is refl
-learning c r p mine up values Answer.Empty note caught told is = look_idle c r p (end_of c r mine) mine up (Place.Learn p) Answer.Empty note refl is refl
-learning c r p mine up values Answer.Past note caught told is = look_idle c r p (end_of c r mine) mine up (Place.Learn p) Answer.Past note refl is refl
+learning c r p mine up values answer note caught told is = look_idle c r p (end_of c r mine) mine up (Place.Learn p) answer note refl is refl
 
 -- what a look teaches is the entry that it showed
 learnt_value : (c : Config) (r p i n w : ℕ) (past now : List Event) (answer : Answer) → learnt_by c r past n r (Verb.Look p i) answer now ≡ Some w → (is_past answer ≡ false) × (value_seen answer ≡ w)
@@ -388,14 +381,4 @@ reads_say c r b mine old a place is h at possible = says_working c r mine old.up
 -- the note that says nothing is `Working`
 pub working_is : (note : Note) → is_working note ≡ true → note ≡ Note.Working
 working_is Note.Working is = refl
-working_is (Note.Confirmed followers) is = absurd (true≢false (sym is))
-working_is (Note.NotConfirmed named) is = absurd (true≢false (sym is))
-working_is (Note.Learnt i v) is = absurd (true≢false (sym is))
-working_is (Note.Committed i v) is = absurd (true≢false (sym is))
-working_is (Note.Adopted i v) is = absurd (true≢false (sym is))
-working_is (Note.Joined p) is = absurd (true≢false (sym is))
-working_is (Note.Aborted cause) is = absurd (true≢false (sym is))
-working_is (Note.NoRoom q h i) is = absurd (true≢false (sym is))
-working_is (Note.Resigned to) is = absurd (true≢false (sym is))
-working_is (Note.Astray p fence) is = absurd (true≢false (sym is))
-working_is Note.Idle is = absurd (true≢false (sym is))
+working_is note is = absurd (true≢false (sym is))

@@ -85,14 +85,7 @@ entry_larger (Some s) (Some n) = go (nat_lt s.number n.number)
 
 entry_sight : (a : Answer) → entry_in (sight_of a) ≡ entry_of (Some a)
 entry_sight (Answer.Entry n v) = refl
-entry_sight Answer.Done = refl
-entry_sight Answer.Missed = refl
-entry_sight Answer.Entered = refl
-entry_sight (Answer.Lost f) = refl
-entry_sight (Answer.Seen f) = refl
-entry_sight (Answer.Number x) = refl
-entry_sight Answer.Empty = refl
-entry_sight Answer.Past = refl
+entry_sight answer = refl
 
 -- the next member is looked at, or the value is picked
 pub looks_stand : (c : Config) (r b p : ℕ) (now : List Event) (t : Tables) (candidate : Option ℕ) (best : Option Sight) → Ready c r now t → p < c.replicas → Looking c r b now t.up t.reach (p + 1) candidate best

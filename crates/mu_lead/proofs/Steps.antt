@@ -92,41 +92,21 @@ goes_by c r b failed mine up reach written values verb a place config at due pos
         subst (λ y. number_told y < 4294967296) (sym x.1) (min_small c r p x.0 mine config (subst (λ y. IsPossible c r (event_by r (Verb.Min p) y ∷ mine)) x.1 (may (Verb.Min p) same)))
 
     go : (place : Place) → At c r b mine up reach written place → verb_at c b (known c r mine) up written place ≡ Some verb → GoesBy c r failed mine (event_by r verb a ∷ mine) values a place
-    go (Place.Ask p) at due = by (Verb.Ask p) refl due
-    go (Place.Confirm round p) at due = by (Verb.Fence p) refl due
-    go (Place.ReadMin p) at due = by (Verb.Min p) refl due
-    go (Place.EnterMin p) at due = by _ refl due
-    go (Place.PutMin p) at due = by (Verb.PutMin p b) refl due
-    go (Place.ReadFuo p source) at due = by (Verb.Fuo p) refl due
-    go (Place.Learn p) at due = by _ refl due
-    go (Place.WidenBehind p on) at due = by _ refl due
-    go (Place.LookBehind p on) at due = by _ refl due
-    go (Place.EnterBehind p on) at due = by _ refl due
     go (Place.PutBehind p on) at due =
         let u = get_or up p 0 in
         let v = get_or (known c r mine) u 0 in
         let put = Verb.PutSlot p u b v in
         subst Knows (same_some put verb due) (copy_known c r p u b v mine values a at.near.lacks (may put due) (told_at put due))
-    go (Place.RaiseBehind p on) at due = by _ refl due
-    go (Place.FenceBehind p on) at due = by (Verb.Fence p) refl due
-    go (Place.LateFence p) at due = by (Verb.Fence p) refl due
     go (Place.LateMin p) at due = min_is p due
-    go (Place.LateFuo p) at due = by (Verb.Fuo p) refl due
-    go (Place.LateEnter p) at due = by _ refl due
-    go (Place.LatePut p) at due = by (Verb.PutMin p b) refl due
     go (Place.ReadHead q candidate) at due = (by (Verb.Head q) refl due, subst (λ v. is_bit q failed ≡ is_failed r q (event_by r v a ∷ mine)) (same_some (Verb.Head q) verb due) (heeded q at.region))
-    go (Place.Look p i candidate best) at due = by (Verb.Look p i) refl due
-    go (Place.Write j last offer) at due = by _ refl due
-    go (Place.Enter p offer) at due = by _ refl due
     go (Place.Put p offer) at due =
         let put = Verb.PutSlot p (end_of c r mine) b offer.value in (
           told_at put due,
           subst (λ v. nat_lt (end_of c r mine) (end_of c r (event_by r v a ∷ mine)) ≡ lands_last c r (event_by r v a ∷ mine) a p) (same_some put verb due) (put_grows c r b p offer mine up reach a at.0 (may put due)),
         )
-    go (Place.Raise p) at due = by _ refl due
-    go (Place.Evidence p) at due = by (Verb.Fence p) refl due
     go Place.Outrun at due = cc
     go Place.Rest at due = cc
+    go place at due = by _ refl due
 
 -- a FUO is that of a region
 same_fuo : (p q : ℕ) → Verb.Fuo q ≡ Verb.Fuo p → q ≡ p

@@ -39,14 +39,7 @@ commit_tells i offer false is = rw is refl
 -- a put at a known position leaves what is known, however it is answered
 pub put_any : (c : Config) (r p i b v : ℕ) (answer : Answer) (mine : List Event) → i < end_of c r mine → known c r (event_by r (Verb.PutSlot p i b v) answer ∷ mine) ≡ known c r mine
 put_any c r p i b v Answer.Done mine low = put_known c r p i b v mine low
-put_any c r p i b v Answer.Missed mine low = refl
-put_any c r p i b v Answer.Entered mine low = refl
-put_any c r p i b v (Answer.Lost f) mine low = refl
-put_any c r p i b v (Answer.Seen f) mine low = refl
-put_any c r p i b v (Answer.Number x) mine low = refl
-put_any c r p i b v Answer.Empty mine low = refl
-put_any c r p i b v (Answer.Entry n w) mine low = refl
-put_any c r p i b v Answer.Past mine low = refl
+put_any c r p i b v answer mine low = refl
 
 -- a put of the offer makes it known, or nothing
 pub put_grows : (c : Config) (r b p : ℕ) (offer : Offer) (mine : List Event) (up : List ℕ) (reach : List (Option ℕ)) (a : Answer) → AtPut c r b offer.value mine up reach p → IsPossible c r (event_by r (Verb.PutSlot p (end_of c r mine) b offer.value) a ∷ mine)

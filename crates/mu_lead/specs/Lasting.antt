@@ -1,6 +1,6 @@
 -- follows, lasts, keeps next: the leader comes to the place that follows; what holds at a place
 -- holds again at the next one, whatever the answer; both are what a leader keeps with each event.
-use Rattle.std.specs.Prelude.{List, None, Some, true, ℕ, ◌<◌, ◌∷◌, ◌≡◌}
+use Rattle.std.specs.Prelude.{List, [], None, Some, true, ℕ, ◌<◌, ◌∷◌, ◌≡◌}
 use Rattle.std.specs.declared.option.Option.{Option}
 use Rattle.mu_model.specs.declared.config.Config.{Config}
 use Rattle.mu_model.specs.declared.event.Answer.{Answer}
@@ -10,6 +10,8 @@ use Rattle.mu_model.specs.Contents.{IsConfig}
 use Rattle.mu_model.specs.Knowledge.{known}
 use Rattle.mu_model.specs.Parts.{IsPossible}
 use Rattle.mu_model.specs.Stretches.{is_replication}
+use Rattle.mu_knowledge.specs.KnownLog.{HoldsValues}
+use Rattle.mu_knowledge.specs.declared.known_log.KnownLog.{KnownLog}
 use Rattle.mu_lead.specs.declared.lead.Lead.{Lead}
 use Rattle.mu_lead.specs.declared.place.Place.{Place}
 use Rattle.mu_lead.specs.Listing.{Tables, next_place}
@@ -59,6 +61,10 @@ Lasts holds =
     → holds c r (step_of c r b mine up written place a ∷ mine)
     (next_place c r b (step_of c r b mine up written place a ∷ mine) t a place)
 
+-- it holds at the place of a leader before any event
+abbrev pub HoldsFirst : (Config → ℕ → List Event → Place → Type 0) → Lead → Type 0
+HoldsFirst holds lead = holds lead.config lead.id [] lead.place
+
 -- what holds at the leader's place lasts by its step from these events, with these values known
 abbrev pub KeepsNext :
     (Config → ℕ → List Event → Place → Type 0) → List Event → Lead → List ℕ → Answer → Lead → Type 0
@@ -70,3 +76,10 @@ KeepsNext holds mine old values answer new =
     → holds old.config old.id mine old.place
     → holds old.config old.id (record { by = old.id; verb = verb; answer = answer } ∷ mine)
     new.place
+
+-- the same if the values are those of the log
+abbrev pub KeepsBy :
+    (Config → ℕ → List Event → Place → Type 0) → List Event → Lead → List ℕ → KnownLog → Answer → Lead
+    → Type 0
+KeepsBy holds mine old values log answer new =
+    HoldsValues old.config values log → KeepsNext holds mine old values answer new

@@ -17,6 +17,9 @@ use Rattle.mu_model.specs.Picks.{first_value}
 use Rattle.mu_model.specs.Placing.{fuo_read_or_raised, is_caught_up_at, is_within_ring, looked_before_entering, reaches_head, has_looked_since}
 use Rattle.mu_model.specs.Room.{last_head, reserve}
 use Rattle.mu_agree.specs.Agreement.{fuo_under, put_end}
+use Rattle.mu_knowledge.specs.Offers.{IsFirst}
+use Rattle.mu_leadership.specs.Leadership.{StandsForLeadership}
+use Rattle.mu_leadership.specs.declared.leadership.Leadership.{Leadership}
 use Rattle.mu_lead.specs.declared.place.Then.{Then}
 use Rattle.mu_lead.specs.Confirming.{HoldsGrants, IsEnteredNow}
 use Rattle.mu_pace.specs.Watches.{last_min}
@@ -24,6 +27,13 @@ use Rattle.mu_pace.specs.Watches.{last_min}
 -- the greatest number of replicas: each table of regions has as many places
 abbrev pub most_replicas : ℕ
 most_replicas = 7
+
+-- the region is the first from `from` on, below n, that passes the test on the leader's events
+abbrev pub FindsRegion :
+    Leadership → (ℕ → List Event → ℕ → Bool) → ℕ → ℕ → Option ℕ → Type 0
+FindsRegion leading test from n found =
+    (r : ℕ) → (mine : List Event) → n ≤ 7 → StandsForLeadership r mine leading
+    → IsFirst (test r mine) from n found
 
 -- the first position that r does not know
 abbrev pub end_of : Config → ℕ → List Event → ℕ

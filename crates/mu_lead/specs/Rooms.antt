@@ -125,6 +125,13 @@ RoomsAt c r mine written place = IsPlaced c r mine written place
 abbrev pub gives_up : Lead → ℕ → Bool
 gives_up l leader = (l.under_way || leads_at l.place) && nat_lt leader l.id
 
+-- what holds at the leader's place holds when it was told whom the scores name, unless it gives up
+abbrev pub KeepsTold :
+    (Config → ℕ → List Event → Place → Type 0) → List Event → Lead → ℕ → Lead → Type 0
+KeepsTold holds mine old leader new =
+    gives_up old leader ≡ false → holds old.config old.id mine old.place
+    → holds new.config new.id mine new.place
+
 -- the leader's counts have the room of its place
 abbrev pub HasRooms : List Event → Lead → Type 0
 HasRooms mine l = RoomsAt l.config l.id mine l.written.items l.place

@@ -1,6 +1,6 @@
 -- answered, step: the verb that was due to the leader was answered so; the step that it makes then:
 -- its leaderships, its number, its tables, its place and its note.
-use Rattle.std.specs.Prelude.{Bool, List, None, Some, false, is_some, nat_lt, not, true, ℕ, ◌&&◌, ◌+◌, ◌<◌, ◌^◌, ◌∷◌, ◌≡◌}
+use Rattle.std.specs.Prelude.{Bool, List, None, Some, false, is_some, nat_lt, not, true, ℕ, ◌&&◌, ◌+◌, ◌<◌, ◌^◌, ◌||◌, ◌∷◌, ◌≡◌}
 use Rattle.std.specs.declared.option.Option.{Option}
 use Rattle.mu_model.specs.declared.config.Config.{Config}
 use Rattle.mu_model.specs.declared.event.Answer.{Answer}
@@ -15,10 +15,11 @@ use Rattle.mu_leadership.specs.Leadership.{StandsForLeadership}
 use Rattle.mu_lead.specs.declared.lead.Lead.{Lead}
 use Rattle.mu_lead.specs.declared.note.Note.{Note}
 use Rattle.mu_lead.specs.declared.place.Place.{Place}
+use Rattle.mu_lead.specs.Going.{begins_at, going_after}
 use Rattle.mu_lead.specs.Journal.{WritesTo}
 use Rattle.mu_lead.specs.Lasting.{GoesTo, tables_of}
 use Rattle.mu_lead.specs.Leading.{end_of}
-use Rattle.mu_lead.specs.Listing.{Tables, member_from, number_told}
+use Rattle.mu_lead.specs.Listing.{Tables, member_from, noted_from, number_told, or_else}
 use Rattle.mu_lead.specs.Noting.{next_note}
 use Rattle.mu_lead.specs.Sets.{is_bit}
 use Rattle.mu_lead.specs.Standing.{At, HasHeeded, NumberAfter, Stands, StandsFor, known_told, verb_of}
@@ -37,6 +38,31 @@ is_calm _ = true
 abbrev pub IsRegion : Config → Option ℕ → Type 0
 IsRegion c None = Unit {0}
 IsRegion c (Some q) = q < c.replicas
+
+-- this holds of any events that the leader stands for, if the values and the log are what is known
+-- by them
+abbrev pub ByKnown :
+    Lead → List ℕ → KnownLog → (Config → ℕ → List Event → Type 0) → Type 0
+ByKnown l values log holds =
+    HoldsValues l.config values log → (now : List Event) → Stands now l
+    → values ≡ known l.config l.id now → holds l.config l.id now
+
+-- the region is found from p on, and after p, as the listing has it
+abbrev pub FindsFrom :
+    Lead → (Config → ℕ → List Event → ℕ → Option ℕ) → ℕ → Option ℕ → Type 0
+FindsFrom l of p found = (now : List Event) → Stands now l → found ≡ of l.config l.id now p
+
+abbrev pub FindsAfter :
+    Lead → (Config → ℕ → List Event → ℕ → Option ℕ) → ℕ → Option ℕ → Type 0
+FindsAfter l of p found =
+    (now : List Event) → Stands now l → p < l.config.replicas
+    → found ≡ of l.config l.id now (p + 1)
+
+-- the place of the first region whose grant is noted, or that of rest
+abbrev pub GoesToNoted : Lead → (ℕ → Place) → Place → Type 0
+GoesToNoted l there place =
+    (now : List Event) → Stands now l
+    → place ≡ or_else (noted_from l.config l.id now 0) there Place.Rest
 
 -- a put landed
 abbrev pub is_done : Answer → Bool
@@ -100,6 +126,20 @@ pub record Steps (mine : List Event) (old : Lead) (values : List ℕ) (log : Kno
       ≡ next_note old.config old.id old.number mine
       (record { by = old.id; verb = verb; answer = answer } ∷ mine)
       (tables_of old) answer old.place
+
+-- the leader makes that step of any events after which the verb was answered so; it is that of the
+-- same replica, told the same by the scores, and its leadership goes on as the verb began it and the
+-- note ends it
+pub record MakesStep (old : Lead) (values : List ℕ) (log : KnownLog) (verb : Verb)
+    (answer : Answer) (new : Lead) (note : Note) : Type 0 where
+  pub steps :
+      (mine : List Event) → IsAnswered mine old values verb answer
+      → Steps mine old values log verb answer new note
+  pub config : new.config ≡ old.config
+  pub id : new.id ≡ old.id
+  pub named : new.named ≡ old.named
+  pub failed : new.failed ≡ old.failed
+  pub going : new.under_way ≡ going_after (begins_at old.place || old.under_way) note
 
 -- what a step is written into the table of positions by: what is known, the region of a FUO, and
 -- whether a put made its entry known

@@ -10,10 +10,10 @@ ghost use Rattle.mu_lead.specs.Lasting.{tables_of};
 ghost use Rattle.mu_lead.specs.Leading.{end_of as end_of_known};
 ghost use Rattle.mu_lead.specs.Listing.{after_copy, after_fuo, after_members, after_region, bring_up, bring_up_from, farther, learn_from};
 ghost use Rattle.mu_lead.specs.Standing.{Stands};
+ghost use Rattle.mu_lead.specs.Stepping.{ByKnown};
 
 use crate::lead::Lead;
 use crate::place::{Place, Then};
-use crate::regions::next_member;
 use mu_knowledge::KnownLog;
 
 impl Lead {
@@ -35,15 +35,12 @@ impl Lead {
         known: &[u16],
         log: &KnownLog,
     ) -> Place
-        ensures { HoldsValues self.now.config known.now log.now
-            → (mine : List Event) → Stands mine self.now
-            → known.now ≡ known_of self.now.config self.now.id mine
-            → p < self.now.config.replicas
-            → result ≡ after_fuo self.now.config self.now.id mine (tables_of self.now) p
-            (farther self.now.up source p) }
+        ensures { ByKnown self.now known.now log.now
+            (λ c r now. p < c.replicas
+            → result ≡ after_fuo c r now (tables_of self.now) p (farther self.now.up source p)) }
     {
         let from = self.farther(source, p);
-        match next_member(&self.leading, p.saturating_add(1), self.config.replicas) {
+        match self.member_after(p) {
             Some(q) => Place::ReadFuo(q, Some(from)),
             None => self.learn_from(from, known, log),
         }
@@ -51,10 +48,8 @@ impl Lead {
 
     /// Learns on from the region, or goes on to bring up the members.
     pub(crate) fn learn_from(&self, source: u8, known: &[u16], log: &KnownLog) -> Place
-        ensures { HoldsValues self.now.config known.now log.now
-            → (mine : List Event) → Stands mine self.now
-            → known.now ≡ known_of self.now.config self.now.id mine
-            → result ≡ learn_from self.now.config self.now.id mine (tables_of self.now) source }
+        ensures { ByKnown self.now known.now log.now
+            (λ c r now. result ≡ learn_from c r now (tables_of self.now) source) }
     {
         if (known.len() as u64) < self.up_of(source) {
             Place::Learn(source)
@@ -82,10 +77,8 @@ impl Lead {
 
     /// Brings up the next member from `p` on that is behind, or goes on.
     pub(crate) fn bring_up_from(&self, p: u8, then: Then, known: &[u16], log: &KnownLog) -> Place
-        ensures { HoldsValues self.now.config known.now log.now
-            → (mine : List Event) → Stands mine self.now
-            → known.now ≡ known_of self.now.config self.now.id mine
-            → result ≡ bring_up_from self.now.config self.now.id mine (tables_of self.now) p then }
+        ensures { ByKnown self.now known.now log.now
+            (λ c r now. result ≡ bring_up_from c r now (tables_of self.now) p then) }
     {
         match self.next_behind(p, known) {
             Some(q) => self.bring_up(q, then),
@@ -95,10 +88,8 @@ impl Lead {
 
     /// The place after all members were brought up.
     fn after_all(&self, then: Then, known: &[u16], log: &KnownLog) -> Place
-        ensures { HoldsValues self.now.config known.now log.now
-            → (mine : List Event) → Stands mine self.now
-            → known.now ≡ known_of self.now.config self.now.id mine
-            → result ≡ after_members self.now.config self.now.id mine self.now.heads then }
+        ensures { ByKnown self.now known.now log.now
+            (λ c r now. result ≡ after_members c r now self.now.heads then) }
     {
         match then {
             Then::Late => self.late_from(0, known, log),
@@ -158,11 +149,9 @@ impl Lead {
 
     /// The place after `p` was brought up and its FUO raised.
     pub(crate) fn after_region(&self, p: u8, then: Then, known: &[u16], log: &KnownLog) -> Place
-        ensures { HoldsValues self.now.config known.now log.now
-            → (now : List Event) → Stands now self.now
-            → known.now ≡ known_of self.now.config self.now.id now
-            → p < self.now.config.replicas
-            → result ≡ after_region self.now.config self.now.id now (tables_of self.now) p then }
+        ensures { ByKnown self.now known.now log.now
+            (λ c r now. p < c.replicas
+            → result ≡ after_region c r now (tables_of self.now) p then) }
     {
         let next = p.saturating_add(1);
         match then {

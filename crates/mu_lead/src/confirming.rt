@@ -8,10 +8,11 @@ ghost use Rattle.mu_leadership.specs.Leadership.{StandsForLeadership};
 ghost use Rattle.mu_lead.specs.declared.place.Place.{Place as SomePlace};
 ghost use Rattle.mu_lead.specs.Listing.{after_round, first_member, noted_from, or_else};
 ghost use Rattle.mu_lead.specs.Standing.{NumberAfter, Stands};
+ghost use Rattle.mu_lead.specs.Stepping.{FindsAfter, FindsFrom, GoesToNoted};
 
 use crate::lead::Lead;
 use crate::place::Place;
-use crate::regions::{count_noted, next_member, next_noted};
+use crate::regions::{count_noted, next_noted};
 use mu_model::majority;
 
 impl Lead {
@@ -68,13 +69,27 @@ impl Lead {
         }
     }
 
+    /// The first region after `p` whose grant is noted.
+    #[inline(always)]
+    fn noted_after(&self, p: u8) -> Option<u8>
+        ensures { FindsAfter self.now noted_from p result }
+    {
+        self.noted_from(p.saturating_add(1))
+    }
+
+    /// The first region from `p` on whose grant is noted.
+    #[inline(always)]
+    fn noted_from(&self, p: u8) -> Option<u8>
+        ensures { FindsFrom self.now noted_from p result }
+    {
+        next_noted(&self.leading, p, self.config.replicas)
+    }
+
     /// Begins to read the minima.
     fn first_to_read(&self) -> Place
-        ensures { (now : List Event) → Stands now self.now
-            → result ≡ or_else (noted_from self.now.config self.now.id now 0) SomePlace.ReadMin
-            SomePlace.Rest }
+        ensures { GoesToNoted self.now SomePlace.ReadMin result }
     {
-        match next_noted(&self.leading, 0, self.config.replicas) {
+        match self.noted_from(0) {
             Some(q) => Place::ReadMin(q),
             None => Place::Rest,
         }
@@ -88,7 +103,7 @@ impl Lead {
             (or_else (noted_from self.now.config self.now.id now 0) SomePlace.EnterMin
             SomePlace.Rest) }
     {
-        match next_noted(&self.leading, p.saturating_add(1), self.config.replicas) {
+        match self.noted_after(p) {
             Some(q) => Place::ReadMin(q),
             None => self.first_to_enter(),
         }
@@ -96,11 +111,9 @@ impl Lead {
 
     /// Begins to put the number.
     fn first_to_enter(&self) -> Place
-        ensures { (now : List Event) → Stands now self.now
-            → result ≡ or_else (noted_from self.now.config self.now.id now 0) SomePlace.EnterMin
-            SomePlace.Rest }
+        ensures { GoesToNoted self.now SomePlace.EnterMin result }
     {
-        match next_noted(&self.leading, 0, self.config.replicas) {
+        match self.noted_from(0) {
             Some(q) => Place::EnterMin(q),
             None => Place::Rest,
         }
@@ -113,7 +126,7 @@ impl Lead {
             ≡ or_else (noted_from self.now.config self.now.id now (p + 1)) SomePlace.EnterMin
             (SomePlace.ReadFuo (first_member self.now.config self.now.id now) None) }
     {
-        match next_noted(&self.leading, p.saturating_add(1), self.config.replicas) {
+        match self.noted_after(p) {
             Some(q) => Place::EnterMin(q),
             None => Place::ReadFuo(self.first_member(), None),
         }
@@ -138,7 +151,7 @@ impl Lead {
         ensures { (now : List Event) → Stands now self.now
             → result ≡ first_member self.now.config self.now.id now }
     {
-        match next_member(&self.leading, 0, self.config.replicas) {
+        match self.member_from(0) {
             Some(q) => q,
             None => self.id,
         }

@@ -19,14 +19,14 @@ ghost use Rattle.mu_lead.specs.Confirmations.{ConfirmsAt};
 ghost use Rattle.mu_lead.specs.Elections.{ElectsAt};
 ghost use Rattle.mu_lead.specs.Evidence.{ExplainsAt};
 ghost use Rattle.mu_lead.specs.Journal.{IsWhere, PlacesNext, WritesNext};
-ghost use Rattle.mu_lead.specs.Lasting.{Follows, KeepsNext};
+ghost use Rattle.mu_lead.specs.Lasting.{Follows, HoldsFirst, KeepsBy};
 ghost use Rattle.mu_lead.specs.Raising.{RaisesAt};
 ghost use Rattle.mu_lead.specs.Resigning.{IsTold};
-ghost use Rattle.mu_lead.specs.Rooms.{HasRooms, RoomsNext, gives_up};
+ghost use Rattle.mu_lead.specs.Rooms.{HasRooms, KeepsTold, RoomsNext, gives_up};
 ghost use Rattle.mu_lead.specs.Standing.{HasHeeded, StandsFor, TakesNext, TellsFailed, TellsNext, verb_of};
 ghost use Rattle.mu_lead.specs.Going.{begins_at, going_after};
 ghost use Rattle.mu_lead.specs.Noting.{NotedNext};
-ghost use Rattle.mu_lead.specs.Stepping.{IsAnswered, Steps, is_calm as is_calm_verb};
+ghost use Rattle.mu_lead.specs.Stepping.{MakesStep, is_calm as is_calm_verb};
 ghost use Rattle.mu_lead.specs.Saying.{SaysNext, is_working as is_working_note};
 ghost use Rattle.mu_lead.specs.Welcomes.{JoinsAt};
 
@@ -81,12 +81,12 @@ impl Lead {
         ensures id { IfOk result (λ lead. lead.id ≡ id) }
         ensures rests { IfOk result (λ lead. leads_at lead.place ≡ false) }
         ensures rooms { IfOk result (λ lead. HasRooms [] lead) }
-        ensures evidence { IfOk result (λ lead. ExplainsAt lead.config lead.id [] lead.place) }
-        ensures raises { IfOk result (λ lead. RaisesAt lead.config lead.id [] lead.place) }
-        ensures confirms { IfOk result (λ lead. ConfirmsAt lead.config lead.id [] lead.place) }
-        ensures joins { IfOk result (λ lead. JoinsAt lead.config lead.id [] lead.place) }
-        ensures causes { IfOk result (λ lead. CausesAt lead.config lead.id [] lead.place) }
-        ensures elects { IfOk result (λ lead. ElectsAt lead.config lead.id [] lead.place) }
+        ensures evidence { IfOk result (HoldsFirst ExplainsAt) }
+        ensures raises { IfOk result (HoldsFirst RaisesAt) }
+        ensures confirms { IfOk result (HoldsFirst ConfirmsAt) }
+        ensures joins { IfOk result (HoldsFirst JoinsAt) }
+        ensures causes { IfOk result (HoldsFirst CausesAt) }
+        ensures elects { IfOk result (HoldsFirst ElectsAt) }
         ensures placed { IfOk result (λ lead. IsWhere lead.config lead.id [] lead) }
         ensures unnamed { IfOk result (λ lead. lead.named ≡ false) }
         ensures idle { IfOk result (λ lead. lead.under_way ≡ false) }
@@ -151,17 +151,11 @@ impl Lead {
         ensures told { IsTold self.old leader self.new }
         ensures rooms { gives_up self.old leader ≡ false
             → HasRooms mine self.old → HasRooms mine self.new }
-        ensures evidence { gives_up self.old leader ≡ false
-            → ExplainsAt self.old.config self.old.id mine self.old.place
-            → ExplainsAt self.new.config self.new.id mine self.new.place }
+        ensures evidence { KeepsTold ExplainsAt mine self.old leader self.new }
         ensures rests { leads_at self.new.place
             ≡ (leads_at self.old.place && not (nat_lt leader self.old.id)) }
-        ensures raises { gives_up self.old leader ≡ false
-            → RaisesAt self.old.config self.old.id mine self.old.place
-            → RaisesAt self.new.config self.new.id mine self.new.place }
-        ensures confirms { gives_up self.old leader ≡ false
-            → ConfirmsAt self.old.config self.old.id mine self.old.place
-            → ConfirmsAt self.new.config self.new.id mine self.new.place }
+        ensures raises { KeepsTold RaisesAt mine self.old leader self.new }
+        ensures confirms { KeepsTold ConfirmsAt mine self.old leader self.new }
         ensures joins { JoinsAt self.old.config self.old.id mine self.old.place
             → JoinsAt self.new.config self.new.id mine self.new.place }
     {
@@ -250,30 +244,27 @@ impl Lead {
         let end = end_of(known);
         match self.place {
             Place::Ask(p) => Some(Verb::Ask(p)),
-            Place::Confirm(_, p) => Some(Verb::Fence(p)),
-            Place::ReadMin(p) => Some(Verb::Min(p)),
-            Place::EnterMin(p) => Some(Verb::Enter(p, Target::Min)),
-            Place::PutMin(p) => Some(Verb::PutMin(p, self.number)),
-            Place::ReadFuo(p, _) => Some(Verb::Fuo(p)),
+            Place::Confirm(_, p)
+            | Place::FenceBehind(p, _)
+            | Place::LateFence(p)
+            | Place::Evidence(p) => Some(Verb::Fence(p)),
+            Place::ReadMin(p) | Place::LateMin(p) => Some(Verb::Min(p)),
+            Place::EnterMin(p) | Place::LateEnter(p) => Some(Verb::Enter(p, Target::Min)),
+            Place::PutMin(p) | Place::LatePut(p) => Some(Verb::PutMin(p, self.number)),
+            Place::ReadFuo(p, _) | Place::LateFuo(p) => Some(Verb::Fuo(p)),
             Place::Learn(p) => Some(Verb::Look(p, end)),
-            Place::WidenBehind(p, _) => Some(Verb::RaiseFuo(p, narrow(self.up_of(p)))),
+            Place::WidenBehind(p, _) | Place::RaiseBehind(p, _) => {
+                Some(Verb::RaiseFuo(p, narrow(self.up_of(p))))
+            }
             Place::LookBehind(p, _) => Some(Verb::Look(p, narrow(self.up_of(p)))),
             Place::EnterBehind(p, _) => Some(Verb::Enter(p, self.place_of(self.up_of(p)))),
             Place::PutBehind(p, _) => Some(self.put_behind(p, known)),
-            Place::RaiseBehind(p, _) => Some(Verb::RaiseFuo(p, narrow(self.up_of(p)))),
-            Place::FenceBehind(p, _) => Some(Verb::Fence(p)),
-            Place::LateFence(p) => Some(Verb::Fence(p)),
-            Place::LateMin(p) => Some(Verb::Min(p)),
-            Place::LateFuo(p) => Some(Verb::Fuo(p)),
-            Place::LateEnter(p) => Some(Verb::Enter(p, Target::Min)),
-            Place::LatePut(p) => Some(Verb::PutMin(p, self.number)),
             Place::ReadHead(q, _) => Some(Verb::Head(q)),
             Place::Look(p, position, _, _) => Some(Verb::Look(p, position)),
             Place::Write(j, _, _) => Some(self.write_next(j)),
             Place::Enter(p, _) => Some(Verb::Enter(p, self.place_of(u64::from(end)))),
             Place::Put(p, offer) => Some(Verb::PutSlot(p, end, self.number, offer.value)),
             Place::Raise(p) => Some(Verb::RaiseFuo(p, end)),
-            Place::Evidence(p) => Some(Verb::Fence(p)),
             Place::Outrun | Place::Rest => None,
         }
     }
@@ -327,18 +318,12 @@ impl Lead {
             → TakesNext mine self.old known.now answer self.new }
         ensures rooms { HoldsValues self.old.config known.now log.now
             → RoomsNext mine self.old known.now answer self.new }
-        ensures evidence { HoldsValues self.old.config known.now log.now
-            → KeepsNext ExplainsAt mine self.old known.now answer self.new }
-        ensures raises { HoldsValues self.old.config known.now log.now
-            → KeepsNext RaisesAt mine self.old known.now answer self.new }
-        ensures confirms { HoldsValues self.old.config known.now log.now
-            → KeepsNext ConfirmsAt mine self.old known.now answer self.new }
-        ensures joins { HoldsValues self.old.config known.now log.now
-            → KeepsNext JoinsAt mine self.old known.now answer self.new }
-        ensures causes { HoldsValues self.old.config known.now log.now
-            → KeepsNext CausesAt mine self.old known.now answer self.new }
-        ensures elects { HoldsValues self.old.config known.now log.now
-            → KeepsNext ElectsAt mine self.old known.now answer self.new }
+        ensures evidence { KeepsBy ExplainsAt mine self.old known.now log.now answer self.new }
+        ensures raises { KeepsBy RaisesAt mine self.old known.now log.now answer self.new }
+        ensures confirms { KeepsBy ConfirmsAt mine self.old known.now log.now answer self.new }
+        ensures joins { KeepsBy JoinsAt mine self.old known.now log.now answer self.new }
+        ensures causes { KeepsBy CausesAt mine self.old known.now log.now answer self.new }
+        ensures elects { KeepsBy ElectsAt mine self.old known.now log.now answer self.new }
         ensures listed { HoldsValues self.old.config known.now log.now
             → Follows mine self.old known.now answer self.new }
         ensures writes { WritesNext mine self.old known.now answer self.new }
@@ -363,14 +348,7 @@ impl Lead {
     /// Makes the step of the listing. The note doesn't tell yet that all commands are known.
     #[inline(always)]
     fn step(&mut self, verb: Verb, answer: Answer, known: &[u16], log: &KnownLog) -> Note
-        ensures steps { (mine : List Event) → IsAnswered mine self.old known.now verb answer
-            → Steps mine self.old known.now log.now verb answer self.new result }
-        ensures config { self.new.config ≡ self.old.config }
-        ensures id { self.new.id ≡ self.old.id }
-        ensures named { self.new.named ≡ self.old.named }
-        ensures failed { self.new.failed ≡ self.old.failed }
-        ensures going { self.new.under_way
-            ≡ going_after (begins_at self.old.place || self.old.under_way) result }
+        ensures { MakesStep self.old known.now log.now verb answer self.new result }
     {
         match self.place {
             Place::Write(j, last, offer) => {
@@ -384,14 +362,7 @@ impl Lead {
     /// Makes any step: tells the leaderships, writes the tables, and goes to the place that follows.
     #[inline(always)]
     fn other_step(&mut self, verb: Verb, answer: Answer, known: &[u16], log: &KnownLog) -> Note
-        ensures steps { (mine : List Event) → IsAnswered mine self.old known.now verb answer
-            → Steps mine self.old known.now log.now verb answer self.new result }
-        ensures config { self.new.config ≡ self.old.config }
-        ensures id { self.new.id ≡ self.old.id }
-        ensures named { self.new.named ≡ self.old.named }
-        ensures failed { self.new.failed ≡ self.old.failed }
-        ensures going { self.new.under_way
-            ≡ going_after (begins_at self.old.place || self.old.under_way) result }
+        ensures { MakesStep self.old known.now log.now verb answer self.new result }
     {
         tell(&mut self.leading, self.id, verb, answer);
         let commits = self.commits(answer);

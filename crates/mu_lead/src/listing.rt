@@ -1,5 +1,5 @@
 //! The place that follows each place: the listing, as `docs/PROTOCOL.md` has it.
-ghost use Rattle.std.specs.Prelude.{List, ◌≡◌};
+ghost use Rattle.std.specs.Prelude.{List, ◌≡◌, if◌then◌else◌};
 ghost use Rattle.mu_model.specs.declared.event.Event.{Event as SomeEvent};
 ghost use Rattle.mu_knowledge.specs.KnownLog.{HoldsValues};
 ghost use Rattle.mu_lead.specs.Lasting.{tables_of};
@@ -9,7 +9,6 @@ ghost use Rattle.mu_model.specs.Leaderships.{is_over};
 ghost use Rattle.mu_lead.specs.Standing.{Stands};
 ghost use Rattle.mu_lead.specs.Stepping.{HasTaken};
 ghost use Rattle.mu_model.specs.Picks.{is_past as is_past_answer};
-ghost use Rattle.std.specs.Prelude.{if◌then◌else◌};
 
 use crate::entries::{larger, sight_in};
 use crate::lead::Lead;

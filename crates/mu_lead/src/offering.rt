@@ -15,26 +15,24 @@ ghost use Rattle.mu_lead.specs.Leading.{end_of as end_of_known};
 ghost use Rattle.mu_lead.specs.Listing.{after_head, after_look, first_member, heads_from, late_from, least_candidate, member_from, next_position, offer_row, or_else, own_offer, pick};
 ghost use Rattle.mu_lead.specs.Sets.{is_bit};
 ghost use Rattle.mu_lead.specs.Standing.{Stands};
-ghost use Rattle.mu_lead.specs.Stepping.{IsRegion, lands_last};
+ghost use Rattle.mu_lead.specs.Stepping.{ByKnown, IsRegion, lands_last};
 
 use crate::batches::{knows_all, next_offer, own_value};
 use crate::lead::Lead;
 use crate::place::{Offer, Place, Sight, Then};
 use crate::positions::end_of;
-use crate::regions::{next_member, next_stranger};
+use crate::regions::next_member;
 use mu_knowledge::KnownLog;
 use mu_model::{Answer, count_of_rows, reserve_of, row_rest};
 
 impl Lead {
     /// Goes on with the next position, or with late followers if all commands are known.
     pub(crate) fn next_position(&self, known: &[u16], log: &KnownLog) -> Place
-        ensures { HoldsValues self.now.config known.now log.now
-            → (now : List Event) → Stands now self.now
-            → known.now ≡ known_of self.now.config self.now.id now
-            → result ≡ next_position self.now.config self.now.id now self.now.heads }
+        ensures { ByKnown self.now known.now log.now
+            (λ c r now. result ≡ next_position c r now self.now.heads) }
     {
         if knows_all(&self.config, log) {
-            match next_stranger(&self.leading, 0, self.config.replicas) {
+            match self.stranger_from(0) {
                 Some(q) => Place::LateFence(q),
                 None => Place::Rest,
             }
@@ -92,10 +90,8 @@ impl Lead {
 
     /// Reads the next head from `q` on that is too low, or goes on with the looks.
     fn heads_from(&self, q: u8, candidate: Option<u8>, known: &[u16], log: &KnownLog) -> Place
-        ensures { HoldsValues self.now.config known.now log.now
-            → (now : List Event) → Stands now self.now
-            → known.now ≡ known_of self.now.config self.now.id now
-            → result ≡ heads_from self.now.config self.now.id now self.now.heads q candidate }
+        ensures { ByKnown self.now known.now log.now
+            (λ c r now. result ≡ heads_from c r now self.now.heads q candidate) }
     {
         match self.next_low(q, known, log) {
             Some(p) => Place::ReadHead(p, candidate),
@@ -129,13 +125,9 @@ impl Lead {
         known: &[u16],
         log: &KnownLog,
     ) -> Place
-        ensures { HoldsValues self.now.config known.now log.now
-            → (now : List Event) → Stands now self.now
-            → known.now ≡ known_of self.now.config self.now.id now
-            → q < self.now.config.replicas
-            → is_bit q self.now.failed ≡ is_failed self.now.id q now
-            → result
-            ≡ after_head self.now.config self.now.id now self.now.heads q candidate head }
+        ensures { ByKnown self.now known.now log.now
+            (λ c r now. q < c.replicas → is_bit q self.now.failed ≡ is_failed r q now
+            → result ≡ after_head c r now self.now.heads q candidate head) }
     {
         let next = q.saturating_add(1);
         if self.leaves_room(head, reserve_of(&self.config), known) {
@@ -157,13 +149,9 @@ impl Lead {
         known: &[u16],
         log: &KnownLog,
     ) -> Place
-        ensures { HoldsValues self.now.config known.now log.now
-            → (now : List Event) → Stands now self.now
-            → known.now ≡ known_of self.now.config self.now.id now
-            → p < self.now.config.replicas → IsRegion self.now.config candidate
-            → result
-            ≡ after_look self.now.config self.now.id now (tables_of self.now) p position candidate
-            best }
+        ensures { ByKnown self.now known.now log.now
+            (λ c r now. p < c.replicas → IsRegion c candidate
+            → result ≡ after_look c r now (tables_of self.now) p position candidate best) }
     {
         if usize::from(position) < known.len() {
             self.bring_up_from(0, Then::Position, known, log)
@@ -181,15 +169,13 @@ impl Lead {
         known: &[u16],
         log: &KnownLog,
     ) -> Place
-        ensures { HoldsValues self.now.config known.now log.now
-            → (now : List Event) → Stands now self.now
-            → known.now ≡ known_of self.now.config self.now.id now
-            → p < self.now.config.replicas → IsRegion self.now.config candidate
-            → result ≡ or_else (member_from self.now.config self.now.id now (p + 1))
-            (λ q. SomePlace.Look q (end_of_known self.now.config self.now.id now) candidate best)
-            (pick self.now.config self.now.id now self.now.written.items candidate best) }
+        ensures { ByKnown self.now known.now log.now
+            (λ c r now. p < c.replicas → IsRegion c candidate
+            → result ≡ or_else (member_from c r now (p + 1))
+            (λ q. SomePlace.Look q (end_of_known c r now) candidate best)
+            (pick c r now self.now.written.items candidate best)) }
     {
-        match next_member(&self.leading, p.saturating_add(1), self.config.replicas) {
+        match self.member_after(p) {
             Some(q) => Place::Look(q, end_of(known), candidate, best),
             None => self.pick(candidate, best, known, log),
         }
@@ -203,11 +189,9 @@ impl Lead {
         known: &[u16],
         log: &KnownLog,
     ) -> Place
-        ensures { HoldsValues self.now.config known.now log.now
-            → (now : List Event) → Stands now self.now
-            → known.now ≡ known_of self.now.config self.now.id now
-            → IsRegion self.now.config candidate
-            → result ≡ pick self.now.config self.now.id now self.now.written.items candidate best }
+        ensures { ByKnown self.now known.now log.now
+            (λ c r now. IsRegion c candidate
+            → result ≡ pick c r now self.now.written.items candidate best) }
     {
         match best {
             Some(sight) => self.offer(Offer {
@@ -226,13 +210,9 @@ impl Lead {
 
     /// Begins with the next batch of its own, if there is one.
     fn offer_own(&self, known: &[u16], log: &KnownLog) -> Place
-        ensures { HoldsValues self.now.config known.now log.now
-            → (now : List Event) → Stands now self.now
-            → known.now ≡ known_of self.now.config self.now.id now
-            → result ≡ or_else (own_offer self.now.config self.now.id
-            (known_of self.now.config self.now.id now)
-            (end_of_known self.now.config self.now.id now))
-            (offer_row self.now.config self.now.id now self.now.written.items) SomePlace.Rest }
+        ensures { ByKnown self.now known.now log.now
+            (λ c r now. result ≡ or_else (own_offer c r (known_of c r now) (end_of_known c r now))
+            (offer_row c r now self.now.written.items) SomePlace.Rest) }
     {
         match next_offer(&self.config, self.id, known, log) {
             None => Place::Rest,
@@ -263,7 +243,7 @@ impl Lead {
             (λ q. SomePlace.Enter q offer)
             (SomePlace.Raise (first_member self.now.config self.now.id now)) }
     {
-        match next_member(&self.leading, p.saturating_add(1), self.config.replicas) {
+        match self.member_after(p) {
             Some(q) => Place::Enter(q, offer),
             None => Place::Raise(self.first_member()),
         }
@@ -300,15 +280,11 @@ impl Lead {
 
     /// The place after the FUO of `p` was raised over what was committed.
     pub(crate) fn after_raise(&self, p: u8, known: &[u16], log: &KnownLog) -> Place
-        ensures { HoldsValues self.now.config known.now log.now
-            → (now : List Event) → Stands now self.now
-            → known.now ≡ known_of self.now.config self.now.id now
-            → p < self.now.config.replicas
-            → result
-            ≡ or_else (member_from self.now.config self.now.id now (p + 1)) SomePlace.Raise
-            (late_from self.now.config self.now.id now self.now.heads 0) }
+        ensures { ByKnown self.now known.now log.now
+            (λ c r now. p < c.replicas → result ≡ or_else (member_from c r now (p + 1))
+            SomePlace.Raise (late_from c r now self.now.heads 0)) }
     {
-        match next_member(&self.leading, p.saturating_add(1), self.config.replicas) {
+        match self.member_after(p) {
             Some(q) => Place::Raise(q),
             None => self.late_from(0, known, log),
         }

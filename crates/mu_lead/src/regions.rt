@@ -5,14 +5,16 @@ ghost use Rattle.mu_model.specs.Histories.{count_below};
 ghost use Rattle.mu_model.specs.Leaderships.{is_member, noted_grant};
 ghost use Rattle.mu_leadership.specs.Leadership.{StandsForLeadership};
 ghost use Rattle.mu_lead.specs.Sets.{bit, bits};
-ghost use Rattle.mu_knowledge.specs.Offers.{IsFirst};
+ghost use Rattle.mu_lead.specs.Leading.{FindsRegion};
+ghost use Rattle.mu_lead.specs.Listing.{member_from};
+ghost use Rattle.mu_lead.specs.Stepping.{FindsAfter, FindsFrom};
 
+use crate::lead::Lead;
 use mu_leadership::Leadership;
 
 /// The first member from `from` on, below `n`.
 pub(crate) fn next_member(leading: &Leadership, from: u8, n: u8) -> Option<u8>
-    ensures { (r : ℕ) → (mine : List Event) → n ≤ 7 → StandsForLeadership r mine leading.now
-        → IsFirst (λ p. is_member r p mine) from n result }
+    ensures { FindsRegion leading.now (λ r mine p. is_member r p mine) from n result }
 {
     for p in from..n {
         if leading.is_member(p) {
@@ -24,8 +26,7 @@ pub(crate) fn next_member(leading: &Leadership, from: u8, n: u8) -> Option<u8>
 
 /// The first region from `from` on, below `n`, that isn't a member.
 pub(crate) fn next_stranger(leading: &Leadership, from: u8, n: u8) -> Option<u8>
-    ensures { (r : ℕ) → (mine : List Event) → n ≤ 7 → StandsForLeadership r mine leading.now
-        → IsFirst (λ p. not (is_member r p mine)) from n result }
+    ensures { FindsRegion leading.now (λ r mine p. not (is_member r p mine)) from n result }
 {
     for p in from..n {
         if !leading.is_member(p) {
@@ -37,8 +38,7 @@ pub(crate) fn next_stranger(leading: &Leadership, from: u8, n: u8) -> Option<u8>
 
 /// The first region from `from` on, below `n`, whose grant is noted.
 pub(crate) fn next_noted(leading: &Leadership, from: u8, n: u8) -> Option<u8>
-    ensures { (r : ℕ) → (mine : List Event) → n ≤ 7 → StandsForLeadership r mine leading.now
-        → IsFirst (λ p. is_some (noted_grant r p mine)) from n result }
+    ensures { FindsRegion leading.now (λ r mine p. is_some (noted_grant r p mine)) from n result }
 {
     for p in from..n {
         if leading.noted(p).is_some() {
@@ -84,4 +84,22 @@ pub(crate) fn noted_bits(leading: &Leadership) -> u8
         + 16 * bit_of(leading, 4)
         + 32 * bit_of(leading, 5)
         + 64 * bit_of(leading, 6)
+}
+
+impl Lead {
+    /// The first member from `p` on.
+    #[inline(always)]
+    pub(crate) fn member_from(&self, p: u8) -> Option<u8>
+        ensures { FindsFrom self.now member_from p result }
+    {
+        next_member(&self.leading, p, self.config.replicas)
+    }
+
+    /// The first member after `p`.
+    #[inline(always)]
+    pub(crate) fn member_after(&self, p: u8) -> Option<u8>
+        ensures { FindsAfter self.now member_from p result }
+    {
+        self.member_from(p.saturating_add(1))
+    }
 }

@@ -17,7 +17,7 @@ ghost use Rattle.mu_lead.specs.Lasting.{tables_of};
 ghost use Rattle.mu_lead.specs.Listing.{write_from};
 ghost use Rattle.mu_lead.specs.Resigning.{CountsAt};
 ghost use Rattle.mu_lead.specs.Standing.{Stands, StandsFor};
-ghost use Rattle.mu_lead.specs.Stepping.{IsAnswered, Steps};
+ghost use Rattle.mu_lead.specs.Stepping.{MakesStep};
 
 use crate::lead::Lead;
 use crate::place::{Offer, Place};
@@ -111,16 +111,9 @@ impl Lead {
     /// Most steps of a leader are such writes, and nothing else follows from them.
     #[inline(always)]
     pub(crate) fn take_word(&mut self, j: u16, last: u16, offer: Offer)
-        ensures steps { (mine : List SomeEvent) → (values : List ℕ) → (log : SomeLog)
-            → (verb : SomeVerb) → (answer : SomeAnswer)
+        ensures { (values : List ℕ) → (log : SomeLog) → (verb : SomeVerb) → (answer : SomeAnswer)
             → self.old.place ≡ SomePlace.Write j last offer
-            → IsAnswered mine self.old values verb answer
-            → Steps mine self.old values log verb answer self.new SomeNote.Working }
-        ensures config { self.new.config ≡ self.old.config }
-        ensures id { self.new.id ≡ self.old.id }
-        ensures named { self.new.named ≡ self.old.named }
-        ensures failed { self.new.failed ≡ self.old.failed }
-        ensures going { self.new.under_way ≡ self.old.under_way }
+            → MakesStep self.old values log verb answer self.new SomeNote.Working }
     {
         count_word(&mut self.written, j);
         self.place = self.write_from(j, last, offer);

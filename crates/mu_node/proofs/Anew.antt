@@ -307,10 +307,7 @@ stood_on c r mine e place t silent s =
     (record { all = all_on c r e mine (silent refl) s.all; number = some_on r e mine (silent refl) s.number })
 
 fences_fail : FailsBackground is_any_fencing_verb
-fences_fail = record {
-  replays = record { beat = refl; fuo = λ q. refl; look = λ q i. refl; row = λ v k. refl; raise = λ q u. refl; raise_head = λ h. refl; head = λ q. refl };
-  host = host;
-}
+fences_fail = record { replays = record { beat = refl; fuo = λ q. refl; look = λ q i. refl; row = λ v k. refl; raise = λ q u. refl; raise_head = λ h. refl; head = λ q. refl }; host = host }
   where
     host : (d : ℕ) (verb : Verb) → is_of_place d verb ≡ true → is_any_fencing_verb verb ≡ false
     host d (Verb.Fence q) is = absurd (true≢false (sym is))
@@ -406,10 +403,7 @@ is_any_min_put (Verb.PutMin p b) = true
 is_any_min_put _ = false
 
 puts_fail : FailsBackground is_any_min_put
-puts_fail = record {
-  replays = record { beat = refl; fuo = λ q. refl; look = λ q i. refl; row = λ v k. refl; raise = λ q u. refl; raise_head = λ h. refl; head = λ q. refl };
-  host = host;
-}
+puts_fail = record { replays = record { beat = refl; fuo = λ q. refl; look = λ q i. refl; row = λ v k. refl; raise = λ q u. refl; raise_head = λ h. refl; head = λ q. refl }; host = host }
   where
     host : (d : ℕ) (verb : Verb) → is_of_place d verb ≡ true → is_any_min_put verb ≡ false
     host d (Verb.PutMin q b) is = absurd (true≢false (sym is))

@@ -15,6 +15,7 @@ use Rattle.mu_model.specs.Parts.{IsPossible}
 use Rattle.mu_model.proofs.Basics.{none_some, same_some}
 use Rattle.mu_model.proofs.Lists.{item_below}
 use Rattle.mu_knowledge.proofs.Fetched.{applied_grows, batch_there}
+use Rattle.mu_follow.proofs.Spelled.{get_first}
 use Rattle.mu_follow.specs.Groups.{AreSpelled, group_of, group_size, groups_of}
 use Rattle.mu_follow.proofs.Kept.{applied_begins, applied_is}
 use Rattle.mu_node.specs.Answering.{Answering}
@@ -32,12 +33,6 @@ pub take_more : {A : Type 0} (n : ℕ) (xs : List A) (x : A) → slice_get xs n 
 take_more n [] x at = cc
 take_more zero (y ∷ ys) x at = ap (λ z. z ∷ []) (same_some y x at)
 take_more (suc n) (y ∷ ys) x at = let one : suc n + 1 ≡ suc (n + 1) = omega arith in ap (λ m. take m (y ∷ ys)) one ∙ ap (λ l. y ∷ l) (take_more n ys x at)
-
-get_take : {A : Type 0} (n i : ℕ) (xs : List A) → i < n → slice_get (take n xs) i ≡ slice_get xs i
-get_take zero i xs low = absurd (omega (arith, low))
-get_take (suc n) i [] low = refl
-get_take (suc n) zero (x ∷ xs) low = refl
-get_take (suc n) (suc i) (x ∷ xs) low = get_take n i xs (omega (arith, low))
 
 get_drop : {A : Type 0} (m i : ℕ) (xs : List A) → slice_get (drop m xs) i ≡ slice_get xs (m + i)
 get_drop zero i xs = let same : i ≡ 0 + i = omega arith in ap (λ n. slice_get xs n) same
@@ -97,7 +92,7 @@ next_command c commands v t good are low = go (is_batch c v) refl low
         let long = are.count in
         let found = item_below commands (v % 4096 + t) (omega (arith, long, there, low)) in
         let whole : group_of c commands v ≡ take (rest_of c (v % 4096) + 1) (drop (v % 4096) commands) = rw batch refl in
-        let here : slice_get (group_of c commands v) t ≡ Some found.0 = ap (λ l. slice_get l t) whole ∙ get_take (rest_of c (v % 4096) + 1) t (drop (v % 4096) commands) low ∙ get_drop (v % 4096) t commands ∙ found.1 in
+        let here : slice_get (group_of c commands v) t ≡ Some found.0 = ap (λ l. slice_get l t) whole ∙ get_first (rest_of c (v % 4096) + 1) t (drop (v % 4096) commands) low ∙ get_drop (v % 4096) t commands ∙ found.1 in
         record {
           command = found.0;
           batch = batch;

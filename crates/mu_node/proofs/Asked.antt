@@ -1,5 +1,5 @@
 -- A replica that names itself asks each region in turn, and reads a minimum only after that.
-use Rattle.std.proofs.Common.{◌≡◌, ◌∙◌, ◌≢◌, ℕ, suc, ◌+◌, ◌-◌, ◌*◌, ◌<◌, ◌≤◌, ◌==◌, ◌&&◌, ◌||◌, ◌⊎◌, inl, inr, Bool, true, false, cond, None, Some, List, [], ◌∷◌, ◌++◌, ap, arith, length, refl, subst, sym}
+use Rattle.std.proofs.Common.{◌≡◌, ◌∙◌, ◌≢◌, ℕ, suc, ◌+◌, ◌*◌, ◌<◌, ◌≤◌, ◌==◌, ◌&&◌, ◌||◌, ◌⊎◌, inl, inr, Bool, true, false, cond, None, Some, List, [], ◌∷◌, ◌++◌, ap, arith, length, refl, subst, sym}
 use Rattle.std.specs.declared.option.Option.{Option}
 use Rattle.std.specs.Prelude.{if◌then◌else◌, is_some, nat_lt, not}
 use Rattle.std.proofs.Math.Nat.{mul-le-mul_right}
@@ -29,7 +29,8 @@ use Rattle.mu_lead.specs.Standing.{verb_at}
 use Rattle.mu_pace.specs.Counters.{AtEachMoment, AtEachStep}
 use Rattle.mu_follow.specs.CatchingUp.{or_else as or_else_due}
 use Rattle.mu_node.proofs.CatchingUp.{catches_reading, made_led, reading_fails}
-use Rattle.mu_node.specs.Cycle.{other_at, place_now}
+use Rattle.mu_node.proofs.Failing.{read_fails}
+use Rattle.mu_node.specs.Cycle.{place_now}
 use Rattle.mu_node.specs.Due.{or_ahead, verb_or_beat}
 use Rattle.mu_node.specs.Journal.{IsListed, WasMade}
 use Rattle.mu_node.specs.declared.zeal.Zeal.{Zeal}
@@ -76,11 +77,6 @@ of_lead test c r mine e held fails write beat beats asks is = go (is_odd (length
     named true made = mine_due there made
     named false made = absurd (true≢false (sym is ∙ (ap test made ∙ beat)))
 
-    read : (s t : Bool) → test (if s then Verb.Beat else if t then Verb.ReadBeat (other_at r (place_now c mine)) else Verb.ReadAsk (place_now c mine - c.replicas)) ≡ false
-    read true t = beat
-    read false true = beats (other_at r (place_now c mine))
-    read false false = asks (place_now c mine - c.replicas)
-
     is_mine : (t : Bool) → e.verb ≡ verb_or_beat (if t then there else None) → t ≡ true
     is_mine true made = refl
     is_mine false made = absurd (true≢false (sym is ∙ (ap test made ∙ beat)))
@@ -100,7 +96,7 @@ of_lead test c r mine e held fails write beat beats asks is = go (is_odd (length
     go false even =
         let made = held.made.background even in
         elim (cases_lt (place_now c mine) (host_place c 0)) [
-          | inl low ↦ absurd (true≢false (sym is ∙ (ap test (made.2 ∙ ap (or_ahead held.zeal c r mine) (made.1.read low)) ∙ read (place_now c mine == 0) (nat_lt (place_now c mine) c.replicas))))
+          | inl low ↦ absurd (true≢false (sym is ∙ (ap test (made.2 ∙ ap (or_ahead held.zeal c r mine) (made.1.read low)) ∙ read_fails test beat beats asks c.replicas r (place_now c mine))))
           | inr high ↦ absurd (true≢false (sym is ∙ (ap test made.2 ∙ background_fails test fails write held.zeal c r mine (leads_at (place_after c r mine)) made.0 high made.1)))
         ]
 
@@ -110,10 +106,7 @@ is_any_ask (Verb.Ask p) = true
 is_any_ask _ = false
 
 pub any_asks_fail : FailsBackground is_any_ask
-any_asks_fail = record {
-  replays = record { beat = refl; fuo = λ q. refl; look = λ q i. refl; row = λ v k. refl; raise = λ q u. refl; raise_head = λ h. refl; head = λ q. refl };
-  host = host;
-}
+any_asks_fail = record { replays = record { beat = refl; fuo = λ q. refl; look = λ q i. refl; row = λ v k. refl; raise = λ q u. refl; raise_head = λ h. refl; head = λ q. refl }; host = host }
   where
     host : (d : ℕ) (verb : Verb) → is_of_place d verb ≡ true → is_any_ask verb ≡ false
     host d (Verb.Ask q) is = absurd (true≢false (sym is))
@@ -121,10 +114,7 @@ any_asks_fail = record {
 
 -- a minimum is read by the leader too
 pub mins_fail : FailsBackground is_min_verb
-mins_fail = record {
-  replays = record { beat = refl; fuo = λ q. refl; look = λ q i. refl; row = λ v k. refl; raise = λ q u. refl; raise_head = λ h. refl; head = λ q. refl };
-  host = host;
-}
+mins_fail = record { replays = record { beat = refl; fuo = λ q. refl; look = λ q i. refl; row = λ v k. refl; raise = λ q u. refl; raise_head = λ h. refl; head = λ q. refl }; host = host }
   where
     host : (d : ℕ) (verb : Verb) → is_of_place d verb ≡ true → is_min_verb verb ≡ false
     host d (Verb.Min q) is = absurd (true≢false (sym is))

@@ -8,7 +8,7 @@ use Rattle.mu_model.specs.declared.event.Answer.{Answer}
 use Rattle.mu_model.specs.declared.event.Event.{Event}
 use Rattle.mu_model.specs.declared.event.Verb.{Verb}
 use Rattle.mu_model.specs.Again.{asks_again}
-use Rattle.mu_model.specs.Knowledge.{known}
+use Rattle.mu_model.specs.Knowledge.{known, applied}
 use Rattle.mu_model.specs.Leaderships.{proposal_number}
 use Rattle.mu_model.specs.Parts.{IsPossible}
 use Rattle.mu_model.specs.Scores.{leader}
@@ -20,18 +20,15 @@ use Rattle.mu_pace.specs.Watches.{confirming}
 use Rattle.mu_lead.specs.declared.lead.Lead.{Lead}
 use Rattle.mu_lead.specs.declared.place.Place.{Place}
 use Rattle.mu_lead.specs.Again.{KeepsAt, TellsAstray}
-use Rattle.mu_lead.specs.Journal.{IsWhere, PlacesNext}
-use Rattle.mu_lead.specs.Listing.{next_place}
+use Rattle.mu_lead.specs.Journal.{IsWhere, PlacesNext, due_after, tables_at}
+use Rattle.mu_lead.specs.Listing.{next_place, Tables}
 use Rattle.mu_lead.specs.Lasting.{Follows, tables_of}
 use Rattle.mu_lead.specs.Standing.{At, known_told, verb_of}
 use Rattle.mu_lead.specs.Confirmations.{ConfirmsAt}
 use Rattle.mu_lead.proofs.AskedAgain.{leaders_ask_again, numbered_on}
-use Rattle.mu_model.specs.Knowledge.{applied}
-use Rattle.mu_node.specs.Cycle.{handed, handed_before, place_now}
+use Rattle.mu_node.specs.Cycle.{handed, handed_before, place_now, IsMade}
 use Rattle.mu_follow.specs.CatchingUp.{or_else}
 use Rattle.mu_grant.proofs.Onward.{other_is_next}
-use Rattle.mu_lead.specs.Journal.{due_after, tables_at}
-use Rattle.mu_lead.specs.Listing.{Tables}
 use Rattle.mu_model.specs.Ends.{outrun}
 use Rattle.mu_node.specs.declared.node.Node.{Node}
 use Rattle.mu_node.specs.declared.zeal.Zeal.{Zeal}
@@ -39,13 +36,12 @@ use Rattle.mu_lead.specs.declared.note.Note.{Note}
 use Rattle.mu_lead.specs.Going.{begins_at, going_after}
 use Rattle.mu_lead.specs.Noting.{or_idle}
 use Rattle.mu_model.proofs.Basics.{none_some}
-use Rattle.mu_node.specs.Cycle.{IsMade}
 use Rattle.mu_node.specs.Notes.{MovesGoing, TellsNote}
 use Rattle.mu_node.specs.Journal.{FollowsTurn}
 use Rattle.mu_node.specs.Due.{asks_out_of_turn, idle_due, is_eager, lead_due, turn_due, verb_or_beat}
 use Rattle.mu_node.specs.Node.{StandsForLead, StandsForNode}
 use Rattle.mu_node.specs.Paced.{HasGone, HasPaces, PacesAt}
-use Rattle.mu_node.proofs.Moving.{event_by}
+use Rattle.mu_node.specs.Events.{event_by}
 use Rattle.mu_node.proofs.Pacing.{kept_with, of_node}
 
 -- a leader that left its leadership has the first ask due

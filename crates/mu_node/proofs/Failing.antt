@@ -1,5 +1,5 @@
 -- Tests that what is due fails, and what is written ahead.
-use Rattle.std.proofs.Common.{◌≡◌, ℕ, ◌+◌, ◌/◌, ◌%◌, ◌==◌, ◌&&◌, Bool, true, false, None, Some, List, get_or}
+use Rattle.std.proofs.Common.{◌≡◌, ℕ, ◌+◌, ◌-◌, ◌/◌, ◌%◌, ◌==◌, ◌&&◌, Bool, true, false, None, Some, List, get_or}
 use Rattle.std.specs.Prelude.{if◌then◌else◌, nat_lt}
 use Rattle.std.specs.declared.option.Option.{Option}
 use Rattle.mu_model.specs.declared.config.Config.{Config}
@@ -15,6 +15,7 @@ use Rattle.mu_lead.specs.Ahead.{ahead_at, entry_before, word_after, word_from, w
 use Rattle.mu_lead.specs.Beside.{leads_at}
 use Rattle.mu_lead.specs.Journal.{place_after, tables_at}
 use Rattle.mu_node.specs.declared.zeal.Zeal.{Zeal}
+use Rattle.mu_node.specs.Cycle.{other_at, read_at}
 use Rattle.mu_node.specs.Due.{held_write_due, write_due, verb_or_beat}
 
 -- what is due, or else a beat, fails a test
@@ -24,6 +25,15 @@ Fails test due = test (verb_or_beat due) ≡ false
 pub either : (test : Verb → Bool) (t : Bool) (a b : Option Verb) → Fails test a → Fails test b → Fails test (if t then a else b)
 either test true a b left right = left
 either test false a b left right = right
+
+-- so do the beat and the reads before the places of the host
+pub read_fails : (test : Verb → Bool) → test Verb.Beat ≡ false → ((q : ℕ) → test (Verb.ReadBeat q) ≡ false) → ((w : ℕ) → test (Verb.ReadAsk w) ≡ false) → (n r place : ℕ) → test (read_at n r place) ≡ false
+read_fails test beat beats asks n r place = go (place == 0) (nat_lt place n)
+  where
+    go : (s t : Bool) → test (if s then Verb.Beat else if t then Verb.ReadBeat (other_at r place) else Verb.ReadAsk (place - n)) ≡ false
+    go true t = beat
+    go false true = beats (other_at r place)
+    go false false = asks (place - n)
 
 -- the word that is written ahead at a place fails a test that no beat and no write passes
 word_fails : (test : Verb → Bool) → test Verb.Beat ≡ false → ((j k x : ℕ) → test (Verb.WriteRow j k x) ≡ false) → (c : Config) (r : ℕ) (values written : List ℕ) (place : Place) → Fails test (ahead_at c r values written place)

@@ -25,14 +25,13 @@ use Rattle.mu_lead.specs.declared.place.Place.{Place}
 use Rattle.mu_lead.specs.Standing.{verb_at}
 use Rattle.mu_pace.specs.Counters.{AtEachStep}
 use Rattle.mu_pace.proofs.Counting.{steps_before}
-use Rattle.mu_node.specs.Due.{verb_or_beat}
+use Rattle.mu_node.specs.Due.{verb_or_beat, listed_due}
 use Rattle.mu_node.specs.Journal.{WasMade}
 use Rattle.mu_node.proofs.CatchingUp.{made_led}
 use Rattle.mu_node.proofs.OwnRows.{row_of_more, rows_stay, word_on}
 use Rattle.mu_node.proofs.Open.{IsStill, under_caught}
 use Rattle.mu_node.proofs.Replaying.{IsAfter, IsAt, at_next, at_rest, last_whole, next_place}
 use Rattle.mu_lead.specs.Journal.{number_due, place_after, tables_at}
-use Rattle.mu_node.specs.Due.{listed_due}
 use Rattle.mu_pace.proofs.Pasts.{possible_before, Cut, cut}
 
 -- and what is applied stays if some known entry isn't

@@ -1,5 +1,5 @@
 -- What a node stands for, with one row more.
-use Rattle.std.proofs.Common.{◌≡◌, ◌∙◌, ◌%◌, ◌+◌, ◌<◌, ◌≤◌, ◌∷◌, List, [], ap, arith, length, refl, subst, sym, take, true≢false, ℕ, inl}
+use Rattle.std.proofs.Common.{◌≡◌, ◌∙◌, ◌%◌, ◌+◌, ◌<◌, ◌≤◌, ◌∷◌, List, [], ap, arith, length, refl, subst, sym, take, ℕ, inl}
 use Rattle.std.specs.Prelude.{if◌then◌else◌, vec_capacity}
 use Rattle.std.specs.List.{slice_get}
 use Rattle.kv_store.specs.Commands.{Request}
@@ -27,6 +27,7 @@ use Rattle.mu_follow.proofs.Growing.{applied_entries, one_more, taken_entries}
 use Rattle.mu_follow.proofs.Spelled.{groups_kept, spelled_before}
 use Rattle.mu_lead.specs.declared.lead.Lead.{Lead}
 use Rattle.mu_lead.specs.Standing.{StandsFor as LeadStandsFor}
+use Rattle.mu_node.proofs.Moving.{lives}
 use Rattle.mu_node.specs.declared.node.Node.{Node}
 use Rattle.mu_node.specs.Answering.{Answering}
 use Rattle.mu_node.specs.Answers.{HoldsAnswers}
@@ -115,30 +116,20 @@ node_more c row r mine old new good grown possible held room follow handed lead 
     let one = one_more c row in
     let logs = room.log_room in
     let list = room.commit_room in
-    record {
-      beside = record {
-        id = id ∙ held.beside.id;
-        replicas = replicas ∙ held.beside.replicas;
-        budget = budget ∙ held.beside.budget;
-        grants = rw grants held.beside.grants;
-        watch = rw watch (record { scores = held.beside.watch.scores; named = held.beside.watch.named; failed = held.beside.watch.failed });
-        follow = follow;
-        no_log = log ∙ held.beside.no_log;
-        log_room = omega (arith, one, logs, log_grows);
-        no_commits = commits ∙ held.beside.no_commits;
-        commit_room = omega (arith, one, list, commits_grow);
-      };
-      lead = lead;
-      handed = handed ∙ (held.handed ∙ sym (handed_kept c (row ∷ []) r mine good grown possible));
-      answers = λ commands are. subst (λ (a : Answering). HoldsAnswers (with_more c (row ∷ [])) commands (take (handed_before (with_more c (row ∷ [])) r mine) (applied (with_more c (row ∷ [])) r mine)) a) (sym answers) (answers_kept c row r mine old.answers good grown possible room.answers held.answers commands are);
-      reads = reads_kept c (row ∷ []) r mine good grown possible held.reads;
-      cycle = λ on. absurd (true≢false (sym on));
-      made = λ on. absurd (true≢false (sym on));
-      listed = λ on. absurd (true≢false (sym on));
-      leads = λ on. absurd (true≢false (sym on));
-      paces = λ on. absurd (true≢false (sym on));
-      led = λ on. absurd (true≢false (sym on));
-    }
+    lives (with_more c (row ∷ [])) r mine new
+    (record {
+      id = id ∙ held.beside.id;
+      replicas = replicas ∙ held.beside.replicas;
+      budget = budget ∙ held.beside.budget;
+      grants = rw grants held.beside.grants;
+      watch = rw watch (record { scores = held.beside.watch.scores; named = held.beside.watch.named; failed = held.beside.watch.failed });
+      follow = follow;
+      no_log = log ∙ held.beside.no_log;
+      log_room = omega (arith, one, logs, log_grows);
+      no_commits = commits ∙ held.beside.no_commits;
+      commit_room = omega (arith, one, list, commits_grow);
+    })
+    lead (handed ∙ (held.handed ∙ sym (handed_kept c (row ∷ []) r mine good grown possible))) (λ commands are. subst (λ (a : Answering). HoldsAnswers (with_more c (row ∷ [])) commands (take (handed_before (with_more c (row ∷ [])) r mine) (applied (with_more c (row ∷ [])) r mine)) a) (sym answers) (answers_kept c row r mine old.answers good grown possible room.answers held.answers commands are)) (reads_kept c (row ∷ []) r mine good grown possible held.reads)
 
 -- and for the same rows with other room in its parts
 pub node_same : (c : Config) (r : ℕ) (mine : List Event) (old new : Node) → LivesForNode c r mine old → StandsForFollow c r mine new.follow → new.follow.progress.handed ≡ old.follow.progress.handed → StandsForLead c r mine new.lead
@@ -147,30 +138,20 @@ pub node_same : (c : Config) (r : ℕ) (mine : List Event) (old new : Node) → 
 node_same c r mine old new held follow handed lead id replicas budget grants watch log log_grows commits commits_grow table told left =
     let logs = held.beside.log_room in
     let list = held.beside.commit_room in
-    record {
-      beside = record {
-        id = id ∙ held.beside.id;
-        replicas = replicas ∙ held.beside.replicas;
-        budget = budget ∙ held.beside.budget;
-        grants = rw grants held.beside.grants;
-        watch = rw watch held.beside.watch;
-        follow = follow;
-        no_log = log ∙ held.beside.no_log;
-        log_room = omega (arith, logs, log_grows);
-        no_commits = commits ∙ held.beside.no_commits;
-        commit_room = omega (arith, list, commits_grow);
-      };
-      lead = lead;
-      handed = handed ∙ held.handed;
-      answers = λ commands are. (let was = held.answers commands are in let room = was.left in record { replies = told ∙ was.replies; table = table ∙ was.table; left = omega (arith, room, left) });
-      reads = held.reads;
-      cycle = λ on. absurd (true≢false (sym on));
-      made = λ on. absurd (true≢false (sym on));
-      listed = λ on. absurd (true≢false (sym on));
-      leads = λ on. absurd (true≢false (sym on));
-      paces = λ on. absurd (true≢false (sym on));
-      led = λ on. absurd (true≢false (sym on));
-    }
+    lives c r mine new
+    (record {
+      id = id ∙ held.beside.id;
+      replicas = replicas ∙ held.beside.replicas;
+      budget = budget ∙ held.beside.budget;
+      grants = rw grants held.beside.grants;
+      watch = rw watch held.beside.watch;
+      follow = follow;
+      no_log = log ∙ held.beside.no_log;
+      log_room = omega (arith, logs, log_grows);
+      no_commits = commits ∙ held.beside.no_commits;
+      commit_room = omega (arith, list, commits_grow);
+    })
+    lead (handed ∙ held.handed) (λ commands are. (let was = held.answers commands are in let room = was.left in record { replies = told ∙ was.replies; table = table ∙ was.table; left = omega (arith, room, left) })) (held.reads)
 
 -- what makes room in its replayer and its leader, whatever its configuration is called
 pub follow_roomy : (c : Config) (r : ℕ) (mine : List Event) (old new : Follow) → StandsForFollow c r mine old → (StandsForFollow old.config r mine old → StandsForFollow old.config r mine new) → StandsForFollow c r mine new

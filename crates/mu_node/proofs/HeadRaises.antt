@@ -21,13 +21,11 @@ use Rattle.mu_lead.specs.declared.place.Place.{Place}
 use Rattle.mu_lead.specs.Beside.{leads_at}
 use Rattle.mu_lead.specs.Journal.{due_after, number_due, place_after, tables_at}
 use Rattle.mu_lead.specs.Standing.{verb_at}
-use Rattle.mu_node.specs.Due.{write_due, or_ahead}
-use Rattle.mu_node.proofs.Failing.{ahead_fails}
+use Rattle.mu_node.specs.Due.{write_due, or_ahead, verb_or_beat}
+use Rattle.mu_node.proofs.Failing.{Fails, ahead_fails, either, read_fails}
 use Rattle.mu_node.proofs.CatchingUp.{catches_reading, made_led, reading_fails}
-use Rattle.mu_node.specs.Cycle.{handed, other_at, place_now}
-use Rattle.mu_node.specs.Due.{verb_or_beat}
+use Rattle.mu_node.specs.Cycle.{handed, place_now}
 use Rattle.mu_node.specs.Journal.{WasMade}
-use Rattle.mu_node.proofs.Failing.{Fails, either}
 use Rattle.mu_node.proofs.Turning.{handed_here}
 
 -- what is due raises no head
@@ -96,11 +94,6 @@ led_none c r mine = either is_head_raise_verb (leader c r mine == r) (verb_at c 
 pub raises_to_all : (c : Config) (r h : ℕ) (mine : List Event) (e : Event) → WasMade c r mine e → e.verb ≡ Verb.RaiseHead h → min (length (applied c r mine)) (own_fuo r mine) ≤ h
 raises_to_all c r h mine e held raises = go (is_odd (length mine)) refl
   where
-    read : (s t : Bool) → is_head_raise_verb (if s then Verb.Beat else if t then Verb.ReadBeat (other_at r (place_now c mine)) else Verb.ReadAsk (place_now c mine - c.replicas)) ≡ false
-    read true t = refl
-    read false true = refl
-    read false false = refl
-
     host : (d : ℕ) (verb : Verb) → is_of_place d verb ≡ true → is_head_raise_verb verb ≡ false
     host d (Verb.RaiseHead x) is = absurd (true≢false (sym is))
     host d verb is = refl
@@ -124,7 +117,7 @@ raises_to_all c r h mine e held raises = go (is_odd (length mine)) refl
     go false even =
         let made = held.made.background even in
         elim (cases_lt (place_now c mine) (host_place c 0)) [
-          | inl low ↦ absurd (not_raised made.0 h (subst NoRaise (sym (made.1.read low)) (read (place_now c mine == 0) (nat_lt (place_now c mine) c.replicas))) (raised made.0 (sym made.2 ∙ raises)))
+          | inl low ↦ absurd (not_raised made.0 h (subst NoRaise (sym (made.1.read low)) (read_fails is_head_raise_verb refl (λ q. refl) (λ w. refl) c.replicas r (place_now c mine))) (raised made.0 (sym made.2 ∙ raises)))
           | inr high ↦ (elim (cases_lt (place_now c mine) (host_place c 4)) [
             | inl near ↦ (let at : place_now c mine ≡ host_place c (place_now c mine - host_place c 0) = omega (arith, high) in
                 absurd (not_raised made.0 h (given (place_now c mine - host_place c 0) made.0 (made.1.host (place_now c mine - host_place c 0) (omega (arith, near, high)) at)) (raised made.0 (sym made.2 ∙ raises))))

@@ -11,12 +11,13 @@ use Rattle.mu_model.specs.declared.event.Answer.{Answer}
 use Rattle.mu_model.specs.declared.event.Event.{Event}
 use Rattle.mu_model.specs.declared.event.Verb.{Verb}
 use Rattle.mu_model.specs.Allowed.{Allowed, Needs}
-use Rattle.mu_model.specs.Contents.{IsConfig}
+use Rattle.mu_model.specs.Contents.{IsConfig, holds_all}
 use Rattle.mu_model.specs.Knowledge.{grown, known}
 use Rattle.mu_model.specs.Parts.{IsPossible}
 use Rattle.mu_model.specs.Scores.{leader}
 use Rattle.mu_model.proofs.Basics.{none_some}
-use Rattle.mu_grant.specs.Stands.{Gives, is_of_place}
+use Rattle.mu_grant.specs.declared.grants.Grants.{Grants}
+use Rattle.mu_grant.specs.Stands.{Gives, StandsFor as HostStandsFor, is_of_place}
 use Rattle.mu_agree.proofs.Within.{known_few}
 use Rattle.mu_follow.specs.declared.follow.Follow.{Follow}
 use Rattle.mu_follow.specs.Due.{IsReplay, is_replay}
@@ -35,14 +36,14 @@ use Rattle.mu_lead.proofs.Noted.{same_number_note}
 use Rattle.mu_lead.proofs.Others.{others_kept}
 use Rattle.mu_lead.specs.Lasting.{tables_of}
 use Rattle.mu_lead.specs.Noting.{NotedNext, or_idle}
-use Rattle.mu_model.specs.Contents.{holds_all}
-use Rattle.mu_node.specs.Notes.{SaysTook, TellsTook, note_at}
+use Rattle.mu_node.specs.Notes.{SaysTook, TellsTook, note_at, heed_note}
 use Rattle.mu_node.specs.declared.node.Node.{Node}
+use Rattle.mu_node.specs.declared.watch.Watch.{Watch}
+use Rattle.mu_node.specs.Watch.{StandsForWatch}
 use Rattle.mu_node.specs.Cycle.{other_at, read_at}
 use Rattle.mu_node.specs.Due.{FitsLead, MayBeside, WritesAhead, lead_due, verb_or_beat}
 use Rattle.mu_node.specs.Node.{AwaitsBeside, HoldsBeside, HoldsWith, StandsForLead}
-use Rattle.mu_node.specs.Notes.{heed_note}
-use Rattle.mu_node.proofs.Moving.{event_by}
+use Rattle.mu_node.specs.Events.{event_by}
 
 -- if the event commits nothing, the leader is told all that is known after it
 told_none : (c : Config) (r : ℕ) (mine : List Event) (verb : Verb) (answer : Answer) → commit_of c r mine (event_by r verb answer) ≡ None → known c r (event_by r verb answer ∷ mine) ≡ known_told c r mine r verb answer
@@ -110,21 +111,36 @@ asks : (t : Bool) (due : Option Verb) (verb : Verb) → (if t then due else None
 asks true due verb is = is
 asks false due verb is = absurd (none_some verb is)
 
+-- the verb was due by the leader's own configuration and id, and was answered so
+record IsOwnStep (mine : List Event) (old : Lead) (verb : Verb) (answer : Answer) (values : List ℕ) : Type 0 where
+  due : verb_of old (known old.config old.id mine) ≡ Some verb
+  possible : IsPossible old.config old.id (event_by old.id verb answer ∷ mine)
+  told : values ≡ known_told old.config old.id mine old.id verb answer
+
+-- what holds of a configuration and a replica holds of the leader's
+to_lead : (F : Config → ℕ → Type 0) (c : Config) (r : ℕ) (lead : Lead) → lead.config ≡ c → lead.id ≡ r → F c r → F lead.config lead.id
+to_lead F c r lead same_c same_r it = subst (F lead.config) (sym same_r) (subst (λ k. F k r) (sym same_c) it)
+
+own_step : (c : Config) (r : ℕ) (mine : List Event) (old : Lead) (verb : Verb) (answer : Answer) (values : List ℕ) → StandsForLead c r mine old → lead_due c r mine old ≡ Some verb → IsPossible c r (event_by r verb answer ∷ mine)
+    → values ≡ known_told c r mine r verb answer → IsOwnStep mine old verb answer values
+own_step c r mine old verb answer values held due possible told =
+    let config = held.config in
+    let id = held.id in
+    record {
+      due = to_lead (λ k i. verb_of old (known k i mine) ≡ Some verb) c r old config id (asks (leader c r mine == r) (verb_of old (known c r mine)) verb due);
+      possible = to_lead (λ k i. IsPossible k i (event_by i verb answer ∷ mine)) c r old config id possible;
+      told = to_lead (λ k i. values ≡ known_told k i mine i verb answer) c r old config id told;
+    }
+
 -- the answer of its own verb does
 pub lead_takes : (c : Config) (r : ℕ) (mine : List Event) (old new : Lead) (verb : Verb) (answer : Answer) (values : List ℕ) → StandsForLead c r mine old → new.config ≡ old.config → new.id ≡ old.id → TakesNext mine old values answer new
     → lead_due c r mine old ≡ Some verb → IsPossible c r (event_by r verb answer ∷ mine) → values ≡ known_told c r mine r verb answer → StandsForLead c r (event_by r verb answer ∷ mine) new
 lead_takes c r mine old new verb answer values held same_config same_id takes due possible told =
-    let is = asks (leader c r mine == r) (verb_of old (known c r mine)) verb due in
-    let a = subst (λ k. IsPossible k r (event_by r verb answer ∷ mine)) (sym held.config) possible in
-    let b = subst (λ i. IsPossible old.config i (event_by i verb answer ∷ mine)) (sym held.id) a in
-    let d = subst (λ k. verb_of old (known k r mine) ≡ Some verb) (sym held.config) is in
-    let e = subst (λ i. verb_of old (known old.config i mine) ≡ Some verb) (sym held.id) d in
-    let f = subst (λ k. values ≡ known_told k r mine r verb answer) (sym held.config) told in
-    let g = subst (λ i. values ≡ known_told old.config i mine i verb answer) (sym held.id) f in
+    let own = own_step c r mine old verb answer values held due possible told in
     record {
       config = same_config ∙ held.config;
       id = same_id ∙ held.id;
-      stands = subst (λ i. StandsFor (event_by i verb answer ∷ mine) new) held.id (takes verb e b g);
+      stands = subst (λ i. StandsFor (event_by i verb answer ∷ mine) new) held.id (takes verb own.due own.possible own.told);
     }
 
 -- what is due is allowed, and so is a beat
@@ -203,45 +219,43 @@ fits_other c r mine lead false due verb fits is made = subst (λ v. IsOther c r 
 pub lead_tells : (c : Config) (r : ℕ) (mine : List Event) (old : Lead) (verb : Verb) (answer : Answer) (values : List ℕ) (note : Note) → StandsForLead c r mine old → TellsNext mine old values answer note
     → lead_due c r mine old ≡ Some verb → IsPossible c r (event_by r verb answer ∷ mine) → values ≡ known_told c r mine r verb answer → known c r (event_by r verb answer ∷ mine) ≡ grown values (value_committed note)
 lead_tells c r mine old verb answer values note held tells due possible told =
-    let is = asks (leader c r mine == r) (verb_of old (known c r mine)) verb due in
-    let a = subst (λ k. IsPossible k r (event_by r verb answer ∷ mine)) (sym held.config) possible in
-    let b = subst (λ i. IsPossible old.config i (event_by i verb answer ∷ mine)) (sym held.id) a in
-    let d = subst (λ k. verb_of old (known k r mine) ≡ Some verb) (sym held.config) is in
-    let e = subst (λ i. verb_of old (known old.config i mine) ≡ Some verb) (sym held.id) d in
-    let f = subst (λ k. values ≡ known_told k r mine r verb answer) (sym held.config) told in
-    let g = subst (λ i. values ≡ known_told old.config i mine i verb answer) (sym held.id) f in
+    let own = own_step c r mine old verb answer values held due possible told in
     subst (λ k. known k r (event_by r verb answer ∷ mine) ≡ grown values (value_committed note)) held.config
-    (subst (λ i. known old.config i (event_by i verb answer ∷ mine) ≡ grown values (value_committed note)) held.id (tells verb e b g))
+    (subst (λ i. known old.config i (event_by i verb answer ∷ mine) ≡ grown values (value_committed note)) held.id (tells verb own.due own.possible own.told))
 
 -- and what its contract says of the note is
 pub lead_says : (c : Config) (r : ℕ) (mine : List Event) (old : Lead) (verb : Verb) (answer : Answer) (values : List ℕ) (note : Note) → StandsForLead c r mine old → SaysNext mine old values answer note
     → lead_due c r mine old ≡ Some verb → IsPossible c r (event_by r verb answer ∷ mine) → values ≡ known_told c r mine r verb answer → Says c r mine old.up old.place verb answer note
 lead_says c r mine old verb answer values note held says due possible told =
-    let is = asks (leader c r mine == r) (verb_of old (known c r mine)) verb due in
-    let a = subst (λ k. IsPossible k r (event_by r verb answer ∷ mine)) (sym held.config) possible in
-    let b = subst (λ i. IsPossible old.config i (event_by i verb answer ∷ mine)) (sym held.id) a in
-    let d = subst (λ k. verb_of old (known k r mine) ≡ Some verb) (sym held.config) is in
-    let e = subst (λ i. verb_of old (known old.config i mine) ≡ Some verb) (sym held.id) d in
-    let f = subst (λ k. values ≡ known_told k r mine r verb answer) (sym held.config) told in
-    let g = subst (λ i. values ≡ known_told old.config i mine i verb answer) (sym held.id) f in
+    let own = own_step c r mine old verb answer values held due possible told in
     subst (λ k. Says k r mine old.up old.place verb answer note) held.config
-    (subst (λ i. Says old.config i mine old.up old.place verb answer note) held.id (says verb e b g))
+    (subst (λ i. Says old.config i mine old.up old.place verb answer note) held.id (says verb own.due own.possible own.told))
 
 -- so is which note the place gives
 pub lead_noted : (c : Config) (r : ℕ) (mine : List Event) (old : Lead) (verb : Verb) (answer : Answer) (values : List ℕ) (note : Note) → StandsForLead c r mine old → NotedNext mine old values answer note
     → lead_due c r mine old ≡ Some verb → IsPossible c r (event_by r verb answer ∷ mine) → values ≡ known_told c r mine r verb answer → note ≡ note_at c r mine (tables_of old) old.place verb answer
 lead_noted c r mine old verb answer values note held noted due possible told =
-    let is = asks (leader c r mine == r) (verb_of old (known c r mine)) verb due in
-    let a = subst (λ k. IsPossible k r (event_by r verb answer ∷ mine)) (sym held.config) possible in
-    let b = subst (λ i. IsPossible old.config i (event_by i verb answer ∷ mine)) (sym held.id) a in
-    let d = subst (λ k. verb_of old (known k r mine) ≡ Some verb) (sym held.config) is in
-    let e = subst (λ i. verb_of old (known old.config i mine) ≡ Some verb) (sym held.id) d in
-    let f = subst (λ k. values ≡ known_told k r mine r verb answer) (sym held.config) told in
-    let g = subst (λ i. values ≡ known_told old.config i mine i verb answer) (sym held.id) f in
+    let own = own_step c r mine old verb answer values held due possible told in
     let now = event_by old.id verb answer ∷ mine in
     subst (λ k. note ≡ note_at k r mine (tables_of old) old.place verb answer) held.config
     (subst (λ i. note ≡ note_at old.config i mine (tables_of old) old.place verb answer) held.id
-    (noted verb e b g ∙ ap (or_idle (holds_all old.config (known old.config old.id now))) (same_number_note old.config old.id old.number mine now old.up old.reach old.written.items (tables_of old) answer old.place held.stands.at)))
+    (noted verb own.due own.possible own.told ∙ ap (or_idle (holds_all old.config (known old.config old.id now))) (same_number_note old.config old.id old.number mine now old.up old.reach old.written.items (tables_of old) answer old.place held.stands.at)))
+
+-- the node with other parts beside the leader
+pub parts_take : (F G : Follow → Type 0) (c : Config) (r : ℕ) (mine now : List Event) (node : Node) (grants : Grants) (watch : Watch) (follow : Follow) → HoldsWith F c r mine node → HostStandsFor c.replicas r now grants → StandsForWatch c r now watch → G follow
+    → HoldsWith G c r now (record node { grants = grants; watch = watch; follow = follow })
+parts_take F G c r mine now node grants watch follow held hosts watches follows = record {
+  id = held.id;
+  replicas = held.replicas;
+  budget = held.budget;
+  grants = hosts;
+  watch = watches;
+  follow = follows;
+  no_log = held.no_log;
+  log_room = held.log_room;
+  no_commits = held.no_commits;
+  commit_room = held.commit_room;
+}
 
 -- the node with another leader
 abbrev pub with_lead : Node → Lead → Node

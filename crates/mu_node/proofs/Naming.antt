@@ -1,6 +1,6 @@
 -- What a node's journal shows of its beats, of the counts that it reads, of whom it names and of its asks.
-use Rattle.std.proofs.Common.{◌≡◌, ◌∙◌, ◌≢◌, ℕ, ◌+◌, ◌-◌, ◌<◌, ◌≤◌, ◌==◌, ◌&&◌, ◌⊎◌, inl, inr, Bool, true, false, cond, None, Some, List, [], ◌∷◌, ◌++◌, ap, append_assoc, arith, drop, eqb-true, eq-eqb, length, refl, subst, sym, take}
-use Rattle.std.specs.Prelude.{if◌then◌else◌, nat_lt, not}
+use Rattle.std.proofs.Common.{◌≡◌, ◌∙◌, ◌≢◌, ℕ, ◌+◌, ◌<◌, ◌≤◌, ◌==◌, ◌&&◌, ◌⊎◌, inl, inr, Bool, true, false, cond, None, Some, List, [], ◌∷◌, ◌++◌, ap, append_assoc, arith, drop, eqb-true, eq-eqb, length, refl, subst, sym, take}
+use Rattle.std.specs.Prelude.{if◌then◌else◌, not}
 use Rattle.std.specs.declared.option.Option.{Option}
 use Rattle.std.proofs.Math.Nat.{mod-eq_of_lt}
 use Rattle.std.proofs.lemmas.Bool.{cases_eq, cases_lt, ne_eqb, true≢false, and_parts}
@@ -30,16 +30,15 @@ use Rattle.mu_lead.specs.Standing.{verb_at}
 use Rattle.mu_model.specs.Knowledge.{known}
 use Rattle.mu_node.specs.declared.zeal.Zeal.{Zeal}
 use Rattle.mu_node.specs.Watch.{is_beat_read as reads_beat}
-use Rattle.mu_node.proofs.Rounding.{cycle_fails}
+use Rattle.mu_node.proofs.Rounding.{cycle_fails, FailsBackground, keeps_rounds, read_here}
 use Rattle.mu_lead.specs.Ahead.{entry_before, word_after}
 use Rattle.mu_node.proofs.CatchingUp.{catches_reading, made_led, reading_fails}
-use Rattle.mu_node.specs.Cycle.{other_at, place_now}
-use Rattle.mu_node.specs.Due.{or_ahead, verb_or_beat}
+use Rattle.mu_node.specs.Cycle.{place_now}
+use Rattle.mu_node.specs.Due.{or_ahead, verb_or_beat, listed_due}
 use Rattle.mu_node.specs.Journal.{WasMade, was_named}
-use Rattle.mu_node.proofs.Rounding.{FailsBackground, background_fails, keeps_rounds, read_here}
-use Rattle.mu_node.proofs.Failing.{Fails}
+use Rattle.mu_node.proofs.Asked.{of_lead}
+use Rattle.mu_node.proofs.Failing.{Fails, read_fails}
 use Rattle.mu_lead.specs.Journal.{place_after, tables_at, number_due}
-use Rattle.mu_node.specs.Due.{listed_due}
 use Rattle.mu_pace.proofs.Pasts.{how_many-append, some_counted}
 
 -- how often q has beaten is how many beats its part has
@@ -136,10 +135,7 @@ first_named c r mine some alive = least_found (may_lead r mine) c.replicas 0 ref
 
 -- an ask is none of the background
 asks_fail : (p : ℕ) → FailsBackground (is_asking_verb p)
-asks_fail p = record {
-  replays = record { beat = refl; fuo = λ q. refl; look = λ q i. refl; row = λ v k. refl; raise = λ q u. refl; raise_head = λ h. refl; head = λ q. refl };
-  host = host;
-}
+asks_fail p = record { replays = record { beat = refl; fuo = λ q. refl; look = λ q i. refl; row = λ v k. refl; raise = λ q u. refl; raise_head = λ h. refl; head = λ q. refl }; host = host }
   where
     host : (d : ℕ) (verb : Verb) → is_of_place d verb ≡ true → is_asking_verb p verb ≡ false
     host d (Verb.Ask q) is = absurd (true≢false (sym is))
@@ -147,34 +143,7 @@ asks_fail p = record {
 
 -- who asks names itself
 pub asker_named : (c : Config) (r p : ℕ) (mine : List Event) (e : Event) → WasMade c r mine e → is_asking p e ≡ true → leader c r mine ≡ r
-asker_named c r p mine e held asks = go (is_odd (length mine)) refl
-  where
-    not_due : (due : Option Verb) → Fails (is_asking_verb p) due → e.verb ≡ verb_or_beat due → ⊥
-    not_due due fails made = true≢false (sym asks ∙ (ap (is_asking_verb p) made ∙ fails))
-
-    named : (t : Bool) → (leader c r mine == r) ≡ t → e.verb ≡ verb_or_beat (if t then listed_due c r mine else None) → leader c r mine ≡ r
-    named true is made = eqb-true (leader c r mine) r is
-    named false is made = absurd (not_due None refl made)
-
-    read : (s t : Bool) → is_asking_verb p (if s then Verb.Beat else if t then Verb.ReadBeat (other_at r (place_now c mine)) else Verb.ReadAsk (place_now c mine - c.replicas)) ≡ false
-    read true t = refl
-    read false true = refl
-    read false false = refl
-
-    go : (t : Bool) → is_odd (length mine) ≡ t → leader c r mine ≡ r
-    go true odd = elim (made_led held.zeal c r mine e.verb (held.made.replication odd)) [
-      | inl listed ↦ named (leader c r mine == r) refl listed
-      | inr third ↦ elim third [
-        | inl caught ↦ absurd (true≢false (sym asks ∙ reading_fails (is_asking_verb p) e.verb (catches_reading c r mine e.verb caught.due) (λ q i. refl) (λ v k. refl)))
-        | inr out ↦ eqb-true (leader c r mine) r out.named
-      ]
-    ]
-    go false even =
-        let made = held.made.background even in
-        elim (cases_lt (place_now c mine) (host_place c 0)) [
-          | inl low ↦ absurd (true≢false (sym asks ∙ (ap (is_asking_verb p) (made.2 ∙ ap (or_ahead held.zeal c r mine) (made.1.read low)) ∙ read (place_now c mine == 0) (nat_lt (place_now c mine) c.replicas))))
-          | inr high ↦ absurd (true≢false (sym asks ∙ (ap (is_asking_verb p) made.2 ∙ background_fails (is_asking_verb p) (asks_fail p) (λ j k x. refl) held.zeal c r mine (leads_at (place_after c r mine)) made.0 high made.1)))
-        ]
+asker_named c r p mine e held asks = eqb-true (leader c r mine) r (of_lead (is_asking_verb p) c r mine e held (asks_fail p) (λ j k x. refl) refl (λ q. refl) (λ w. refl) asks).named
 
 -- the verb writes a word of a row
 abbrev pub is_row_write : Verb → Bool
@@ -183,10 +152,7 @@ is_row_write _ = false
 
 -- which is none of the cycle
 writes_fail : FailsBackground is_row_write
-writes_fail = record {
-  replays = record { beat = refl; fuo = λ q. refl; look = λ q i. refl; row = λ v k. refl; raise = λ q u. refl; raise_head = λ h. refl; head = λ q. refl };
-  host = host;
-}
+writes_fail = record { replays = record { beat = refl; fuo = λ q. refl; look = λ q i. refl; row = λ v k. refl; raise = λ q u. refl; raise_head = λ h. refl; head = λ q. refl }; host = host }
   where
     host : (d : ℕ) (verb : Verb) → is_of_place d verb ≡ true → is_row_write verb ≡ false
     host d (Verb.WriteRow j k x) is = absurd (true≢false (sym is))
@@ -232,11 +198,6 @@ writer_named c r mine e before held writes = go (is_odd (length mine)) refl
     named true is made = eqb-true (leader c r mine) r is
     named false is made = absurd (not_due None refl made)
 
-    read : (s t : Bool) → is_row_write (if s then Verb.Beat else if t then Verb.ReadBeat (other_at r (place_now c mine)) else Verb.ReadAsk (place_now c mine - c.replicas)) ≡ false
-    read true t = refl
-    read false true = refl
-    read false false = refl
-
     leads : is_odd (length mine) ≡ false → (t : Bool) → leads_at (place_after c r mine) ≡ t → (other : Option Verb) → e.verb ≡ verb_or_beat (if t then other else None) → leader c r mine ≡ r
     leads even true led other made = still_named c r mine before (held.leads even led)
     leads even false led other made = absurd (not_due None refl made)
@@ -257,6 +218,6 @@ writer_named c r mine e before held writes = go (is_odd (length mine)) refl
     go false even =
         let made = held.made.background even in
         elim (cases_lt (place_now c mine) (host_place c 0)) [
-          | inl low ↦ absurd (true≢false (sym writes ∙ (ap is_row_write (made.2 ∙ ap (or_ahead held.zeal c r mine) (made.1.read low)) ∙ read (place_now c mine == 0) (nat_lt (place_now c mine) c.replicas))))
+          | inl low ↦ absurd (true≢false (sym writes ∙ (ap is_row_write (made.2 ∙ ap (or_ahead held.zeal c r mine) (made.1.read low)) ∙ read_fails is_row_write refl (λ q. refl) (λ w. refl) c.replicas r (place_now c mine))))
           | inr high ↦ ahead even held.zeal made.0 (cycle_fails is_row_write writes_fail c r mine (leads_at (place_after c r mine)) made.0 high made.1) made.2
         ]

@@ -8,7 +8,7 @@ use Rattle.mu_model.specs.declared.event.Event.{Event}
 use Rattle.mu_model.specs.declared.event.Verb.{Verb}
 use Rattle.mu_model.specs.Bounds.{cycle}
 use Rattle.mu_model.specs.Diligence.{completes_row, completes_row_verb, is_row_of}
-use Rattle.mu_model.specs.Knowledge.{applied, greatest_fuo_read, has_row, has_word, known}
+use Rattle.mu_model.specs.Knowledge.{applied, greatest_fuo_read, has_row, has_word, known, front, has_entry}
 use Rattle.mu_model.specs.Steps.{is_fuo_of, is_fuo_of_verb, is_named, knows_more}
 use Rattle.mu_model.specs.Stretches.{is_odd}
 use Rattle.mu_model.proofs.Basics.{none_some, or_true, same_number, same_some, true_or}
@@ -17,25 +17,21 @@ use Rattle.mu_knowledge.proofs.Fetched.{read_word}
 use Rattle.mu_follow.specs.CatchingUp.{catch_up_due, entry_due, lacked_word_of, or_else, words_had}
 use Rattle.mu_follow.specs.Due.{replay_due, row_read, row_under_way}
 use Rattle.mu_follow.proofs.Due.{least_below_fails}
-use Rattle.mu_follow.proofs.Waiting.{fuo_rises, known_same}
+use Rattle.mu_follow.proofs.Waiting.{fuo_rises, known_same, front_same}
 use Rattle.mu_lead.specs.Beside.{leads_at}
 use Rattle.mu_pace.specs.Counters.{AtEachMoment, AtEachStep, HasRoom, IsInTime, fewer, left_after, steps_left}
 use Rattle.mu_pace.specs.Watches.{is_named_turn, is_replay_due, reading_own, replaying}
 use Rattle.mu_pace.proofs.Cycles.{closed_moments, steps_give, while_allows}
 use Rattle.mu_model.specs.Contents.{IsConfig}
-use Rattle.mu_model.specs.Knowledge.{front, has_entry}
 use Rattle.mu_model.specs.Parts.{IsPossible}
 use Rattle.mu_agree.proofs.Possible.{parts_shorten_law}
-use Rattle.mu_follow.proofs.Waiting.{front_same}
-use Rattle.mu_node.specs.Due.{or_ahead}
+use Rattle.mu_node.specs.Due.{or_ahead, CatchesUp, verb_or_beat, listed_due}
 use Rattle.mu_node.proofs.OwnRows.{rows_stay, word_on}
 use Rattle.mu_node.specs.Cycle.{handed}
-use Rattle.mu_node.specs.Due.{CatchesUp, verb_or_beat}
 use Rattle.mu_node.proofs.CatchingUp.{closes_anew, made_led}
 use Rattle.mu_node.specs.Journal.{WasMade, was_named}
 use Rattle.mu_node.proofs.Rounding.{replayed_at}
 use Rattle.mu_lead.specs.Journal.{place_after}
-use Rattle.mu_node.specs.Due.{listed_due}
 
 own_allows : (c : Config) (r : ℕ) (now : List Event) (allowed : ℕ) → (reading_own c r).allows now ≡ Some allowed → 8 * c.replicas + 88 ≡ allowed
 own_allows c r now allowed is = while_allows (λ now. true) (λ now. 8 * c.replicas + 88) now allowed is

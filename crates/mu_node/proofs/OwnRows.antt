@@ -12,14 +12,13 @@ use Rattle.mu_model.specs.Histories.{all_below, has, part}
 use Rattle.mu_model.specs.Knowledge.{has_row, has_word, is_read, is_written, known, wrote, wrote_batch}
 use Rattle.mu_model.specs.Legal.{IsLegalHistory}
 use Rattle.mu_model.specs.Parts.{IsPossible}
-use Rattle.mu_model.proofs.Basics.{true_or}
+use Rattle.mu_model.proofs.Basics.{true_or, or_true}
 use Rattle.mu_model.proofs.Owned.{has-part}
 use Rattle.mu_model.proofs.Scans.{all_at, each_all}
 use Rattle.mu_agree.proofs.Phases.{known_chosen}
 use Rattle.mu_agree.proofs.Sessions.{batch_within, mark_no_batch, row_within}
 use Rattle.mu_agree.proofs.Sound.{Fits, by_batch, by_mark, chosen_sound}
 use Rattle.mu_follow.proofs.Waiting.{is_write, own_row_same, row_of_known}
-use Rattle.mu_model.proofs.Basics.{or_true}
 use Rattle.mu_agree.proofs.Landings.{has_more}
 use Rattle.mu_pace.proofs.Pasts.{written-own}
 

@@ -18,7 +18,7 @@ use Rattle.mu_model.specs.Stretches.{is_odd}
 use Rattle.mu_model.proofs.Lists.{get_front}
 use Rattle.mu_grant.specs.Pace.{host_place}
 use Rattle.mu_grant.specs.Stands.{Gives, is_of_place}
-use Rattle.mu_knowledge.specs.RowWords.{IsOfKnown, IsReadKnown, ReadsKnown}
+use Rattle.mu_knowledge.specs.RowWords.{IsReadKnown, ReadsKnown}
 use Rattle.mu_knowledge.proofs.Fetched.{applied_grows}
 use Rattle.mu_follow.proofs.Waiting.{row_of_known}
 use Rattle.mu_follow.specs.Due.{ahead_due, filled_known, fuo_due, head_due, next_due, other_head_due, other_of, own_fuo, first_word_of, look_due, next_word_of, raise_due, replay_due, row_read, row_under_way, rows_had, word_due}
@@ -28,16 +28,14 @@ use Rattle.mu_lead.specs.Standing.{verb_at, verb_of}
 use Rattle.mu_pace.specs.Counters.{AtEachStep}
 use Rattle.mu_node.specs.declared.zeal.Zeal.{Zeal}
 use Rattle.mu_lead.specs.declared.lead.Lead.{Lead}
-use Rattle.mu_node.specs.Due.{ReadsOn, held_write_due, lead_due, write_due, or_ahead}
-use Rattle.mu_node.proofs.Failing.{ahead_fails, led_ahead_fails}
+use Rattle.mu_node.specs.Due.{ReadsOn, held_write_due, lead_due, write_due, or_ahead, verb_or_beat, listed_due}
+use Rattle.mu_node.proofs.Failing.{ahead_fails, led_ahead_fails, read_fails}
 use Rattle.mu_node.proofs.CatchingUp.{made_led}
 use Rattle.mu_follow.specs.CatchingUp.{catch_up_due, entry_due, lacked_word_due, lacked_word_of, or_else, words_had}
-use Rattle.mu_node.specs.Cycle.{IsBackgroundDue, handed, handed_before, hands_on, other_at, place_now, read_at}
-use Rattle.mu_node.specs.Due.{verb_or_beat}
+use Rattle.mu_node.specs.Cycle.{IsBackgroundDue, handed, handed_before, hands_on, place_now, read_at}
 use Rattle.mu_node.specs.Journal.{WasMade}
 use Rattle.mu_node.specs.Reads.{IsNext, IsReadNext, ReadsNext}
 use Rattle.mu_lead.specs.Journal.{due_after, number_due, place_after, tables_at}
-use Rattle.mu_node.specs.Due.{listed_due}
 
 -- a row of a known batch stays one
 grown_begins : (values : List ℕ) (o : Option ℕ) (i v : ℕ) → slice_get values i ≡ Some v → slice_get (grown values o) i ≡ Some v
@@ -205,12 +203,7 @@ gives_reads c r d mine (Some verb) gives = host_reads d verb (gives.given verb r
 
 -- the reads before
 read_reads : (n r place : ℕ) → is_row_read (read_at n r place) ≡ false
-read_reads n r place = go (place == 0) (nat_lt place n)
-  where
-    go : (s t : Bool) → is_row_read (if s then Verb.Beat else if t then Verb.ReadBeat (other_at r place) else Verb.ReadAsk (place - n)) ≡ false
-    go true t = refl
-    go false true = refl
-    go false false = refl
+read_reads n r place = read_fails is_row_read refl (λ q. refl) (λ w. refl) n r place
 
 pub background_reads : (c : Config) (r : ℕ) (mine : List Event) (leading : Bool) (due : Option Verb) → ReadsNext c r mine → IsBackgroundDue c r mine leading due → Reads c r mine due
 background_reads c r mine leading due reads is = elim (cases_lt place (host_place c 0)) [

@@ -9,7 +9,7 @@ use Rattle.mu_model.specs.declared.config.Config.{Config}
 use Rattle.mu_model.specs.declared.event.Event.{Event}
 use Rattle.mu_model.specs.declared.event.Verb.{Verb}
 use Rattle.mu_model.specs.Bounds.{cycle}
-use Rattle.mu_model.specs.Contents.{rest_of}
+use Rattle.mu_model.specs.Contents.{rest_of, IsConfig}
 use Rattle.mu_model.specs.Diligence.{completes_row, completes_row_verb, is_row_of}
 use Rattle.mu_model.specs.Ends.{outrun}
 use Rattle.mu_model.specs.Knowledge.{applied, greatest_fuo_read, has_row, has_word, is_known_decided, known}
@@ -29,7 +29,6 @@ use Rattle.mu_pace.proofs.Cycles.{closed_moments}
 use Rattle.mu_pace.proofs.Rooms.{kinds_of_step}
 use Rattle.mu_node.specs.Cycle.{handed, handed_before, hands_on, place_now}
 use Rattle.mu_node.specs.Due.{or_ahead}
-use Rattle.mu_model.specs.Contents.{IsConfig}
 use Rattle.mu_node.specs.Journal.{WasMade}
 use Rattle.mu_node.proofs.Rounding.{at_place, place_index, replayed_at}
 use Rattle.mu_node.proofs.Open.{IsOpenStep, IsStill, open_step, rows_allow, rows_anew, still_applied, still_known, still_open, undue_room, word_had}

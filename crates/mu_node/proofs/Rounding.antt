@@ -32,14 +32,13 @@ use Rattle.mu_pace.proofs.Cycles.{steps_give}
 use Rattle.mu_pace.proofs.Rounds.{places_are_indices}
 use Rattle.mu_node.specs.Cycle.{IsBackgroundDue, handed, other_at, place_now, read_at}
 use Rattle.mu_node.specs.declared.zeal.Zeal.{Zeal}
-use Rattle.mu_node.specs.Due.{write_due, or_ahead, verb_or_beat}
+use Rattle.mu_node.specs.Due.{write_due, or_ahead, verb_or_beat, listed_due}
 use Rattle.mu_node.specs.Journal.{WasMade}
 use Rattle.mu_follow.proofs.Paces.{heads_rise_in_time}
-use Rattle.mu_node.proofs.Failing.{Fails, ahead_fails, either, else_fails}
+use Rattle.mu_node.proofs.Failing.{Fails, ahead_fails, either, else_fails, read_fails}
 use Rattle.mu_node.proofs.CatchingUp.{catches_reading, made_led, reading_fails}
 use Rattle.mu_node.proofs.Turning.{handed_here}
 use Rattle.mu_lead.specs.Journal.{due_after, number_due, place_after, tables_at}
-use Rattle.mu_node.specs.Due.{listed_due}
 
 -- a place of the background, from the place of the round
 pub at_place : (c : Config) (x : ℕ) (mine : List Event) → length mine % cycle c ≡ 2 * x → (is_odd (length mine) ≡ false) × (place_now c mine ≡ x)
@@ -233,7 +232,7 @@ background_fails test fails write zeal c r mine leading due high is = else_fails
 -- no word of a row is written in the cycle
 pub cycle_writes_none : (c : Config) (r : ℕ) (mine : List Event) (leading : Bool) (due : Option Verb) → IsBackgroundDue c r mine leading due → writes_row (verb_or_beat due) ≡ false
 cycle_writes_none c r mine leading due is = elim (cases_lt (place_now c mine) (host_place c 0)) [
-  | inl low ↦ ap (λ d. writes_row (verb_or_beat d)) (is.read low) ∙ read (place_now c mine == 0) (nat_lt (place_now c mine) c.replicas)
+  | inl low ↦ ap (λ d. writes_row (verb_or_beat d)) (is.read low) ∙ read_fails writes_row refl (λ q. refl) (λ w. refl) c.replicas r (place_now c mine)
   | inr high ↦ cycle_fails writes_row fails c r mine leading due high is
 ]
   where
@@ -242,22 +241,11 @@ cycle_writes_none c r mine leading due is = elim (cases_lt (place_now c mine) (h
     host d verb is = refl
 
     fails : FailsBackground writes_row
-    fails = record {
-      replays = record { beat = refl; fuo = λ p. refl; look = λ p i. refl; row = λ v k. refl; raise = λ p u. refl; raise_head = λ h. refl; head = λ q. refl };
-      host = host;
-    }
-
-    read : (s t : Bool) → writes_row (if s then Verb.Beat else if t then Verb.ReadBeat (other_at r (place_now c mine)) else Verb.ReadAsk (place_now c mine - c.replicas)) ≡ false
-    read true t = refl
-    read false true = refl
-    read false false = refl
+    fails = record { replays = record { beat = refl; fuo = λ p. refl; look = λ p i. refl; row = λ v k. refl; raise = λ p u. refl; raise_head = λ h. refl; head = λ q. refl }; host = host }
 
 -- such is the read of a beat
 beat_fails : (q : ℕ) → FailsBackground (is_beat_read_verb q)
-beat_fails q = record {
-  replays = record { beat = refl; fuo = λ p. refl; look = λ p i. refl; row = λ v k. refl; raise = λ p u. refl; raise_head = λ h. refl; head = λ q. refl };
-  host = host;
-}
+beat_fails q = record { replays = record { beat = refl; fuo = λ p. refl; look = λ p i. refl; row = λ v k. refl; raise = λ p u. refl; raise_head = λ h. refl; head = λ q. refl }; host = host }
   where
     host : (d : ℕ) (verb : Verb) → is_of_place d verb ≡ true → is_beat_read_verb q verb ≡ false
     host d (Verb.ReadBeat p) is = absurd (true≢false (sym is))

@@ -34,18 +34,16 @@ use Rattle.mu_node.specs.declared.zeal.Zeal.{Zeal}
 use Rattle.mu_node.specs.Due.{asks_out_of_turn, write_due, idle_due, lead_due, or_ahead, verb_or_beat}
 use Rattle.mu_node.proofs.Failing.{ahead_fails, else_fails}
 use Rattle.mu_follow.specs.CatchingUp.{catch_up_due, or_else}
-use Rattle.mu_model.specs.Steps.{is_named}
 use Rattle.std.proofs.Math.Bool.{and-false}
 use Rattle.mu_node.proofs.CatchingUp.{catches_reading, is_reading, reading_fails}
 use Rattle.mu_node.specs.Node.{HasHeard, HasPlanned, StandsForLead}
 use Rattle.mu_node.specs.Notes.{HasTold, MovesGoing, SaysTook, TellsNote, TellsTook, heed_note, note_before, note_at}
 use Rattle.mu_node.proofs.Leading.{odd_may}
 use Rattle.mu_node.proofs.Leads.{due_named, due_unresigned}
-use Rattle.mu_node.proofs.Pacing.{paces_odd}
+use Rattle.mu_node.proofs.Pacing.{paces_odd, due_listed}
 use Rattle.mu_lead.specs.Journal.{IsWhere, due_after, place_after}
 use Rattle.mu_lead.specs.Lasting.{tables_of}
 use Rattle.mu_lead.specs.Listing.{Tables}
-use Rattle.mu_node.proofs.Pacing.{due_listed}
 use Rattle.mu_pace.proofs.Pasts.{not_true}
 
 -- the verb neither reads asks nor is one of the host

@@ -2,8 +2,10 @@ pub mod Answering
 pub mod Answers
 pub mod Cycle
 pub mod Due
+pub mod Events
 pub mod Growing
 pub mod Journal
+pub mod Keeping
 pub mod Node
 pub mod Notes
 pub mod Paced

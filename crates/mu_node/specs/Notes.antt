@@ -24,6 +24,7 @@ use Rattle.mu_lead.specs.Notes.{value_committed}
 use Rattle.mu_lead.specs.Noting.{next_note, or_idle}
 use Rattle.mu_lead.specs.Saying.{Says}
 use Rattle.mu_lead.specs.Standing.{known_told}
+use Rattle.mu_node.specs.Events.{event_by}
 use Rattle.mu_node.specs.declared.turn.Turn.{Turn}
 use Rattle.mu_node.specs.declared.zeal.Zeal.{Zeal}
 use Rattle.mu_node.specs.Cycle.{IsMade}
@@ -32,9 +33,9 @@ use Rattle.mu_node.specs.Due.{asks_out_of_turn, lead_due}
 -- what the leader notes of the verb, answered so, at this place and with these tables
 abbrev pub note_at : Config → ℕ → List Event → Tables → Place → Verb → Answer → Note
 note_at c r mine t place verb answer =
-    or_idle (holds_all c (known c r (record { by = r; verb = verb; answer = answer } ∷ mine)))
-    (next_note c r (or_zero (proposal_number r mine)) mine
-    (record { by = r; verb = verb; answer = answer } ∷ mine) t answer place)
+    or_idle (holds_all c (known c r (event_by r verb answer ∷ mine)))
+    (next_note c r (or_zero (proposal_number r mine)) mine (event_by r verb answer ∷ mine) t answer
+    place)
 
 -- what the leader notes when it is told which leader the scores of r name: it resigns if a
 -- leadership is under way and a lower replica is named
@@ -56,8 +57,8 @@ pub record TellsTook (c : Config) (r : ℕ) (mine : List Event) (leads : Bool) (
   pub beside : leads ≡ false → note ≡ heeded
   pub taken :
       (verb : Verb) → leads ≡ true → due ≡ Some verb → heeded ≡ Note.Working
-      → IsPossible c r (record { by = r; verb = verb; answer = answer } ∷ mine)
-      → known c r (record { by = r; verb = verb; answer = answer } ∷ mine)
+      → IsPossible c r (event_by r verb answer ∷ mine)
+      → known c r (event_by r verb answer ∷ mine)
       ≡ grown (known_told c r mine r verb answer) (value_committed note)
 
 -- whether a leadership is still under way when the leader was told which leader the scores of r
@@ -82,11 +83,11 @@ pub record SaysTook (c : Config) (r : ℕ) (mine : List Event) (leads : Bool) (d
   pub beside : leads ≡ false → next.under_way ≡ lead.under_way
   pub says :
       (verb : Verb) → leads ≡ true → due ≡ Some verb → heeded ≡ Note.Working
-      → IsPossible c r (record { by = r; verb = verb; answer = answer } ∷ mine)
+      → IsPossible c r (event_by r verb answer ∷ mine)
       → Says c r mine lead.up lead.place verb answer note
   pub noted :
       (verb : Verb) → leads ≡ true → due ≡ Some verb → heeded ≡ Note.Working
-      → IsPossible c r (record { by = r; verb = verb; answer = answer } ∷ mine)
+      → IsPossible c r (event_by r verb answer ∷ mine)
       → note ≡ note_at c r mine (tables_of lead) lead.place verb answer
   pub going :
       (verb : Verb) → leads ≡ true → due ≡ Some verb → heeded ≡ Note.Working
@@ -106,7 +107,7 @@ pub record TellsNote (zeal : Zeal) (c : Config) (r : ℕ) (mine : List Event) (l
   pub taken :
       (verb : Verb) → asks_out_of_turn zeal c r mine ≡ false → is_odd (length mine) ≡ true
       → due_after c r mine ≡ Some verb
-      → known c r (record { by = r; verb = verb; answer = answer } ∷ mine)
+      → known c r (event_by r verb answer ∷ mine)
       ≡ grown (known_told c r mine r verb answer) (value_committed note)
   pub says :
       (verb : Verb) → asks_out_of_turn zeal c r mine ≡ false → is_odd (length mine) ≡ true
@@ -126,7 +127,7 @@ pub record HasMade (zeal : Zeal) (c : Config) (r : ℕ) (mine now : List Event) 
     (note : Note) : Type 0 where
   pub verb : Verb
   pub answer : Answer
-  pub part : now ≡ (record { by = r; verb = verb; answer = answer }) ∷ mine
+  pub part : now ≡ event_by r verb answer ∷ mine
   pub made : IsMade zeal c r mine verb
   pub tells : TellsNote zeal c r mine lead answer note
 

@@ -15,6 +15,7 @@ use Rattle.mu_model.specs.Knowledge.{applied, commits}
 use Rattle.mu_port.specs.Telling.{Tells}
 use Rattle.mu_knowledge.specs.Commits.{pair_of}
 use Rattle.mu_follow.specs.Groups.{AreSpelled, groups_of}
+use Rattle.mu_node.specs.Events.{event_by}
 use Rattle.mu_node.specs.declared.result.NodeResult.{NodeResult}
 use Rattle.mu_node.specs.declared.turn.Turn.{Turn}
 
@@ -23,7 +24,7 @@ pub record IsOneStep (c : Config) (r : ℕ) (mine now : List Event)
     (before after : Option (List Event)) : Type 0 where
   pub verb : Verb
   pub answer : Answer
-  pub part : now ≡ (record { by = r; verb = verb; answer = answer }) ∷ mine
+  pub part : now ≡ event_by r verb answer ∷ mine
   pub told : Tells c r before after verb answer
 
 -- the events have no end yet

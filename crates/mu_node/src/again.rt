@@ -11,6 +11,7 @@ ghost use Rattle.mu_lead.specs.Again.{TellsAstray, first_ask};
 ghost use Rattle.mu_lead.specs.Standing.{HasHeeded};
 ghost use Rattle.mu_node.specs.Due.{asks_out_of_turn, is_eager};
 ghost use Rattle.mu_node.specs.Journal.{FollowsTurn};
+ghost use Rattle.mu_node.specs.Keeping.{Becomes, KeepsSelf};
 ghost use Rattle.mu_node.specs.Node.{IsGone, LivesForNode, StandsAs};
 
 use crate::node::Node;
@@ -53,14 +54,10 @@ impl Node {
         requires stands { LivesForNode self.old.follow.config self.old.id mine self.old }
         requires named { is_named self.old.follow.config self.old.id mine ≡ true }
         requires asks { asks_again self.old.follow.config self.old.id mine ≡ true }
-        ensures gone { (full : Bool)
-            → StandsAs full self.old.follow.config self.old.id mine self.old
-            → IsGone full self.old.follow.config self.old.id mine self.new }
+        ensures gone { Becomes IsGone mine self.old self.new }
         ensures begins { self.new.lead.place ≡ Place.Ask 0 }
         ensures follow { self.new.follow ≡ self.old.follow }
-        ensures id { self.new.id ≡ self.old.id }
-        ensures zeal { self.new.zeal ≡ self.old.zeal }
-        ensures stops { self.new.stops ≡ self.old.stops }
+        ensures keeps { KeepsSelf self.old self.new }
         ensures heeded { HasHeeded mine self.new.lead }
         ensures told { TellsAstray self.old.follow.config self.old.id mine result }
     {

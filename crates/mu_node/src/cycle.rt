@@ -8,6 +8,7 @@ ghost use Rattle.mu_model.specs.Stretches.{is_odd};
 ghost use Rattle.mu_lead.specs.Beside.{leads_at};
 ghost use Rattle.mu_node.specs.Cycle.{IsBackgroundDue, IsDueAt, other_at, place_now, read_at};
 ghost use Rattle.mu_node.specs.Due.{MayBeside};
+ghost use Rattle.mu_node.specs.Keeping.{InBackground, KeepsSelf, OncePlanned};
 ghost use Rattle.mu_node.specs.Node.{HasPlanned, LivesForNode, StandsAs};
 
 use crate::answers::apply_ready;
@@ -52,18 +53,11 @@ impl Node {
             → is_odd (length mine) ≡ false → IsPossible c r mine
             → StandsAs full c r mine self.old → HasPlanned full c r mine self.new }
         ensures lead { self.new.lead ≡ self.old.lead }
-        ensures config { self.new.follow.config ≡ self.old.follow.config }
-        ensures id { self.new.id ≡ self.old.id }
-        ensures zeal { self.new.zeal ≡ self.old.zeal }
-        ensures stops { self.new.stops ≡ self.old.stops }
-        ensures due { (c : Config) → (r : ℕ) → (mine : List SomeEvent) → IsPossible c r mine
-            → length mine < c.budget → is_odd (length mine) ≡ false
-            → LivesForNode c r mine self.old
-            → IsBackgroundDue c r mine (leads_at self.old.lead.place) result }
-        ensures may { (c : Config) → (r : ℕ) → (mine : List SomeEvent) → IsPossible c r mine
-            → length mine < c.budget → is_odd (length mine) ≡ false
-            → LivesForNode c r mine self.old
-            → IfSome result (λ verb. MayBeside c r mine self.old.lead verb) }
+        ensures keeps { KeepsSelf self.old self.new }
+        ensures due { InBackground self.old
+            (λ c r mine. IsBackgroundDue c r mine (leads_at self.old.lead.place) result) }
+        ensures may { InBackground self.old
+            (λ c r mine. IfSome result (λ verb. MayBeside c r mine self.old.lead verb)) }
     {
         let place = self.place();
         self.hand_on(place);
@@ -89,10 +83,7 @@ impl Node {
             → place ≡ place_now c mine → StandsAs full c r mine self.old
             → HasPlanned full c r mine self.new }
         ensures lead { self.new.lead ≡ self.old.lead }
-        ensures config { self.new.follow.config ≡ self.old.follow.config }
-        ensures id { self.new.id ≡ self.old.id }
-        ensures zeal { self.new.zeal ≡ self.old.zeal }
-        ensures stops { self.new.stops ≡ self.old.stops }
+        ensures keeps { KeepsSelf self.old self.new }
     {
         if place == self.replicas.saturating_mul(2).saturating_add(HEAD_PLACE) {
             apply_ready(&mut self.follow, &mut self.answers);
@@ -103,12 +94,10 @@ impl Node {
     #[inline(always)]
     fn due_at(&self, place: u8) -> Option<Verb>
         requires config { IsConfig self.now.follow.config }
-        ensures due { (c : Config) → (r : ℕ) → (mine : List SomeEvent) → IsPossible c r mine
-            → length mine < c.budget → HasPlanned false c r mine self.now
-            → IsDueAt c r mine (leads_at self.now.lead.place) place result }
-        ensures may { (c : Config) → (r : ℕ) → (mine : List SomeEvent) → IsPossible c r mine
-            → length mine < c.budget → HasPlanned false c r mine self.now
-            → IfSome result (λ verb. MayBeside c r mine self.now.lead verb) }
+        ensures due { OncePlanned self.now
+            (λ c r mine. IsDueAt c r mine (leads_at self.now.lead.place) place result) }
+        ensures may { OncePlanned self.now
+            (λ c r mine. IfSome result (λ verb. MayBeside c r mine self.now.lead verb)) }
     {
         let host = self.replicas.saturating_mul(2);
         let replayer = host.saturating_add(HOST_PLACES);

@@ -1,10 +1,5 @@
 //! What a replica leaves at its end.
-ghost use Rattle.std.specs.Prelude.{List, ℕ, ◌≡◌};
-ghost use Rattle.mu_model.specs.declared.config.Config.{Config};
-ghost use Rattle.mu_model.specs.declared.event.Event.{Event as SomeEvent};
-ghost use Rattle.mu_model.specs.declared.script.Script.{Script};
-ghost use Rattle.mu_model.specs.Contents.{IsConfig};
-ghost use Rattle.mu_model.specs.Parts.{IsPossible};
+ghost use Rattle.mu_node.specs.Keeping.{Ends, HasEvents, Leaves};
 ghost use Rattle.mu_node.specs.Node.{LivesForNode};
 ghost use Rattle.mu_node.specs.Turns.{IsLeft, TellsEnd};
 
@@ -19,9 +14,7 @@ impl Node {
     /// The end of its events, if they have one, also if its configuration has grown.
     #[inline(always)]
     pub fn live_end(&self) -> Option<End>
-        ensures { (c : Config) → (script : Script) → (r : ℕ) → (mine : List SomeEvent)
-            → script.stops ≡ self.now.stops.items → IsConfig c → IsPossible c r mine
-            → LivesForNode c r mine self.now → TellsEnd c script r mine result }
+        ensures { Ends LivesForNode TellsEnd self.now result }
     {
         let steps = self.follow.steps();
         if is_stop(self.stops.as_slice(), self.id, steps) {
@@ -35,15 +28,9 @@ impl Node {
 
     /// What a replica leaves whose configuration may have grown. Takes no memory.
     pub fn into_live_result(self) -> NodeResult
-        requires lives { (c : Config) × (r : ℕ) × (mine : List SomeEvent) × IsConfig c
-            × IsPossible c r mine × LivesForNode c r mine self }
-        ensures left { (c : Config) → (r : ℕ) → (mine : List SomeEvent) → IsConfig c
-            → IsPossible c r mine
-            → LivesForNode c r mine self
-            → IsLeft c r mine result }
-        ensures end { (c : Config) → (script : Script) → (r : ℕ) → (mine : List SomeEvent)
-            → script.stops ≡ self.stops.items → IsConfig c → IsPossible c r mine
-            → LivesForNode c r mine self → TellsEnd c script r mine result.end }
+        requires lives { HasEvents LivesForNode self }
+        ensures left { Leaves LivesForNode self (λ c r mine. IsLeft c r mine result) }
+        ensures end { Ends LivesForNode TellsEnd self result.end }
     {
         let end = self.live_end();
         let Node {

@@ -1,6 +1,5 @@
 //! One replica and its turns.
-ghost use Rattle.std.specs.Prelude.{Bool, IfOk, List, None, Some, [], false, length, vec_capacity, ℕ, ◌+◌, ◌<◌, ◌≡◌};
-ghost use Rattle.mu_model.specs.declared.config.Config.{Config};
+ghost use Rattle.std.specs.Prelude.{Bool, IfOk, List, None, Some, [], false, length, vec_capacity, ◌+◌, ◌<◌, ◌≡◌};
 ghost use Rattle.mu_model.specs.declared.event.Event.{Event as SomeEvent};
 ghost use Rattle.mu_model.specs.declared.script.Script.{Script};
 ghost use Rattle.mu_model.specs.Contents.{IsConfig, row_count};
@@ -10,6 +9,8 @@ ghost use Rattle.mu_model.specs.Parts.{IsPossible};
 ghost use Rattle.mu_model.specs.Room.{reserve};
 ghost use Rattle.mu_node.specs.Due.{asks_out_of_turn, is_eager};
 ghost use Rattle.mu_node.specs.Journal.{IsListed};
+ghost use Rattle.mu_knowledge.specs.Telling.{Tells};
+ghost use Rattle.mu_node.specs.Keeping.{Ends, HasEvents, Leaves};
 ghost use Rattle.mu_node.specs.Node.{LivesForNode, StandsAs, StandsForNode};
 ghost use Rattle.mu_node.specs.Notes.{HasMade, MovesGoing, MovesTurn, TellsTurn};
 ghost use Rattle.mu_node.specs.Turns.{IsOneStep, IsResult, IsTurn, IsTurnOn, TellsEnd, TellsHalt};
@@ -103,8 +104,7 @@ impl Node {
 
     /// How many steps it has taken.
     pub fn steps(&self) -> u32
-        ensures { (c : Config) → (r : ℕ) → (mine : List SomeEvent) → StandsForNode c r mine self.now
-            → result ≡ length mine }
+        ensures { Tells StandsForNode self.now (λ c r mine. length mine) result }
     {
         self.follow.steps()
     }
@@ -113,9 +113,7 @@ impl Node {
     /// outrun, or because all is applied.
     #[inline(always)]
     pub fn end(&self) -> Option<End>
-        ensures { (c : Config) → (script : Script) → (r : ℕ) → (mine : List SomeEvent)
-            → script.stops ≡ self.now.stops.items → IsConfig c → IsPossible c r mine
-            → StandsForNode c r mine self.now → TellsEnd c script r mine result }
+        ensures { Ends StandsForNode TellsEnd self.now result }
     {
         self.live_end()
     }
@@ -124,9 +122,7 @@ impl Node {
     /// though all is applied.
     #[inline(always)]
     pub fn halt(&self) -> Option<End>
-        ensures { (c : Config) → (script : Script) → (r : ℕ) → (mine : List SomeEvent)
-            → script.stops ≡ self.now.stops.items → IsConfig c → IsPossible c r mine
-            → LivesForNode c r mine self.now → TellsHalt c script r mine result }
+        ensures { Ends LivesForNode TellsHalt self.now result }
     {
         let steps = self.follow.steps();
         if is_stop(self.stops.as_slice(), self.id, steps) {
@@ -243,15 +239,10 @@ impl Node {
 
     /// What the replica leaves. Takes no memory.
     pub fn into_result(self) -> NodeResult
-        requires stands { (c : Config) × (r : ℕ) × (mine : List SomeEvent) × IsConfig c
-            × IsPossible c r mine × StandsForNode c r mine self }
-        ensures is { (c : Config) → (r : ℕ) → (mine : List SomeEvent) → IsConfig c
-            → IsPossible c r mine
-            → StandsForNode c r mine self
-            → IsResult (is_eager self.zeal) c r mine result }
-        ensures end { (c : Config) → (script : Script) → (r : ℕ) → (mine : List SomeEvent)
-            → script.stops ≡ self.stops.items → IsConfig c → IsPossible c r mine
-            → StandsForNode c r mine self → TellsEnd c script r mine result.end }
+        requires stands { HasEvents StandsForNode self }
+        ensures is { Leaves StandsForNode self
+            (λ c r mine. IsResult (is_eager self.zeal) c r mine result) }
+        ensures end { Ends StandsForNode TellsEnd self result.end }
     {
         self.into_live_result()
     }

@@ -1,5 +1,5 @@
 //! What a replica plans for a turn.
-ghost use Rattle.std.specs.Prelude.{Bool, IfSome, List, None, Some, false, is_some, length, true, ℕ, ◌&&◌, ◌<◌, ◌==◌, ◌≡◌};
+ghost use Rattle.std.specs.Prelude.{IfSome, List, None, Some, false, is_some, length, true, ℕ, ◌&&◌, ◌<◌, ◌==◌, ◌≡◌};
 ghost use Rattle.mu_model.specs.declared.config.Config.{Config};
 ghost use Rattle.mu_model.specs.declared.event.Event.{Event as SomeEvent};
 ghost use Rattle.mu_model.specs.Allowed.{Allowed};
@@ -16,11 +16,11 @@ ghost use Rattle.mu_lead.specs.Beside.{leads_at};
 ghost use Rattle.mu_lead.specs.Journal.{place_after};
 ghost use Rattle.mu_lead.specs.Standing.{HasHeeded};
 ghost use Rattle.mu_node.specs.Cycle.{IsCycleDue};
+ghost use Rattle.mu_node.specs.Keeping.{Becomes, IdlesBy, IsPlan, KeepsSelf, MayStep};
 ghost use Rattle.mu_node.specs.Plans.{due_of};
-ghost use Rattle.mu_node.specs.Due.{FitsLead, IsIdle, ReadsOn, held_write_due, idle_due, lead_due, verb_or_beat};
-ghost use Rattle.mu_node.specs.Node.{HasHeard, HasPlanned, LivesForNode, StandsAs, StandsForNode};
+ghost use Rattle.mu_node.specs.Due.{ReadsOn, held_write_due, idle_due, lead_due, verb_or_beat};
+ghost use Rattle.mu_node.specs.Node.{HasHeard, HasPlanned, LivesForNode, StandsForNode};
 ghost use Rattle.mu_node.specs.Notes.{HasTold, heed_note, note_before};
-ghost use Rattle.mu_node.specs.Reads.{IsReadNext};
 
 use crate::node::Node;
 use crate::zeal::Zeal;
@@ -82,31 +82,13 @@ impl Node {
     #[inline(always)]
     pub(crate) fn plan(&mut self) -> Plan
         ghost mine: { List SomeEvent }
-        requires config { IsConfig self.old.follow.config }
-        requires possible { IsPossible self.old.follow.config self.old.id mine }
-        requires short { length mine < self.old.follow.config.budget }
-        requires stands { LivesForNode self.old.follow.config self.old.id mine self.old }
-        ensures planned { (full : Bool)
-            → StandsAs full self.old.follow.config self.old.id mine self.old
-            → HasPlanned full self.old.follow.config self.old.id mine self.new }
-        ensures config { self.new.follow.config ≡ self.old.follow.config }
-        ensures id { self.new.id ≡ self.old.id }
-        ensures zeal { self.new.zeal ≡ self.old.zeal }
-        ensures stops { self.new.stops ≡ self.old.stops }
-        ensures allowed { Allowed self.old.follow.config self.old.id mine
-            (verb_or_beat (due_of result)) }
-        ensures made { result.verb ≡ verb_or_beat (due_of result) }
-        ensures some { result.leads ≡ true → is_some (due_of result) ≡ true }
-        ensures fits { FitsLead self.old.follow.config self.old.id mine self.new.lead result.leads
-            (due_of result) }
+        requires { MayStep mine self.old }
+        ensures planned { Becomes HasPlanned mine self.old self.new }
+        ensures keeps { KeepsSelf self.old self.new }
+        ensures is { IsPlan self.old.follow.config self.old.id mine self.new.lead result }
         ensures leads { result.leads ≡ (is_odd (length mine)
             && is_some (lead_due self.old.follow.config self.old.id mine self.old.lead)) }
-        ensures reads { IsReadNext self.old.follow.config self.old.id mine
-            (verb_or_beat (due_of result)) }
-        ensures idles { StandsForNode self.old.follow.config self.old.id mine self.old
-            → result.leads ≡ false
-            → IsIdle self.old.follow.config self.old.id mine self.new.lead
-            (verb_or_beat (due_of result)) }
+        ensures idles { IdlesBy mine self.old self.new result }
         ensures led { StandsForNode self.old.follow.config self.old.id mine self.old
             → is_odd (length mine) ≡ true
             → due_of result
@@ -133,33 +115,15 @@ impl Node {
     #[inline(always)]
     fn plan_led(&mut self) -> Plan
         ghost mine: { List SomeEvent }
-        requires config { IsConfig self.old.follow.config }
-        requires possible { IsPossible self.old.follow.config self.old.id mine }
-        requires short { length mine < self.old.follow.config.budget }
-        requires stands { LivesForNode self.old.follow.config self.old.id mine self.old }
-        ensures stands { (full : Bool)
-            → StandsAs full self.old.follow.config self.old.id mine self.old
-            → HasHeard full self.old.follow.config self.old.id mine self.new }
-        ensures config { self.new.follow.config ≡ self.old.follow.config }
-        ensures id { self.new.id ≡ self.old.id }
-        ensures zeal { self.new.zeal ≡ self.old.zeal }
-        ensures stops { self.new.stops ≡ self.old.stops }
-        ensures allowed { Allowed self.old.follow.config self.old.id mine
-            (verb_or_beat (due_of result)) }
-        ensures made { result.verb ≡ verb_or_beat (due_of result) }
-        ensures some { result.leads ≡ true → is_some (due_of result) ≡ true }
-        ensures fits { FitsLead self.old.follow.config self.old.id mine self.new.lead result.leads
-            (due_of result) }
+        requires { MayStep mine self.old }
+        ensures stands { Becomes HasHeard mine self.old self.new }
+        ensures keeps { KeepsSelf self.old self.new }
+        ensures is { IsPlan self.old.follow.config self.old.id mine self.new.lead result }
         ensures leads { result.leads
             ≡ is_some (lead_due self.old.follow.config self.old.id mine self.old.lead) }
         ensures named { leads_at self.new.lead.place ≡ true
             → is_named self.old.follow.config self.old.id mine ≡ true }
-        ensures reads { IsReadNext self.old.follow.config self.old.id mine
-            (verb_or_beat (due_of result)) }
-        ensures idles { StandsForNode self.old.follow.config self.old.id mine self.old
-            → result.leads ≡ false
-            → IsIdle self.old.follow.config self.old.id mine self.new.lead
-            (verb_or_beat (due_of result)) }
+        ensures idles { IdlesBy mine self.old self.new result }
         ensures led { StandsForNode self.old.follow.config self.old.id mine self.old
             → due_of result
             ≡ or_else (lead_due self.old.follow.config self.old.id mine self.old.lead)
@@ -214,27 +178,12 @@ impl Node {
     #[inline(always)]
     fn plan_cycle(&mut self) -> Plan
         ghost mine: { List SomeEvent }
-        requires config { IsConfig self.old.follow.config }
-        requires possible { IsPossible self.old.follow.config self.old.id mine }
-        requires short { length mine < self.old.follow.config.budget }
+        requires may { MayStep mine self.old }
         requires even { is_odd (length mine) ≡ false }
-        requires stands { LivesForNode self.old.follow.config self.old.id mine self.old }
-        ensures planned { (full : Bool)
-            → StandsAs full self.old.follow.config self.old.id mine self.old
-            → HasPlanned full self.old.follow.config self.old.id mine self.new }
-        ensures config { self.new.follow.config ≡ self.old.follow.config }
-        ensures id { self.new.id ≡ self.old.id }
-        ensures zeal { self.new.zeal ≡ self.old.zeal }
-        ensures stops { self.new.stops ≡ self.old.stops }
-        ensures allowed { Allowed self.old.follow.config self.old.id mine
-            (verb_or_beat (due_of result)) }
-        ensures made { result.verb ≡ verb_or_beat (due_of result) }
-        ensures some { result.leads ≡ true → is_some (due_of result) ≡ true }
-        ensures fits { FitsLead self.old.follow.config self.old.id mine self.new.lead false
-            (due_of result) }
+        ensures planned { Becomes HasPlanned mine self.old self.new }
+        ensures keeps { KeepsSelf self.old self.new }
+        ensures is { IsPlan self.old.follow.config self.old.id mine self.new.lead result }
         ensures leads { result.leads ≡ false }
-        ensures reads { IsReadNext self.old.follow.config self.old.id mine
-            (verb_or_beat (due_of result)) }
         ensures cycle { StandsForNode self.old.follow.config self.old.id mine self.old
             → IsCycleDue self.old.zeal self.old.follow.config self.old.id mine
             (leads_at self.old.lead.place) (due_of result) }
@@ -266,13 +215,9 @@ impl Node {
         ghost mine: { List SomeEvent }
         requires stands { LivesForNode self.old.follow.config self.old.id mine self.old }
         ensures heard { HasHeard false self.old.follow.config self.old.id mine self.new }
-        ensures stands { (full : Bool)
-            → StandsAs full self.old.follow.config self.old.id mine self.old
-            → HasHeard full self.old.follow.config self.old.id mine self.new }
+        ensures stands { Becomes HasHeard mine self.old self.new }
         ensures follow { self.new.follow ≡ self.old.follow }
-        ensures id { self.new.id ≡ self.old.id }
-        ensures zeal { self.new.zeal ≡ self.old.zeal }
-        ensures stops { self.new.stops ≡ self.old.stops }
+        ensures keeps { KeepsSelf self.old self.new }
         ensures named { self.new.lead.named
             ≡ (leader self.old.follow.config self.old.id mine == self.old.id) }
         ensures heeded { HasHeeded mine self.new.lead }

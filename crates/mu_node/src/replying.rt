@@ -10,6 +10,7 @@ ghost use Rattle.mu_model.specs.Knowledge.{applied};
 ghost use Rattle.mu_model.specs.Parts.{IsPossible};
 ghost use Rattle.mu_follow.specs.Groups.{AreSpelled, groups_of};
 ghost use Rattle.mu_node.specs.Cycle.{handed_before};
+ghost use Rattle.mu_knowledge.specs.Telling.{Tells};
 ghost use Rattle.mu_node.specs.Node.{LivesForNode};
 ghost use Rattle.mu_node.specs.Telling.{TellsPlace};
 
@@ -21,8 +22,8 @@ use mu_model::{Config, PAYLOADS};
 impl Node {
     /// The entries that it has handed on to its store so far, in order.
     pub fn handed_on(&self) -> &[u16]
-        ensures { (c : Config) → (r : ℕ) → (mine : List SomeEvent) → LivesForNode c r mine self.now
-            → result.now ≡ take (handed_before c r mine) (applied c r mine) }
+        ensures { Tells LivesForNode self.now
+            (λ c r mine. take (handed_before c r mine) (applied c r mine)) result.now }
     {
         self.follow.handed_on()
     }

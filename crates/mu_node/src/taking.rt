@@ -6,13 +6,13 @@ ghost use Rattle.mu_model.specs.Contents.{IsConfig};
 ghost use Rattle.mu_model.specs.Parts.{IsPossible};
 ghost use Rattle.mu_model.specs.Stretches.{is_odd};
 ghost use Rattle.mu_follow.specs.Follow.{commit_of};
-ghost use Rattle.mu_lead.specs.declared.note.Note.{Note as SomeNote};
 ghost use Rattle.mu_lead.specs.Beside.{is_beside, leads_at};
 ghost use Rattle.mu_lead.specs.Notes.{value_committed};
-ghost use Rattle.mu_lead.specs.Standing.{HasHeeded};
 ghost use Rattle.mu_node.specs.Plans.{due_of};
-ghost use Rattle.mu_node.specs.Due.{FitsLead, IsIdle, WritesAhead, lead_due, verb_or_beat, written_row};
+ghost use Rattle.mu_node.specs.Due.{FitsLead, IsIdle, WritesAhead, verb_or_beat, written_row};
+ghost use Rattle.mu_node.specs.Events.{event_by};
 ghost use Rattle.mu_node.specs.Journal.{FollowsTurn};
+ghost use Rattle.mu_node.specs.Keeping.{AwaitsTold, IsToTake, KeepsOthers, TakesBeside, TakesLed};
 ghost use Rattle.mu_node.specs.Node.{AwaitsBeside, HasPlanned, HoldsBeside, StandsAs};
 ghost use Rattle.mu_node.specs.Notes.{SaysTook, TellsTook};
 ghost use Rattle.mu_node.specs.Reads.{IsReadNext};
@@ -51,30 +51,9 @@ impl Node {
     #[inline(always)]
     pub(crate) fn note(&mut self, by: u8, verb: Verb, answer: Answer)
         requires config { IsConfig self.old.follow.config }
-        ensures stands { (mine : List SomeEvent)
-            → IsPossible self.old.follow.config by
-            (record { by = by; verb = verb; answer = answer } ∷ mine)
-            → HoldsBeside self.old.follow.config by mine self.old
-            → commit_of self.old.follow.config by mine
-            (record { by = by; verb = verb; answer = answer })
-            ≡ None
-            → HoldsBeside self.old.follow.config by
-            (record { by = by; verb = verb; answer = answer } ∷ mine) self.new }
-        ensures awaits { (mine : List SomeEvent) → (entry : ℕ × ℕ)
-            → IsPossible self.old.follow.config by
-            (record { by = by; verb = verb; answer = answer } ∷ mine)
-            → HoldsBeside self.old.follow.config by mine self.old
-            → commit_of self.old.follow.config by mine
-            (record { by = by; verb = verb; answer = answer })
-            ≡ Some entry
-            → AwaitsBeside self.old.follow.config by mine
-            (record { by = by; verb = verb; answer = answer }) self.new }
-        ensures lead { self.new.lead ≡ self.old.lead }
-        ensures zeal { self.new.zeal ≡ self.old.zeal }
-        ensures stops { self.new.stops ≡ self.old.stops }
-        ensures answers { self.new.answers ≡ self.old.answers }
-        ensures config { self.new.follow.config ≡ self.old.follow.config }
-        ensures handed { self.new.follow.progress.handed ≡ self.old.follow.progress.handed }
+        ensures stands { TakesBeside (event_by by verb answer) self.old self.new }
+        ensures awaits { AwaitsTold (event_by by verb answer) self.old self.new }
+        ensures keeps { KeepsOthers self.old self.new }
     {
         match (verb, answer) {
             (Verb::WriteRow(row, word, value), Answer::Done) => self.note_event(&Event {
@@ -100,22 +79,9 @@ impl Node {
     #[inline(always)]
     fn note_event(&mut self, event: &Event)
         requires config { IsConfig self.old.follow.config }
-        ensures stands { (mine : List SomeEvent)
-            → IsPossible self.old.follow.config event.now.by (event.now ∷ mine)
-            → HoldsBeside self.old.follow.config event.now.by mine self.old
-            → commit_of self.old.follow.config event.now.by mine event.now ≡ None
-            → HoldsBeside self.old.follow.config event.now.by (event.now ∷ mine) self.new }
-        ensures awaits { (mine : List SomeEvent) → (entry : ℕ × ℕ)
-            → IsPossible self.old.follow.config event.now.by (event.now ∷ mine)
-            → HoldsBeside self.old.follow.config event.now.by mine self.old
-            → commit_of self.old.follow.config event.now.by mine event.now ≡ Some entry
-            → AwaitsBeside self.old.follow.config event.now.by mine event.now self.new }
-        ensures lead { self.new.lead ≡ self.old.lead }
-        ensures zeal { self.new.zeal ≡ self.old.zeal }
-        ensures stops { self.new.stops ≡ self.old.stops }
-        ensures answers { self.new.answers ≡ self.old.answers }
-        ensures config { self.new.follow.config ≡ self.old.follow.config }
-        ensures handed { self.new.follow.progress.handed ≡ self.old.follow.progress.handed }
+        ensures stands { TakesBeside event.now self.old self.new }
+        ensures awaits { AwaitsTold event.now self.old self.new }
+        ensures keeps { KeepsOthers self.old self.new }
     {
         self.grants.note(event);
         self.watch.note(self.replicas, event);
@@ -132,11 +98,7 @@ impl Node {
             → IsPossible c r (event ∷ mine)
             → commit_of c r mine event ≡ Some (position, value)
             → AwaitsBeside c r mine event self.old → HoldsBeside c r (event ∷ mine) self.new }
-        ensures lead { self.new.lead ≡ self.old.lead }
-        ensures answers { self.new.answers ≡ self.old.answers }
-        ensures zeal { self.new.zeal ≡ self.old.zeal }
-        ensures stops { self.new.stops ≡ self.old.stops }
-        ensures handed { self.new.follow.progress.handed ≡ self.old.follow.progress.handed }
+        ensures keeps { KeepsOthers self.old self.new }
     {
         match committed_in(note) {
             Some(value) => self.follow.learn(as_head(position as u64), value),
@@ -162,13 +124,12 @@ impl Node {
             → (full ≡ true → plan.leads ≡ false
             → IsIdle self.old.follow.config id mine self.old.lead (verb_or_beat (due_of plan)))
             → (full ≡ true → FollowsTurn self.old.zeal self.old.follow.config id mine
-            (record { by = id; verb = verb_or_beat (due_of plan); answer = answer }))
+            (event_by id (verb_or_beat (due_of plan)) answer))
             → IsReadNext self.old.follow.config id mine (verb_or_beat (due_of plan))
             → IsPossible self.old.follow.config id
-            (record { by = id; verb = verb_or_beat (due_of plan); answer = answer } ∷ mine)
+            (event_by id (verb_or_beat (due_of plan)) answer ∷ mine)
             → StandsAs full self.old.follow.config id
-            (record { by = id; verb = verb_or_beat (due_of plan); answer = answer } ∷ mine)
-            self.new }
+            (event_by id (verb_or_beat (due_of plan)) answer ∷ mine) self.new }
         ensures zeal { self.new.zeal ≡ self.old.zeal }
         ensures stops { self.new.stops ≡ self.old.stops }
         ensures note { TellsTook self.old.follow.config id mine plan.leads (due_of plan)
@@ -193,13 +154,11 @@ impl Node {
             → WritesAhead self.old.lead verb
             → (full ≡ true → IsIdle self.old.follow.config by mine self.old.lead verb)
             → (full ≡ true → FollowsTurn self.old.zeal self.old.follow.config by mine
-            (record { by = by; verb = verb; answer = answer }))
+            (event_by by verb answer))
             → IsReadNext self.old.follow.config by mine verb
-            → IsPossible self.old.follow.config by
-            (record { by = by; verb = verb; answer = answer } ∷ mine)
+            → IsPossible self.old.follow.config by (event_by by verb answer ∷ mine)
             → HasPlanned full self.old.follow.config by mine self.old
-            → StandsAs full self.old.follow.config by
-            (record { by = by; verb = verb; answer = answer } ∷ mine) self.new }
+            → StandsAs full self.old.follow.config by (event_by by verb answer ∷ mine) self.new }
         ensures zeal { self.new.zeal ≡ self.old.zeal }
         ensures stops { self.new.stops ≡ self.old.stops }
         ensures going { self.new.lead.under_way ≡ self.old.lead.under_way }
@@ -217,25 +176,8 @@ impl Node {
     #[inline(always)]
     fn took_led(&mut self, verb: Verb, by: u8, answer: Answer) -> Note
         ghost mine: { List SomeEvent }
-        requires config { IsConfig self.old.follow.config }
-        requires heeded { HasHeeded mine self.old.lead }
-        requires due { lead_due self.old.follow.config by mine self.old.lead ≡ Some verb }
-        requires turn { is_odd (length mine) ≡ true }
-        requires planned { HasPlanned false self.old.follow.config by mine self.old }
-        ensures stands { (full : Bool) → HasPlanned full self.old.follow.config by mine self.old
-            → (full ≡ true → FollowsTurn self.old.zeal self.old.follow.config by mine
-            (record { by = by; verb = verb; answer = answer }))
-            → IsReadNext self.old.follow.config by mine verb
-            → IsPossible self.old.follow.config by
-            (record { by = by; verb = verb; answer = answer } ∷ mine)
-            → StandsAs full self.old.follow.config by
-            (record { by = by; verb = verb; answer = answer } ∷ mine) self.new }
-        ensures zeal { self.new.zeal ≡ self.old.zeal }
-        ensures stops { self.new.stops ≡ self.old.stops }
-        ensures note { TellsTook self.old.follow.config by mine true
-            (Some verb) SomeNote.Working answer result }
-        ensures says { SaysTook self.old.follow.config by mine true (Some verb) SomeNote.Working
-            self.old.lead self.new.lead answer result }
+        requires { IsToTake by mine verb self.old }
+        ensures { TakesLed by mine verb answer self.old self.new result }
     {
         match (verb, answer) {
             (Verb::WriteRow(row, word, value), Answer::Done) => {
@@ -252,25 +194,8 @@ impl Node {
     #[inline(always)]
     fn take_led(&mut self, verb: Verb, by: u8, answer: Answer) -> Note
         ghost mine: { List SomeEvent }
-        requires config { IsConfig self.old.follow.config }
-        requires heeded { HasHeeded mine self.old.lead }
-        requires due { lead_due self.old.follow.config by mine self.old.lead ≡ Some verb }
-        requires turn { is_odd (length mine) ≡ true }
-        requires planned { HasPlanned false self.old.follow.config by mine self.old }
-        ensures stands { (full : Bool) → HasPlanned full self.old.follow.config by mine self.old
-            → (full ≡ true → FollowsTurn self.old.zeal self.old.follow.config by mine
-            (record { by = by; verb = verb; answer = answer }))
-            → IsReadNext self.old.follow.config by mine verb
-            → IsPossible self.old.follow.config by
-            (record { by = by; verb = verb; answer = answer } ∷ mine)
-            → StandsAs full self.old.follow.config by
-            (record { by = by; verb = verb; answer = answer } ∷ mine) self.new }
-        ensures zeal { self.new.zeal ≡ self.old.zeal }
-        ensures stops { self.new.stops ≡ self.old.stops }
-        ensures note { TellsTook self.old.follow.config by mine true
-            (Some verb) SomeNote.Working answer result }
-        ensures says { SaysTook self.old.follow.config by mine true (Some verb) SomeNote.Working
-            self.old.lead self.new.lead answer result }
+        requires { IsToTake by mine verb self.old }
+        ensures { TakesLed by mine verb answer self.old self.new result }
     {
         self.note(by, verb, answer);
         let known = self.follow.known();

@@ -1,12 +1,13 @@
 //! Which replicas a replica holds to be failed, and which it names leader.
-ghost use Rattle.std.specs.Prelude.{List, [], ◌<◌, ◌∷◌, ◌≡◌, ◌≤◌, ℕ};
+ghost use Rattle.std.specs.Prelude.{List, [], ◌<◌, ◌≡◌, ◌≤◌, ℕ};
 ghost use Rattle.mu_model.specs.declared.config.Config.{Config};
 ghost use Rattle.mu_model.specs.declared.event.Event.{Event as SomeEvent};
 ghost use Rattle.mu_model.specs.Scores.{is_failed, leader as leader_of, score};
 ghost use Rattle.mu_detect.specs.Stands.{StandsFor};
 ghost use Rattle.mu_lead.specs.Sets.{bit};
 ghost use Rattle.mu_lead.specs.Standing.{TellsFailed};
-ghost use Rattle.mu_node.specs.Watch.{StandsForWatch, is_beat_read};
+ghost use Rattle.mu_knowledge.specs.Telling.{Tells};
+ghost use Rattle.mu_node.specs.Watch.{StandsForWatch, TakesForWatch, is_beat_read};
 
 use mu_detect::Scores;
 use mu_model::{Event, Verb};
@@ -81,8 +82,7 @@ impl Watch {
 
     /// Takes the next event of the replica, one of `n`. Takes no memory.
     pub fn note(&mut self, n: u8, event: &Event)
-        ensures { (c : Config) → (r : ℕ) → (mine : List SomeEvent) → n ≡ c.replicas
-            → StandsForWatch c r mine self.old → StandsForWatch c r (event.now ∷ mine) self.new }
+        ensures { TakesForWatch n event.now self.old self.new }
     {
         if !reads_beat(&event.verb) {
             return;
@@ -93,8 +93,7 @@ impl Watch {
     /// Takes a read of a count of beats.
     #[inline(never)]
     fn note_read(&mut self, n: u8, event: &Event)
-        ensures { (c : Config) → (r : ℕ) → (mine : List SomeEvent) → n ≡ c.replicas
-            → StandsForWatch c r mine self.old → StandsForWatch c r (event.now ∷ mine) self.new }
+        ensures { TakesForWatch n event.now self.old self.new }
     {
         self.scores.note(event);
         self.named = self.scores.leader();
@@ -103,9 +102,7 @@ impl Watch {
 
     /// The replica that the scores name leader.
     pub fn leader(&self) -> u8
-        ensures { (c : Config) → (r : ℕ) → (mine : List SomeEvent)
-            → StandsForWatch c r mine self.now
-            → result ≡ leader_of c r mine }
+        ensures { Tells StandsForWatch self.now leader_of result }
     {
         self.named
     }

@@ -27,7 +27,6 @@ loop-at-preserved c k is_there long marks below j small =
 
 pub returns : goal.returns
 returns c k is_there long marks within below =
-    let held = c.args.held.now in
     record {
       within = omega (arith, c.max.ensures, within, long);
       below = λ j small. elim (cases_lt j c.args.from) [

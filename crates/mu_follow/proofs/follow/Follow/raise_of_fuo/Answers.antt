@@ -29,8 +29,6 @@ returns-then-self-filled c k r mine possible held =
 
 pub returns-else-self-filled : goal.returns-else-self-filled
 returns-else-self-filled c k r mine possible held =
-    let good = subst (λ x. IsConfig x) held.config c.requires.config in
-    let own = held.replica in
     let end = c.end.ensures k r mine possible held in
     let same : c.min-filled.result ≡ filled_known k r mine = same_end k r c.filled_to.result c.from.result c.min-filled.result mine (c.filled_to.ensures k r r mine held.own_log) (c.from.ensures ∙ end) c.min-filled.ensures in
     let less : filled_known k r mine ≤ own_fuo r mine = omega (arith, c.if-self-filled.false, same, held.progress.fuo) in

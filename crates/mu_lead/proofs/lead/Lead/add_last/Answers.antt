@@ -46,7 +46,6 @@ returns-else-is_resting-clause-stands g c row same counts =
     let l = c.args.self.now in
     let k = l.config in
     let r = l.id in
-    let new : Config = c.args.config in
     let stands = c.requires.0 in
     let good = subst (λ z. IsConfig z) same c.requires.1.1.1.0 in
     let pushed = c.push_within.ensures.items c.requires.1.1.1.1 in

@@ -1,7 +1,5 @@
-use Rattle.std.proofs.Common.{◌+◌}
+use Rattle.std.proofs.Common.{◌+◌, arith, ap, refl}
 use Rattle.std.proofs.lemmas.Bool.{le-ltb, lt-ltb}
-use Rattle.std.proofs.Common.{arith}
-use Rattle.std.proofs.Common.{ap, refl}
 use Rattle.mu_lead.specs.declared.place.Place.{Place}
 use Rattle.mu_lead.proofs.lead.Lead.after_ask.Goals as goal
 

@@ -1,8 +1,7 @@
 use Rattle.mu_lead.proofs.Firsts.{found_place}
-use Rattle.std.proofs.Common.{None, Some, refl, ℕ}
+use Rattle.std.proofs.Common.{None, Some, refl, ℕ, ap, get_or, length, subst, sym, ◌+◌, ◌<◌, ◌||◌, ◌∙◌}
 use Rattle.mu_lead.specs.declared.place.Place.{Place}
 use Rattle.mu_lead.specs.Listing.{first_member}
-use Rattle.std.proofs.Common.{ap, get_or, length, subst, sym, ◌+◌, ◌<◌, ◌||◌, ◌∙◌}
 use Rattle.mu_agree.proofs.Within.{known_few}
 use Rattle.std.specs.Prelude.{nat_lt, not}
 use Rattle.mu_model.specs.Contents.{marked}

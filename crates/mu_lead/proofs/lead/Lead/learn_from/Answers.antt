@@ -1,7 +1,6 @@
-use Rattle.std.proofs.Common.{get_or, refl}
+use Rattle.std.proofs.Common.{get_or, refl, ap, arith, length}
 use Rattle.std.proofs.lemmas.Bool.{le-ltb, lt-ltb}
 use Rattle.mu_lead.specs.Leading.{end_of}
-use Rattle.std.proofs.Common.{ap, arith, length}
 use Rattle.mu_lead.proofs.lead.Lead.learn_from.Goals as goal
 
 pub returns-then-known-up_of : goal.returns-then-known-up_of

@@ -1,13 +1,10 @@
-use Rattle.mu_lead.proofs.Firsts.{found_place}
-use Rattle.std.proofs.Common.{None, Some, refl}
-use Rattle.std.specs.Prelude.{not}
 use Rattle.std.proofs.lemmas.Bool.{le-ltb, lt-ltb}
-use Rattle.mu_model.specs.Leaderships.{is_member}
 use Rattle.mu_lead.specs.declared.place.Place.{Place}
-use Rattle.std.proofs.Common.{ap, arith, length, sym, ◌+◌, ◌∙◌}
+use Rattle.std.proofs.Common.{ap, arith, length, refl, sym, ◌+◌, ◌∙◌}
 use Rattle.mu_model.specs.Contents.{row_count}
 use Rattle.mu_model.specs.Room.{reserve}
 use Rattle.mu_lead.specs.Leading.{end_of}
+use Rattle.mu_lead.specs.Listing.{or_else}
 use Rattle.mu_lead.proofs.Rests.{knows_is}
 use Rattle.mu_lead.proofs.lead.Lead.next_position.Goals as goal
 
@@ -15,13 +12,13 @@ pub returns-in-Some : goal.returns-in-Some
 returns-in-Some c = λ counts mine s same.
     let l = c.args.self.now in
     let all = knows_is l.config l.id mine c.args.known.now c.knows_all.result s.config s.possible same (c.knows_all.ensures c.args.known.now counts) in
-    rw (sym all ∙ c.if-knows_all.true) (found_place (λ k. not (is_member l.id k mine)) 0 0 l.config.replicas (Some c.in-Some.q) Place.LateFence Place.Rest refl (c.in-Some.ensures l.id mine s.config.replicas.1 s.leading))
+    rw (sym all ∙ c.if-knows_all.true) (ap (λ o. or_else o Place.LateFence Place.Rest) (c.in-Some.ensures mine s))
 
 pub returns-in-None : goal.returns-in-None
 returns-in-None c = λ counts mine s same.
     let l = c.args.self.now in
     let all = knows_is l.config l.id mine c.args.known.now c.knows_all.result s.config s.possible same (c.knows_all.ensures c.args.known.now counts) in
-    rw (sym all ∙ c.if-knows_all.true) (found_place (λ k. not (is_member l.id k mine)) 0 0 l.config.replicas None Place.LateFence Place.Rest refl (c.in-None.ensures l.id mine s.config.replicas.1 s.leading))
+    rw (sym all ∙ c.if-knows_all.true) (ap (λ o. or_else o Place.LateFence Place.Rest) (c.in-None.ensures mine s))
 
 pub returns-then-known-count_of_places : goal.returns-then-known-count_of_places
 returns-then-known-count_of_places c = λ counts mine s same.

@@ -1,11 +1,9 @@
 use Rattle.mu_lead.specs.declared.place.Place.{Place}
-use Rattle.std.proofs.Common.{ap, ◌∙◌, ℕ, false}
+use Rattle.std.proofs.Common.{ap, ◌∙◌, ℕ, false, arith, length, refl, subst, sym, ◌+◌, ◌<◌, ◌≡◌, ◌*◌}
 use Rattle.mu_lead.specs.Listing.{offer_row, or_else, own_offer, write_from}
-use Rattle.std.proofs.Common.{arith, length, refl, subst, sym, ◌+◌, ◌<◌, ◌≡◌}
 use Rattle.mu_model.specs.Knowledge.{known}
 use Rattle.mu_agree.proofs.Within.{known_few}
 use Rattle.mu_knowledge.specs.Offers.{IsNextRow, NamesRow}
-use Rattle.std.proofs.Common.{◌*◌}
 use Rattle.mu_lead.proofs.Due.{last_there}
 use Rattle.mu_model.specs.Contents.{rest_of}
 use Rattle.mu_lead.proofs.lead.Lead.offer_own.Goals as goal

@@ -1,9 +1,7 @@
 use Rattle.mu_lead.specs.declared.place.Place.{Place}
-use Rattle.std.proofs.Common.{ap, sym, ◌∙◌, ℕ, false}
+use Rattle.std.proofs.Common.{ap, sym, ◌∙◌, ℕ, false, None, arith, subst, ◌+◌, ◌≡◌, ◌*◌}
 use Rattle.mu_lead.specs.Listing.{first_member, pick as listed_pick}
-use Rattle.std.proofs.Common.{None, arith, subst, ◌+◌, ◌≡◌}
 use Rattle.mu_lead.specs.Stepping.{IsRegion}
-use Rattle.std.proofs.Common.{◌*◌}
 use Rattle.mu_lead.proofs.lead.Lead.pick.Goals as goal
 
 pub returns-in-Some : goal.returns-in-Some

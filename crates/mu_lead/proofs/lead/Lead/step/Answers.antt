@@ -1,5 +1,4 @@
 use Rattle.mu_lead.proofs.lead.Lead.step.Goals as goal
 
-pub returns-in-Write-clause-steps : goal.returns-in-Write-clause-steps
-returns-in-Write-clause-steps c = λ mine x.
-    c.take_word.ensures.steps mine c.args.known.now c.args.log.now c.args.verb c.args.answer c.in-Write.is x
+pub returns-in-Write : goal.returns-in-Write
+returns-in-Write c = c.take_word.ensures c.args.known.now c.args.log.now c.args.verb c.args.answer c.in-Write.is

@@ -1,9 +1,8 @@
 use Rattle.mu_lead.proofs.Firsts.{found_place}
 use Rattle.mu_lead.specs.declared.place.Place.{Place}
-use Rattle.std.proofs.Common.{Some, ◌∙◌}
+use Rattle.std.proofs.Common.{Some, ◌∙◌, None, get_or, refl, ◌+◌}
 use Rattle.std.specs.Prelude.{nat_lt}
 use Rattle.mu_lead.specs.Listing.{first_member}
-use Rattle.std.proofs.Common.{None, get_or, refl, ◌+◌}
 use Rattle.mu_lead.proofs.lead.Lead.write_from.Goals as goal
 
 pub returns-in-Some : goal.returns-in-Some

@@ -1,5 +1,5 @@
 use Rattle.std.proofs.Common.{true}
-use Rattle.mu_node.proofs.Diligent.{journal_is_diligent}
+use Rattle.mu_node.proofs.Diligent.{all_kept}
 use Rattle.mu_node.proofs.Moving.{as_far}
 use Rattle.mu_node.proofs.node.Node.into_result.Goals as goal
 
@@ -11,7 +11,7 @@ into_live_result-requires c =
 pub returns-clause-is : goal.returns-clause-is
 returns-clause-is c k r mine good possible held = record {
   left = c.into_live_result.ensures.left k r mine good possible (as_far true k r mine c.args.self held);
-  diligent = journal_is_diligent k r mine c.args.self possible held;
+  diligent = (all_kept k r mine c.args.self possible held).diligent;
 }
 
 pub returns-clause-end : goal.returns-clause-end

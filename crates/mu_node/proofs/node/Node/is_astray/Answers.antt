@@ -8,5 +8,5 @@ asks_again-asks-requires g c =
     let node = c.args.self.now in
     let held = c.requires in (
       held.lead.stands,
-      to_own (λ k r l. TellsFailed k r l c.failed.result) node.follow.config node.lead.config node.id node.lead.id g.mine g.mine held.lead.config held.lead.id refl (c.failed.ensures node.follow.config node.id g.mine held.beside.watch),
+      to_own {mine = g.mine} (λ k r l. TellsFailed k r l c.failed.result) held.lead.config held.lead.id refl (c.failed.ensures node.follow.config node.id g.mine held.beside.watch),
     )

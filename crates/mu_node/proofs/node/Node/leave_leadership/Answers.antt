@@ -47,13 +47,10 @@ returns-clause-begins g c = c.leave.ensures.left.place
 
 pub leave-requires : goal.leave-requires
 leave-requires g c =
-    let node = c.args.self.now in
     let held = c.heed.ensures.heard in
-    (held.lead.stands, (c.heed.ensures.heeded, to_own (λ k i l. asks_again k i l ≡ true) node.follow.config c.heed.new.self.lead.config node.id c.heed.new.self.lead.id g.mine g.mine held.lead.config held.lead.id refl c.requires.1.1))
+    (held.lead.stands, (c.heed.ensures.heeded, to_own {mine = g.mine} (λ k i l. asks_again k i l ≡ true) held.lead.config held.lead.id refl c.requires.1.1))
 
 pub returns-clause-told : goal.returns-clause-told
 returns-clause-told g c =
-    let node = c.args.self.now in
-    let lead = c.heed.new.self.lead in
     let held = c.heed.ensures.heard in
-    to_own (λ k i l. TellsAstray k i l c.leave.result) lead.config node.follow.config lead.id node.id g.mine g.mine (sym held.lead.config) (sym held.lead.id) refl c.leave.ensures.told
+    to_own {mine = g.mine} (λ k i l. TellsAstray k i l c.leave.result) (sym held.lead.config) (sym held.lead.id) refl c.leave.ensures.told

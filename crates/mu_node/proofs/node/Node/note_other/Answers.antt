@@ -9,9 +9,8 @@ use Rattle.mu_lead.specs.Journal.{tables_beside}
 use Rattle.mu_lead.specs.Lasting.{tables_of}
 use Rattle.mu_lead.specs.Resigning.{CountsAt}
 use Rattle.mu_lead.specs.Standing.{StandsFor}
-use Rattle.mu_node.specs.Due.{is_eager}
+use Rattle.mu_node.specs.Due.{is_eager, written_row}
 use Rattle.mu_pace.specs.Collecting.{LeaderKeepsBy}
-use Rattle.mu_node.specs.Due.{written_row}
 use Rattle.mu_node.proofs.Writing.{is_written, unwritten}
 use Rattle.mu_node.specs.Node.{StandsForLead}
 use Rattle.mu_node.specs.Paced.{HasPaces}
@@ -21,7 +20,7 @@ use Rattle.mu_node.specs.Journal.{IsListed}
 use Rattle.mu_node.proofs.Answering.{answers_stay}
 use Rattle.mu_node.proofs.Leading.{leads_on}
 use Rattle.mu_node.proofs.Leads.{beside_commits_none, beside_lead, lead_ahead, lead_stays}
-use Rattle.mu_node.proofs.Moving.{event_by}
+use Rattle.mu_node.specs.Events.{event_by}
 use Rattle.mu_node.proofs.Pacing.{even_paces, kept_other, paces_ahead, paces_other, writes_even}
 use Rattle.mu_node.proofs.node.Node.note_other.Goals as goal
 
@@ -35,16 +34,16 @@ returns-in-None-clause-stands c full mine beside ahead idle follows reads possib
     let paces : full ≡ true → HasPaces k r (event_by r c.args.verb c.args.answer ∷ mine) lead = λ on. paces_other k r mine lead c.args.verb c.args.answer c.requires.config (follows on).made.going none beside (idle on) held.lead (held.paces on) in
     record {
       beside = c.note.ensures.stands mine possible held.beside (beside_commits_none k r mine (leads_at lead.place) c.args.verb c.args.answer beside);
-      lead = subst (λ l. StandsForLead k r (event_by r c.args.verb c.args.answer ∷ mine) l) (sym c.note.ensures.lead) stays;
-      handed = c.note.ensures.handed ∙ held.handed;
-      answers = answers_stay k r (handed k r mine) (event_by r c.args.verb c.args.answer) mine c.args.self.now.answers c.note.new.self.answers c.note.ensures.answers c.args.self.now.follow.progress.handed held.beside.follow.progress.handed held.handed held.answers;
+      lead = subst (λ l. StandsForLead k r (event_by r c.args.verb c.args.answer ∷ mine) l) (sym c.note.ensures.keeps.lead) stays;
+      handed = c.note.ensures.keeps.handed ∙ held.handed;
+      answers = answers_stay k r (handed k r mine) (event_by r c.args.verb c.args.answer) mine c.args.self.now.answers c.note.new.self.answers c.note.ensures.keeps.answers c.args.self.now.follow.progress.handed held.beside.follow.progress.handed held.handed held.answers;
       reads = (held.reads, reads);
       cycle = λ on. (held.cycle on, (follows on).cycle);
       made = λ on. (held.made on, (follows on).made);
-      listed = λ on. subst (λ z. AtEachStep (IsListed z k r) (event_by r c.args.verb c.args.answer ∷ mine)) (sym c.note.ensures.zeal) (held.listed on, (follows on).listed);
-      leads = λ on leads. leads_on k r mine (event_by r c.args.verb c.args.answer) (held.leads on (subst (λ l. leads_at l.place ≡ true) c.note.ensures.lead leads));
-      paces = λ on. subst (λ l. HasPaces k r (event_by r c.args.verb c.args.answer ∷ mine) l) (sym c.note.ensures.lead) (paces on);
-      led = λ on. subst (λ z. AtEachStep (LeaderKeepsBy (is_eager z) k r) (event_by r c.args.verb c.args.answer ∷ mine)) (sym c.note.ensures.zeal) (held.led on, kept_other (is_eager c.args.self.now.zeal) k r mine lead c.args.verb c.args.answer beside stays (paces on));
+      listed = λ on. subst (λ z. AtEachStep (IsListed z k r) (event_by r c.args.verb c.args.answer ∷ mine)) (sym c.note.ensures.keeps.zeal) (held.listed on, (follows on).listed);
+      leads = λ on leads. leads_on k r mine (event_by r c.args.verb c.args.answer) (held.leads on (subst (λ l. leads_at l.place ≡ true) c.note.ensures.keeps.lead leads));
+      paces = λ on. subst (λ l. HasPaces k r (event_by r c.args.verb c.args.answer ∷ mine) l) (sym c.note.ensures.keeps.lead) (paces on);
+      led = λ on. subst (λ z. AtEachStep (LeaderKeepsBy (is_eager z) k r) (event_by r c.args.verb c.args.answer ∷ mine)) (sym c.note.ensures.keeps.zeal) (held.led on, kept_other (is_eager c.args.self.now.zeal) k r mine lead c.args.verb c.args.answer beside stays (paces on));
     }
 
 pub returns-in-Some-clause-stands : goal.returns-in-Some-clause-stands
@@ -61,16 +60,16 @@ returns-in-Some-clause-stands c full mine beside ahead idle follows reads possib
     let may = subst (IsAhead lead) same x.1.1 in
     let happens = subst (λ v. IsPossible k r (event_by r v c.args.answer ∷ mine)) made possible in
     let took : StandsForLead k r (event_by r (ahead_verb lead c.in-Some.row) c.args.answer ∷ mine) next =
-    lead_ahead k r c.in-Some.row mine lead next c.args.answer (c.wrote_ahead.ensures.config ∙ ap (λ (l : Lead). l.config) c.note.ensures.lead) (c.wrote_ahead.ensures.id ∙ ap (λ (l : Lead). l.id) c.note.ensures.lead) happens held.lead
-    (λ might. subst (λ (l : Lead). StandsFor (ahead_event l c.in-Some.row c.args.answer ∷ mine) next) c.note.ensures.lead (c.wrote_ahead.ensures.stands mine c.args.answer (subst (StandsFor mine) (sym c.note.ensures.lead) held.lead.stands) (subst (λ l. IsAhead l c.in-Some.row) (sym c.note.ensures.lead) may)
-    (subst (λ (l : Lead). IsPossible l.config l.id (ahead_event l c.in-Some.row c.args.answer ∷ mine)) (sym c.note.ensures.lead) might))) in
+    lead_ahead k r c.in-Some.row mine lead next c.args.answer (c.wrote_ahead.ensures.config ∙ ap (λ (l : Lead). l.config) c.note.ensures.keeps.lead) (c.wrote_ahead.ensures.id ∙ ap (λ (l : Lead). l.id) c.note.ensures.keeps.lead) happens held.lead
+    (λ might. subst (λ (l : Lead). StandsFor (ahead_event l c.in-Some.row c.args.answer ∷ mine) next) c.note.ensures.keeps.lead (c.wrote_ahead.ensures.stands mine c.args.answer (subst (StandsFor mine) (sym c.note.ensures.keeps.lead) held.lead.stands) (subst (λ l. IsAhead l c.in-Some.row) (sym c.note.ensures.keeps.lead) may)
+    (subst (λ (l : Lead). IsPossible l.config l.id (ahead_event l c.in-Some.row c.args.answer ∷ mine)) (sym c.note.ensures.keeps.lead) might))) in
     let stays = subst (λ v. StandsForLead k r (event_by r v c.args.answer ∷ mine) next) (sym made) took in
     let tables : tables_of next ≡ tables_beside (tables_of lead) verb =
-    c.wrote_ahead.ensures.tables (subst (λ l. IsAhead l c.in-Some.row) (sym c.note.ensures.lead) may) ∙ (ap (λ (l : Lead). tables_beside (tables_of l) (ahead_verb l c.in-Some.row)) c.note.ensures.lead ∙ ap (tables_beside (tables_of lead)) (sym made)) in
-    let place = c.wrote_ahead.ensures.place ∙ ap (λ (l : Lead). l.place) c.note.ensures.lead in
-    let going = c.wrote_ahead.ensures.going ∙ ap (λ (l : Lead). l.under_way) c.note.ensures.lead in
-    let counts = subst (λ (l : Lead). CountsAt k r (event_by r verb c.args.answer ∷ mine) l.written.items l.place → CountsAt k r (event_by r verb c.args.answer ∷ mine) next.written.items next.place) c.note.ensures.lead
-    (c.wrote_ahead.ensures.counts k r (event_by r verb c.args.answer ∷ mine) (subst (λ l. IsAhead l c.in-Some.row) (sym c.note.ensures.lead) may)) in
+    c.wrote_ahead.ensures.tables (subst (λ l. IsAhead l c.in-Some.row) (sym c.note.ensures.keeps.lead) may) ∙ (ap (λ (l : Lead). tables_beside (tables_of l) (ahead_verb l c.in-Some.row)) c.note.ensures.keeps.lead ∙ ap (tables_beside (tables_of lead)) (sym made)) in
+    let place = c.wrote_ahead.ensures.place ∙ ap (λ (l : Lead). l.place) c.note.ensures.keeps.lead in
+    let going = c.wrote_ahead.ensures.going ∙ ap (λ (l : Lead). l.under_way) c.note.ensures.keeps.lead in
+    let counts = subst (λ (l : Lead). CountsAt k r (event_by r verb c.args.answer ∷ mine) l.written.items l.place → CountsAt k r (event_by r verb c.args.answer ∷ mine) next.written.items next.place) c.note.ensures.keeps.lead
+    (c.wrote_ahead.ensures.counts k r (event_by r verb c.args.answer ∷ mine) (subst (λ l. IsAhead l c.in-Some.row) (sym c.note.ensures.keeps.lead) may)) in
     let paces : full ≡ true → HasPaces k r (event_by r verb c.args.answer ∷ mine) next = λ on.
     let even = writes_even k r mine lead verb (idle on) writes in
     paces_ahead k r mine lead next verb c.args.answer even beside place going tables counts held.lead (even_paces k r mine lead even (held.paces on)) in
@@ -78,13 +77,13 @@ returns-in-Some-clause-stands c full mine beside ahead idle follows reads possib
     record {
       beside = beside_lead (StandsForFollow k r (event_by r verb c.args.answer ∷ mine)) k r (event_by r verb c.args.answer ∷ mine) c.note.new.self next other;
       lead = stays;
-      handed = c.note.ensures.handed ∙ held.handed;
-      answers = answers_stay k r (handed k r mine) (event_by r verb c.args.answer) mine c.args.self.now.answers c.note.new.self.answers c.note.ensures.answers c.args.self.now.follow.progress.handed held.beside.follow.progress.handed held.handed held.answers;
+      handed = c.note.ensures.keeps.handed ∙ held.handed;
+      answers = answers_stay k r (handed k r mine) (event_by r verb c.args.answer) mine c.args.self.now.answers c.note.new.self.answers c.note.ensures.keeps.answers c.args.self.now.follow.progress.handed held.beside.follow.progress.handed held.handed held.answers;
       reads = (held.reads, reads);
       cycle = λ on. (held.cycle on, (follows on).cycle);
       made = λ on. (held.made on, (follows on).made);
-      listed = λ on. subst (λ z. AtEachStep (IsListed z k r) (event_by r verb c.args.answer ∷ mine)) (sym c.note.ensures.zeal) (held.listed on, (follows on).listed);
+      listed = λ on. subst (λ z. AtEachStep (IsListed z k r) (event_by r verb c.args.answer ∷ mine)) (sym c.note.ensures.keeps.zeal) (held.listed on, (follows on).listed);
       leads = λ on leads. leads_on k r mine (event_by r verb c.args.answer) (held.leads on (sym (ap leads_at place) ∙ leads));
       paces = paces;
-      led = λ on. subst (λ z. AtEachStep (LeaderKeepsBy (is_eager z) k r) (event_by r verb c.args.answer ∷ mine)) (sym c.note.ensures.zeal) (held.led on, kept_other (is_eager c.args.self.now.zeal) k r mine next verb c.args.answer (subst (λ p. is_beside (leads_at p) verb ≡ true) (sym place) beside) stays (paces on));
+      led = λ on. subst (λ z. AtEachStep (LeaderKeepsBy (is_eager z) k r) (event_by r verb c.args.answer ∷ mine)) (sym c.note.ensures.keeps.zeal) (held.led on, kept_other (is_eager c.args.self.now.zeal) k r mine next verb c.args.answer (subst (λ p. is_beside (leads_at p) verb ≡ true) (sym place) beside) stays (paces on));
     }

@@ -7,7 +7,7 @@ use Rattle.mu_node.specs.Journal.{FollowsTurn}
 use Rattle.mu_node.specs.Node.{HasPlanned, StandsAs}
 use Rattle.mu_node.specs.Reads.{IsReadNext}
 use Rattle.mu_node.proofs.Leads.{fits_led, fits_other, says_led, some_made, tells_led}
-use Rattle.mu_node.proofs.Moving.{event_by}
+use Rattle.mu_node.specs.Events.{event_by}
 use Rattle.mu_node.proofs.node.Node.took.Goals as goal
 
 pub took_led-requires : goal.took_led-requires
@@ -21,7 +21,7 @@ took_led-requires g c =
     let planned = subst (λ i. HasPlanned false k i g.mine node) (sym c.requires.0) c.requires.1.1.1.1.0 in
     let some = some_made due verb (c.requires.1.1.1.1.1.1 c.if-plan.true) c.requires.1.1.1.1.1.0 in
     let led = fits_led k id g.mine node.lead c.args.plan.leads due verb fits c.if-plan.true some in
-    (c.requires.1.0, (led.0, (led.1, (c.requires.1.1.1.0 c.if-plan.true, planned))))
+    record { config = c.requires.1.0; heeded = led.0; due = led.1; turn = c.requires.1.1.1.0 c.if-plan.true; planned = planned }
 
 pub returns-then-plan-clause-stands : goal.returns-then-plan-clause-stands
 returns-then-plan-clause-stands g c full held idles follows reads possible =

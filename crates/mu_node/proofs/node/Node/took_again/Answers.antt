@@ -24,7 +24,7 @@ use Rattle.mu_node.proofs.Answering.{answers_stay}
 use Rattle.mu_node.proofs.AskedAgain.{asked_due, going_asked, kept_asked, odd_handed, paces_asked}
 use Rattle.mu_node.proofs.Leading.{due_leads_on}
 use Rattle.mu_node.proofs.Leads.{beside_lead, lead_noted, lead_takes, led_log, led_told}
-use Rattle.mu_node.proofs.Moving.{event_by}
+use Rattle.mu_node.specs.Events.{event_by}
 use Rattle.mu_node.proofs.node.Node.took_again.Goals as goal
 
 pub returns-clause-stands : goal.returns-clause-stands
@@ -40,9 +40,9 @@ returns-clause-stands g c full stands follows possible =
     let values = c.known-known.result.now in
     let old = c.note.new.self.lead in
     let new = c.take.new.self in
-    let lead = subst (λ l. StandsForLead k r mine l) (sym c.note.ensures.lead) held.lead in
-    let gone : full ≡ true → HasGone k r mine old = λ on. subst (λ l. HasGone k r mine l) (sym c.note.ensures.lead) (held.paces on) in
-    let begins = ap (λ (l : Lead). l.place) c.note.ensures.lead ∙ c.requires.1.1.1.0 in
+    let lead = subst (λ l. StandsForLead k r mine l) (sym c.note.ensures.keeps.lead) held.lead in
+    let gone : full ≡ true → HasGone k r mine old = λ on. subst (λ l. HasGone k r mine l) (sym c.note.ensures.keeps.lead) (held.paces on) in
+    let begins = ap (λ (l : Lead). l.place) c.note.ensures.keeps.lead ∙ c.requires.1.1.1.0 in
     let due = asked_due k r mine old named begins in
     let told = led_told k r mine (Verb.Ask 0) c.args.answer c.note.new.self values (λ none. c.note.ensures.stands mine possible held.beside none) (λ entry some. c.note.ensures.awaits mine entry possible held.beside some) (λ l n h. c.known-known.ensures k r l n h) in
     let of_config = led_log k r mine (Verb.Ask 0) c.args.answer c.note.new.self values c.log.result.now (λ none. c.note.ensures.stands mine possible held.beside none) (λ entry some. c.note.ensures.awaits mine entry possible held.beside some) (λ l n h. c.known-known.ensures k r l n h) (λ l n h. c.log.ensures k r l n h) in
@@ -54,15 +54,15 @@ returns-clause-stands g c full stands follows possible =
     record {
       beside = beside_lead (StandsForFollow k r (e ∷ mine)) k r (e ∷ mine) c.note.new.self new (c.note.ensures.stands mine possible held.beside refl);
       lead = taken;
-      handed = c.note.ensures.handed ∙ (held.handed ∙ sym (odd_handed k r mine odd));
-      answers = answers_stay k r (handed k r mine) e mine c.args.self.now.answers c.note.new.self.answers c.note.ensures.answers c.args.self.now.follow.progress.handed held.beside.follow.progress.handed (held.handed ∙ sym (odd_handed k r mine odd)) (λ commands are. subst (λ n. HoldsAnswers k commands (take n (applied k r mine)) c.args.self.now.answers) (sym (odd_handed k r mine odd)) (held.answers commands are));
+      handed = c.note.ensures.keeps.handed ∙ (held.handed ∙ sym (odd_handed k r mine odd));
+      answers = answers_stay k r (handed k r mine) e mine c.args.self.now.answers c.note.new.self.answers c.note.ensures.keeps.answers c.args.self.now.follow.progress.handed held.beside.follow.progress.handed (held.handed ∙ sym (odd_handed k r mine odd)) (λ commands are. subst (λ n. HoldsAnswers k commands (take n (applied k r mine)) c.args.self.now.answers) (sym (odd_handed k r mine odd)) (held.answers commands are));
       reads = (held.reads, tt);
       cycle = λ on. (held.cycle on, (follows on).cycle);
       made = λ on. (held.made on, (follows on).made);
-      listed = λ on. subst (λ z. AtEachStep (IsListed z k r) (e ∷ mine)) (sym c.note.ensures.zeal) (held.listed on, (follows on).listed);
+      listed = λ on. subst (λ z. AtEachStep (IsListed z k r) (e ∷ mine)) (sym c.note.ensures.keeps.zeal) (held.listed on, (follows on).listed);
       leads = λ on leads. due_leads_on k r mine old (Verb.Ask 0) e due;
       paces = paces;
-      led = λ on. subst (λ z. AtEachStep (LeaderKeepsBy (is_eager z) k r) (e ∷ mine)) (sym c.note.ensures.zeal) (held.led on, subst (λ t. LeaderKeepsBy t k r mine e) (sym c.requires.1.1.1.1.1.1.1.1) (kept_asked k r mine new c.args.answer old named asks (gone on) taken (paces on)));
+      led = λ on. subst (λ z. AtEachStep (LeaderKeepsBy (is_eager z) k r) (e ∷ mine)) (sym c.note.ensures.keeps.zeal) (held.led on, subst (λ t. LeaderKeepsBy t k r mine e) (sym c.requires.1.1.1.1.1.1.1.1) (kept_asked k r mine new c.args.answer old named asks (gone on) taken (paces on)));
     }
 
 pub returns-clause-going : goal.returns-clause-going
@@ -74,8 +74,8 @@ returns-clause-going g c possible =
     let held : IsGone false k r mine c.args.self.now = subst (λ i. IsGone false k i mine c.args.self.now) (sym c.requires.0) c.requires.1.1.0 in
     let values = c.known-known.result.now in
     let old = c.note.new.self.lead in
-    let stands = subst (λ l. StandsForLead k r mine l) (sym c.note.ensures.lead) held.lead in
-    let begins = ap (λ (l : Lead). l.place) c.note.ensures.lead ∙ c.requires.1.1.1.0 in
+    let stands = subst (λ l. StandsForLead k r mine l) (sym c.note.ensures.keeps.lead) held.lead in
+    let begins = ap (λ (l : Lead). l.place) c.note.ensures.keeps.lead ∙ c.requires.1.1.1.0 in
     let due = asked_due k r mine old (subst (λ i. is_named k i mine ≡ true) (sym c.requires.0) c.requires.1.1.1.1.1.1.0) begins in
     let told = led_told k r mine (Verb.Ask 0) c.args.answer c.note.new.self values (λ none. c.note.ensures.stands mine possible held.beside none) (λ entry some. c.note.ensures.awaits mine entry possible held.beside some) (λ l n h. c.known-known.ensures k r l n h) in
     let of_config = led_log k r mine (Verb.Ask 0) c.args.answer c.note.new.self values c.log.result.now (λ none. c.note.ensures.stands mine possible held.beside none) (λ entry some. c.note.ensures.awaits mine entry possible held.beside some) (λ l n h. c.known-known.ensures k r l n h) (λ l n h. c.log.ensures k r l n h) in
@@ -83,5 +83,5 @@ returns-clause-going g c possible =
     let noted : c.take.result ≡ note_at k r mine (tables_of old) (Place.Ask 0) (Verb.Ask 0) c.args.answer = lead_noted k r mine old (Verb.Ask 0) c.args.answer values c.take.result stands (c.take.ensures.noted log) due possible told
     ∙ ap (λ p. note_at k r mine (tables_of old) p (Verb.Ask 0) c.args.answer) begins in
     c.take.ensures.going
-    ∙ (ap (λ (l : Lead). going_after (begins_at l.place || l.under_way) c.take.result) c.note.ensures.lead
+    ∙ (ap (λ (l : Lead). going_after (begins_at l.place || l.under_way) c.take.result) c.note.ensures.keeps.lead
     ∙ going_asked lead.place lead.under_way (holds_all k (known k r (event_by r (Verb.Ask 0) c.args.answer ∷ mine))) c.take.result c.requires.1.1.1.0 noted)
