@@ -5,6 +5,8 @@
 //! Nothing that a run does stands on this crate: there the same answers come from running states.
 #![tactic(auto)]
 
+mod allowing;
+mod answering;
 mod entering;
 mod fetching;
 mod hosting;
@@ -14,6 +16,6 @@ mod picking;
 mod placing;
 mod room;
 mod scoring;
-mod verbs;
 
-pub use verbs::{allows, answers};
+pub use allowing::allows;
+pub use answering::answers;

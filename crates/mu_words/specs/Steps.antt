@@ -1,5 +1,5 @@
--- law of word steps: what a step answers by the word that it finds, and the word that it leaves, are
--- what the history says.
+-- law of word steps: what a step answers by the word that it finds, and what it leaves there, are
+-- as the history says.
 use Rattle.std.specs.Prelude.{List, ℕ, ◌∷◌, ◌≡◌, ◌≢◌}
 use Rattle.mu_model.specs.declared.config.Config.{Config}
 use Rattle.mu_model.specs.declared.event.Event.{Event}

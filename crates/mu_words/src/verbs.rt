@@ -47,8 +47,8 @@ impl Move {
     }
 }
 
-/// Runs the code with the verb under this name, in an arm for each verb, the commonest first: so the
-/// compiler settles all that the verb alone decides. Looking at the verb again and again took a
+/// Runs the code with the verb under this name, in an arm for each verb, the commonest first: so
+/// the compiler settles all that the verb alone decides. Looking at the verb again and again took a
 /// fifth of a replay.
 #[macro_export]
 macro_rules! with_each_verb {

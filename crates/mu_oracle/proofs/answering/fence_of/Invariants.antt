@@ -2,7 +2,7 @@ use Rattle.std.proofs.Common.{◌≡◌, take}
 use Rattle.std.specs.Prelude.{min}
 use Rattle.mu_model.specs.Histories.{history}
 use Rattle.mu_model.specs.Regions.{fence_owner, fence_grant, fence_closing, fence_target}
-use Rattle.mu_oracle.proofs.verbs.fence_of.Given as goal
+use Rattle.mu_oracle.proofs.answering.fence_of.Given as goal
 
 abbrev pub invariant-loop-e : goal.invariant-loop-e
 invariant-loop-e l = record {

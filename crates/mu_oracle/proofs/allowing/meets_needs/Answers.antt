@@ -3,8 +3,8 @@ use Rattle.std.specs.Prelude.{nat_le}
 use Rattle.std.proofs.lemmas.Bool.{leb-true}
 use Rattle.mu_model.specs.Histories.{history}
 use Rattle.mu_model.proofs.Putting.{head_applied, raise_facts, raise_points}
-use Rattle.mu_oracle.proofs.verbs.meets_needs.Goals as goal
-use Rattle.mu_oracle.proofs.verbs.meets_needs.Goals.{then-p-n-6, else-p-n-6, then-p-n-7, else-p-n-7}
+use Rattle.mu_oracle.proofs.allowing.meets_needs.Goals as goal
+use Rattle.mu_oracle.proofs.allowing.meets_needs.Goals.{then-p-n-6, else-p-n-6, then-p-n-7, else-p-n-7}
 
 pub returns-then-is_position-2 : goal.returns-then-is_position-2
 returns-then-is_position-2 c = elim c.if-p-n-6.branch [
