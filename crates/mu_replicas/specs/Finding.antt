@@ -1,5 +1,5 @@
--- finds for, goes on: what a search over points comes to; over all points of a verb from those of
--- every verb, and over more points from any.
+-- finds for, goes on: a search that went over the points of every verb goes on over those of one,
+-- and a search that went over any points goes on over more.
 use Rattle.std.specs.Prelude.{Bool, IsTrue, List, ℕ, ◌+◌, ◌++◌, ◌≤◌, ◌↔◌}
 use Rattle.mu_model.specs.declared.config.Config.{Config}
 use Rattle.mu_model.specs.declared.event.Event.{Event}

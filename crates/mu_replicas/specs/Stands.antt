@@ -1,6 +1,6 @@
 -- stands for, tells (replicas): the running state of a replica holds what its events make of it:
--- grants, leadership, heads with the scores, known log, rows, puts, filled logs and looks, and tells
--- it; and the same of every replica of a history.
+-- grants, leadership, heads with the scores, known log, rows, puts, filled logs and looks, and
+-- tells it; and the same of every replica of a history.
 use Rattle.std.specs.Prelude.{Bool, List, Some, length, not, ℕ, ◌&&◌, ◌<◌, ◌==◌, ◌≡◌}
 use Rattle.std.specs.List.{slice_get}
 use Rattle.mu_model.specs.declared.config.Config.{Config}

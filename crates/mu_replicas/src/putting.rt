@@ -46,8 +46,8 @@ impl Replica {
     fn marks_nobody(&self, config: &Config, v: u16, limit: u64) -> bool
         requires { config.now.replicas ≤ 7 }
         ensures { Tells config.now self.now
-            (λ r mine. all_below config.now.replicas (λ q. not (may_mark config.now q v limit r mine)))
-            result }
+            (λ r mine. all_below config.now.replicas
+            (λ q. not (may_mark config.now q v limit r mine))) result }
     {
         let mut none = true;
         for q in 0..config.replicas {

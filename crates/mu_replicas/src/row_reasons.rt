@@ -143,8 +143,8 @@ impl Replica {
     fn why_next_not_there(&self, config: &Config, h: u16, applied: usize, found: Found) -> Found
         requires { IsConfig config.now }
         ensures { GoesOn config.now self.now
-            (λ r mine. entry_there config.now h applied (slice_get (known config.now r mine) applied))
-            found result }
+            (λ r mine. entry_there config.now h applied
+            (slice_get (known config.now r mine) applied)) found result }
     {
         match self.value_at(applied) {
             None => found,
