@@ -79,7 +79,7 @@ KeepsNext holds mine old values answer new =
 
 -- the same if the values are those of the log
 abbrev pub KeepsBy :
-    (Config → ℕ → List Event → Place → Type 0) → List Event → Lead → List ℕ → KnownLog → Answer → Lead
-    → Type 0
+    (Config → ℕ → List Event → Place → Type 0) → List Event → Lead → List ℕ → KnownLog → Answer
+    → Lead → Type 0
 KeepsBy holds mine old values log answer new =
     HoldsValues old.config values log → KeepsNext holds mine old values answer new

@@ -128,8 +128,8 @@ pub record Steps (mine : List Event) (old : Lead) (values : List ℕ) (log : Kno
       (tables_of old) answer old.place
 
 -- the leader makes that step of any events after which the verb was answered so; it is that of the
--- same replica, told the same by the scores, and its leadership goes on as the verb began it and the
--- note ends it
+-- same replica, told the same by the scores, and its leadership goes on as the verb began it and
+-- the note ends it
 pub record MakesStep (old : Lead) (values : List ℕ) (log : KnownLog) (verb : Verb)
     (answer : Answer) (new : Lead) (note : Note) : Type 0 where
   pub steps :

@@ -4,7 +4,6 @@ ghost use Rattle.mu_model.specs.declared.event.Event.{Event};
 ghost use Rattle.mu_model.specs.Knowledge.{known as known_of};
 ghost use Rattle.mu_model.specs.Leaderships.{is_member};
 ghost use Rattle.mu_model.specs.Placing.{is_within_ring};
-ghost use Rattle.mu_knowledge.specs.KnownLog.{HoldsValues};
 ghost use Rattle.mu_knowledge.specs.Offers.{IsFirst};
 ghost use Rattle.mu_lead.specs.Lasting.{tables_of};
 ghost use Rattle.mu_lead.specs.Leading.{end_of as end_of_known};

@@ -1,14 +1,10 @@
 //! Late followers.
-ghost use Rattle.std.specs.Prelude.{List, get_or, if◌then◌else◌, is_some, nat_lt, ◌+◌, ◌<◌, ◌≡◌};
-ghost use Rattle.mu_model.specs.declared.event.Event.{Event};
-ghost use Rattle.mu_model.specs.Knowledge.{known as known_of};
+ghost use Rattle.std.specs.Prelude.{get_or, if◌then◌else◌, is_some, nat_lt, ◌+◌, ◌<◌, ◌≡◌};
 ghost use Rattle.mu_model.specs.Leaderships.{noted_grant};
-ghost use Rattle.mu_knowledge.specs.KnownLog.{HoldsValues};
 ghost use Rattle.mu_lead.specs.declared.place.Place.{Place as SomePlace};
 ghost use Rattle.mu_lead.specs.declared.place.Then.{Then as SomeThen};
 ghost use Rattle.mu_lead.specs.Leading.{end_of};
 ghost use Rattle.mu_lead.specs.Listing.{bring_up, late_from, stranger_from};
-ghost use Rattle.mu_lead.specs.Standing.{Stands};
 ghost use Rattle.mu_lead.specs.Stepping.{ByKnown, FindsFrom};
 
 use crate::lead::Lead;

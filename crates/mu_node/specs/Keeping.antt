@@ -1,5 +1,5 @@
--- keeps, becomes, takes (node): what the parts of a turn keep of a node, what they need, and what the
--- node stands for after them.
+-- keeps, becomes, takes (node): what the parts of a turn keep of a node, what they need, and what
+-- the node stands for after them.
 use Rattle.std.specs.Prelude.{Bool, List, None, Some, false, is_some, length, true, ℕ, ◌<◌, ◌∷◌, ◌≡◌}
 use Rattle.std.specs.declared.option.Option.{Option}
 use Rattle.mu_model.specs.declared.config.Config.{Config}
