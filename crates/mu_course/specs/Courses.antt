@@ -5,6 +5,7 @@ use Rattle.mu_model.specs.declared.config.Config.{Config}
 use Rattle.mu_model.specs.declared.event.Event.{Event}
 use Rattle.mu_model.specs.Ends.{is_finished, outrun}
 use Rattle.mu_model.specs.Knowledge.{applied}
+use Rattle.mu_model.specs.Parts.{IsPossible}
 use Rattle.mu_model.specs.Scores.{leader}
 use Rattle.mu_detect.specs.Stands.{StandsFor}
 use Rattle.mu_follow.specs.Commits.{HoldsCommits}
@@ -25,6 +26,18 @@ pub record StandsForCourse (c : Config) (r : ℕ) (mine : List Event) (course : 
   pub completion : HoldsCompletion c (applied c r mine) course.completion
   pub commits : HoldsCommits c r mine course.commits
   pub outrun : course.outrun ≡ outrun c r mine
+
+-- what a course tells: of the events that it stands for
+abbrev pub TellsOf : {A : Type 0} → Course → (Config → ℕ → List Event → A) → A → Type 0
+TellsOf course of told =
+    (c : Config) → (r : ℕ) → (mine : List Event) → StandsForCourse c r mine course
+    → told ≡ of c r mine
+
+-- what holds of the events that a course stands for, if this event of the replica may be the next
+abbrev pub IfNext : Config → Event → Course → (List Event → Type 0) → Type 0
+IfNext c e course Holds =
+    (mine : List Event) → IsPossible c e.by (e ∷ mine) → StandsForCourse c e.by mine course
+    → Holds mine
 
 -- the event finishes r, which had not finished before
 abbrev pub finishes : Config → ℕ → List Event → Event → Bool

@@ -1,6 +1,6 @@
 -- walk: the courses of all replicas and the states of all regions along a list, up to the event
 -- that breaks it, if one does.
-use Rattle.std.specs.Prelude.{ℕ, ◌≡◌, List, None, Some, length}
+use Rattle.std.specs.Prelude.{ℕ, ◌≡◌, ◌<◌, List, None, Some, length}
 use Rattle.std.specs.declared.option.Option.{Option}
 use Rattle.std.specs.List.{slice_get}
 use Rattle.mu_model.specs.declared.config.Config.{Config}
@@ -27,6 +27,18 @@ pub record StandsForWalk (c : Config) (past : List Event) (walk : Walk) : Type 0
       (r : ℕ) (course : Course) → slice_get walk.courses.items r ≡ Some course
       → StandsForCourse c r (part r past) course
   pub regions : Stands c past walk.regions
+
+-- what a walk tells of a replica: of the replica's part of the events that it stands for
+abbrev pub TellsAt : {A : Type 0} → Walk → ℕ → (Config → ℕ → List Event → A) → A → Type 0
+TellsAt walk r of told =
+    (past : List Event) → (c : Config) → r < c.replicas → StandsForWalk c past walk
+    → told ≡ of c r (part r past)
+
+-- what a walk tells of a region
+abbrev pub TellsRegion : {A : Type 0} → Walk → ℕ → (ℕ → List Event → A) → A → Type 0
+TellsRegion walk region of told =
+    (past : List Event) → (c : Config) → region < c.replicas → StandsForWalk c past walk
+    → told ≡ of region past
 
 -- this is wrong with the event after the history, or it may follow
 abbrev pub TellsFault : Config → List Event → Event → Option Fault → Type 0

@@ -6,12 +6,11 @@ ghost use Rattle.mu_model.specs.Contents.{IsConfig, row_count};
 ghost use Rattle.mu_model.specs.Ends.{is_finished as is_finished_of};
 ghost use Rattle.mu_model.specs.Knowledge.{applied as applied_of, commits as commits_of, known as known_of};
 ghost use Rattle.mu_model.specs.Leaderships.{begins_leadership, has_begun as has_begun_of, is_member as is_member_of, is_over as is_over_of, proposal_number};
-ghost use Rattle.mu_model.specs.Parts.{IsPossible};
 ghost use Rattle.mu_model.specs.Room.{reserve};
 ghost use Rattle.mu_model.specs.Scores.{is_failed as is_failed_by, leader as leader_of};
 ghost use Rattle.mu_model.specs.Steps.{is_beat as is_beat_event};
 ghost use Rattle.mu_model.specs.Stretches.{is_odd};
-ghost use Rattle.mu_course.specs.Courses.{StandsForCourse, TellsTurn};
+ghost use Rattle.mu_course.specs.Courses.{IfNext, StandsForCourse, TellsOf, TellsTurn};
 ghost use Rattle.mu_course.specs.Resigning.{is_leading as is_leading_of, yields as yields_by};
 ghost use Rattle.mu_course.specs.SoFar.{IsSoFar};
 ghost use Rattle.mu_course.specs.Telling.{Tells};
@@ -144,8 +143,7 @@ impl Course {
 
     /// Whether a leadership is under way.
     pub fn is_leading(&self) -> bool
-        ensures { (c : Settings) → (r : ℕ) → (mine : List Made) → StandsForCourse c r mine self.now
-            → result ≡ is_leading_of c r mine }
+        ensures { TellsOf self.now is_leading_of result }
     {
         let begun = self.replica.leadership.has_begun();
         let over = self.replica.leadership.is_over();
@@ -154,32 +152,28 @@ impl Course {
 
     /// How many steps it made.
     pub fn steps(&self) -> u32
-        ensures { (c : Settings) → (r : ℕ) → (mine : List Made) → StandsForCourse c r mine self.now
-            → result ≡ length mine }
+        ensures { TellsOf self.now (λ c r. length) result }
     {
         self.replica.steps
     }
 
     /// Whether a leadership of it has begun.
     pub fn has_begun(&self) -> bool
-        ensures { (c : Settings) → (r : ℕ) → (mine : List Made) → StandsForCourse c r mine self.now
-            → result ≡ has_begun_of r mine }
+        ensures { TellsOf self.now (λ c. has_begun_of) result }
     {
         self.replica.leadership.has_begun()
     }
 
     /// Whether its last leadership is over, as the verbs end it.
     pub fn is_over(&self) -> bool
-        ensures { (c : Settings) → (r : ℕ) → (mine : List Made) → StandsForCourse c r mine self.now
-            → result ≡ is_over_of r mine }
+        ensures { TellsOf self.now (λ c. is_over_of) result }
     {
         self.replica.leadership.is_over()
     }
 
     /// The proposal number of its last leadership, if it has one.
     pub fn number(&self) -> Option<u32>
-        ensures { (c : Settings) → (r : ℕ) → (mine : List Made) → StandsForCourse c r mine self.now
-            → result ≡ proposal_number r mine }
+        ensures { TellsOf self.now (λ c. proposal_number) result }
     {
         self.replica.leadership.number()
     }
@@ -194,8 +188,7 @@ impl Course {
 
     /// The replica that its scores name leader.
     pub fn named(&self) -> u8
-        ensures { (c : Settings) → (r : ℕ) → (mine : List Made) → StandsForCourse c r mine self.now
-            → result ≡ leader_of c r mine }
+        ensures { TellsOf self.now leader_of result }
     {
         self.scores.leader()
     }
@@ -210,8 +203,7 @@ impl Course {
 
     /// Whether the next event gives way to another leader.
     fn yields(&self, event: &Event) -> bool
-        ensures { (c : Settings) → (r : ℕ) → (mine : List Made) → StandsForCourse c r mine self.now
-            → result ≡ yields_by c r mine event.now }
+        ensures { TellsOf self.now (λ c r mine. yields_by c r mine event.now) result }
     {
         let named = self.scores.leader() == self.replica.replica;
         is_yield(is_beat(event), is_odd_step(self.replica.steps), named)
@@ -235,13 +227,11 @@ impl Course {
     /// Takes the next event of the replica, which it was allowed, and which gives way or doesn't.
     fn note(&mut self, config: &Config, event: &Event, yields: bool) -> Told
         requires config { IsConfig config.now }
-        ensures stands { (mine : List Made) → IsPossible config.now event.now.by (event.now ∷ mine)
-            → StandsForCourse config.now event.now.by mine self.old
-            → yields ≡ yields_by config.now event.now.by mine event.now
-            → StandsForCourse config.now event.now.by (event.now ∷ mine) self.new }
-        ensures tells { (mine : List Made) → IsPossible config.now event.now.by (event.now ∷ mine)
-            → StandsForCourse config.now event.now.by mine self.old
-            → Tells config.now mine event.now result }
+        ensures stands { IfNext config.now event.now self.old
+            (λ mine. yields ≡ yields_by config.now event.now.by mine event.now
+            → StandsForCourse config.now event.now.by (event.now ∷ mine) self.new) }
+        ensures tells { IfNext config.now event.now self.old
+            (λ mine. Tells config.now mine event.now result) }
     {
         let told = told_by(&mut self.replica, config, event);
         let commit = commit_in(event, told.taught);
@@ -261,24 +251,21 @@ impl Course {
 
     /// What the replica knows, in order.
     pub fn known(&self) -> &[u16]
-        ensures { (c : Settings) → (r : ℕ) → (mine : List Made) → StandsForCourse c r mine self.now
-            → result.now ≡ known_of c r mine }
+        ensures { TellsOf self.now known_of result.now }
     {
         self.replica.known_log.known()
     }
 
     /// What it has applied, in order.
     pub fn applied(&self) -> &[u16]
-        ensures { (c : Settings) → (r : ℕ) → (mine : List Made) → StandsForCourse c r mine self.now
-            → result.now ≡ applied_of c r mine }
+        ensures { TellsOf self.now applied_of result.now }
     {
         first_values(self.known(), self.replica.held_rows.applied_length())
     }
 
     /// What it committed, in order.
     pub fn commits(&self) -> &[Commit]
-        ensures { (c : Settings) → (r : ℕ) → (mine : List Made) → StandsForCourse c r mine self.now
-            → map pair_of result.now ≡ commits_of c r mine }
+        ensures { TellsOf self.now commits_of (map pair_of result.now) }
     {
         self.commits.as_slice()
     }
@@ -300,12 +287,10 @@ impl Course {
     /// no memory.
     pub fn take(&mut self, config: &Config, event: &Event) -> Turn
         requires config { IsConfig config.now }
-        ensures stands { (mine : List Made) → IsPossible config.now event.now.by (event.now ∷ mine)
-            → StandsForCourse config.now event.now.by mine self.old
-            → StandsForCourse config.now event.now.by (event.now ∷ mine) self.new }
-        ensures tells { (mine : List Made) → IsPossible config.now event.now.by (event.now ∷ mine)
-            → StandsForCourse config.now event.now.by mine self.old
-            → TellsTurn config.now mine event.now result }
+        ensures stands { IfNext config.now event.now self.old
+            (λ mine. StandsForCourse config.now event.now.by (event.now ∷ mine) self.new) }
+        ensures tells { IfNext config.now event.now self.old
+            (λ mine. TellsTurn config.now mine event.now result) }
     {
         let named = self.scores.leader();
         let yields = self.yields(event);

@@ -10,7 +10,7 @@ ghost use Rattle.mu_model.specs.Regions.{fence as fence_of, fence_grant};
 ghost use Rattle.mu_model.specs.Scores.{is_failed, leader};
 ghost use Rattle.mu_model.specs.declared.config.Config.{Config as Settings};
 ghost use Rattle.mu_course.specs.Courses.{StandsForCourse};
-ghost use Rattle.mu_course.specs.Walks.{IsWalked, StandsForWalk, TellsFault, TellsStep, fence_shown, grants_shown};
+ghost use Rattle.mu_course.specs.Walks.{IsWalked, StandsForWalk, TellsAt, TellsFault, TellsRegion, TellsStep, fence_shown, grants_shown};
 ghost use Rattle.mu_course.specs.Resigning.{is_leading};
 ghost use Rattle.mu_course.specs.SoFar.{IsSoFar};
 ghost use Rattle.mu_knowledge.specs.Commits.{pair_of};
@@ -94,24 +94,21 @@ impl Walk {
 
     /// The fence of a region. `None` if there is no such region.
     pub fn fence(&self, region: u8) -> Option<Fence>
-        ensures { (past : List Made) → (c : Settings) → region < c.replicas
-            → StandsForWalk c past self.now → result ≡ Some (fence_of region past) }
+        ensures { TellsRegion self.now region (λ p past. Some (fence_of p past)) result }
     {
         fence_in(self.regions.answer(region, &Verb::Fence(region)))
     }
 
     /// How often the region was granted.
     pub fn granted(&self, region: u8) -> u32
-        ensures { (past : List Made) → (c : Settings) → region < c.replicas
-            → StandsForWalk c past self.now → result ≡ fence_grant region past }
+        ensures { TellsRegion self.now region fence_grant result }
     {
         grants_in(self.fence(region))
     }
 
     /// Whether a leadership of the replica is under way.
     pub fn leads(&self, r: u8) -> bool
-        ensures { (past : List Made) → (c : Settings) → r < c.replicas
-            → StandsForWalk c past self.now → result ≡ is_leading c r (part r past) }
+        ensures { TellsAt self.now r is_leading result }
     {
         match self.course(r) {
             None => false,
@@ -121,8 +118,7 @@ impl Walk {
 
     /// What the replica has applied, in order. Nothing if there is no such replica.
     pub fn applied(&self, r: u8) -> &[u16]
-        ensures { (past : List Made) → (c : Settings) → r < c.replicas
-            → StandsForWalk c past self.now → result.now ≡ applied_of c r (part r past) }
+        ensures { TellsAt self.now r applied_of result.now }
     {
         match self.course(r) {
             None => &[],
@@ -132,9 +128,7 @@ impl Walk {
 
     /// What it committed, in order. Nothing if there is no such replica.
     pub fn commits(&self, r: u8) -> &[Commit]
-        ensures { (past : List Made) → (c : Settings) → r < c.replicas
-            → StandsForWalk c past self.now
-            → map pair_of result.now ≡ commits_of c r (part r past) }
+        ensures { TellsAt self.now r commits_of (map pair_of result.now) }
     {
         match self.course(r) {
             None => &[],
@@ -157,8 +151,7 @@ impl Walk {
 
     /// The replica that the scores of a replica name leader.
     pub fn named(&self, r: u8) -> u8
-        ensures { (past : List Made) → (c : Settings) → r < c.replicas
-            → StandsForWalk c past self.now → result ≡ leader c r (part r past) }
+        ensures { TellsAt self.now r leader result }
     {
         match self.course(r) {
             None => 0,

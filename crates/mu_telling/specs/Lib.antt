@@ -1,3 +1,4 @@
 pub mod Accounts
+pub mod Held
 pub mod Shown
 pub mod Straying

@@ -1,7 +1,8 @@
 -- fact, moment: what the regions hold and what the replicas have come to after the first events of
 -- a list.
-use Rattle.std.specs.Prelude.{Bool, List, None, Some, [], if◌then◌else◌, length, suc, take, zero, ℕ, ◌++◌, ◌+◌, ◌==◌, ◌∷◌, ◌≡◌}
+use Rattle.std.specs.Prelude.{Bool, List, None, OnOk, Some, [], if◌then◌else◌, length, suc, take, zero, ℕ, ◌++◌, ◌+◌, ◌==◌, ◌∷◌, ◌≡◌}
 use Rattle.std.specs.declared.option.Option.{Option}
+use Rattle.std.specs.declared.result.Result.{Result}
 use Rattle.std.specs.List.{slice_get}
 use Rattle.mu_model.specs.declared.config.Config.{Config}
 use Rattle.mu_model.specs.declared.event.Answer.{Answer}
@@ -33,6 +34,10 @@ joined_below (suc n) f = joined_below n f ++ f n
 abbrev pub number_shown : Answer → ℕ
 number_shown (Answer.Number x) = x
 number_shown _ = 0
+
+-- these facts were added, if memory sufficed
+abbrev pub Adds : {E : Type 0} → Result (Unit {0}) E → List Fact → List Fact → List Fact → Type 0
+Adds result before after facts = OnOk result (after ≡ before ++ facts)
 
 -- how many positions a log has
 abbrev pub positions : Config → ℕ

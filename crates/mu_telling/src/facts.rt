@@ -1,6 +1,6 @@
 //! What a moment shows of a region or of a replica, one thing each.
-ghost use Rattle.std.specs.Prelude.{◌≡◌};
-ghost use Rattle.mu_telling.specs.Shown.{asks_fact as asks_fact_of, entry_fact as entry_fact_of, failed_fact as failed_fact_of, known_fact as known_fact_of, leads_by as leads_by_these, leads_with as leads_with_this, member_fact as member_fact_of};
+ghost use Rattle.std.specs.Prelude.{None, Some, if◌then◌else◌, ◌≡◌};
+ghost use Rattle.mu_telling.specs.Shown.{asks_fact as asks_fact_of, entry_fact as entry_fact_of, known_fact as known_fact_of, leads_by as leads_by_these, leads_with as leads_with_this};
 
 use mu_model::Answer;
 use mu_outcome::{Fact, Leads};
@@ -56,26 +56,11 @@ pub(crate) fn leads_by(begun: bool, over: bool, number: Option<u32>) -> Leads
     }
 }
 
-/// A member, if the region is one.
-pub(crate) fn member_fact(replica: u8, region: u8, member: bool) -> Option<Fact>
-    ensures { result ≡ member_fact_of replica region member }
+/// The fact, if it is one.
+pub(crate) fn given_if(holds: bool, fact: Fact) -> Option<Fact>
+    ensures { result ≡ (if holds then Some fact else None) }
 {
-    if member {
-        Some(Fact::Member { replica, region })
-    } else {
-        None
-    }
-}
-
-/// A replica that is held to be failed, if it is.
-pub(crate) fn failed_fact(replica: u8, other: u8, failed: bool) -> Option<Fact>
-    ensures { result ≡ failed_fact_of replica other failed }
-{
-    if failed {
-        Some(Fact::Failed { replica, other })
-    } else {
-        None
-    }
+    if holds { Some(fact) } else { None }
 }
 
 /// An entry that is known, if one is.

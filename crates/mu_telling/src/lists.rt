@@ -1,6 +1,5 @@
 //! What each replica has come to, in order of id.
 ghost use Rattle.std.specs.Prelude.{IfOk, List, OnOk, map, ◌≡◌};
-ghost use Rattle.mu_model.specs.declared.config.Config.{Config as Settings};
 ghost use Rattle.mu_model.specs.declared.event.Event.{Event as Made};
 ghost use Rattle.mu_model.specs.Contents.{IsConfig};
 ghost use Rattle.mu_model.specs.Histories.{part};
@@ -8,10 +7,11 @@ ghost use Rattle.mu_model.specs.Knowledge.{applied, commits as commits_by, grown
 ghost use Rattle.mu_course.specs.Walks.{StandsForWalk};
 ghost use Rattle.mu_knowledge.specs.Commits.{pair_of};
 ghost use Rattle.mu_telling.specs.Accounts.{AreEnds, each_below};
+ghost use Rattle.mu_telling.specs.Held.{OfWalk};
 
 use mu_course::Walk;
 use mu_model::{Config, NoMemory, Script, Sequence};
-use mu_outcome::{AllCommits, Commit, Commits, EndSoFar, Log, Logs};
+use mu_outcome::{AllCommits, EndSoFar, Logs};
 use std::alloc::Global;
 
 /// Adds a value, if there is one.
@@ -32,17 +32,10 @@ pub(crate) fn push_given<T: Drop>(list: &mut Vec<T>, given: Option<T>) -> Result
 }
 
 /// A copy of the values.
-fn log_of(alloc: Global, values: &[u16]) -> Result<Log, NoMemory>
-    ensures { IfOk result (λ log. log ≡ values.now) }
+fn copy_of<T: Copy>(alloc: Global, values: &[T]) -> Result<Sequence<T>, NoMemory>
+    ensures { IfOk result (λ copy. copy ≡ values.now) }
 {
     Ok(Sequence::from_vec(Vec::from_slice(alloc, values)?))
-}
-
-/// A copy of the commits.
-fn list_of(alloc: Global, commits: &[Commit]) -> Result<Commits, NoMemory>
-    ensures { IfOk result (λ list. list ≡ commits.now) }
-{
-    Ok(Sequence::from_vec(Vec::from_slice(alloc, commits)?))
 }
 
 /// What each of the first `n` replicas has applied.
@@ -51,12 +44,12 @@ fn list_of(alloc: Global, commits: &[Commit]) -> Result<Commits, NoMemory>
 ///
 /// Only for want of memory.
 pub(crate) fn logs_of(alloc: Global, walk: &Walk, n: u8) -> Result<Logs, NoMemory>
-    ensures { (past : List Made) → (c : Settings) → n ≡ c.replicas → StandsForWalk c past walk.now
-        → IfOk result (λ logs. logs ≡ each_below n (λ r. applied c r (part r past))) }
+    ensures { OfWalk walk.now n (λ c past.
+        IfOk result (λ logs. logs ≡ each_below n (λ r. applied c r (part r past)))) }
 {
     let mut logs = Vec::new(alloc);
     for r in 0..n {
-        let log = log_of(alloc, walk.applied(r))?;
+        let log = copy_of(alloc, walk.applied(r))?;
         logs.push(log)?;
     }
     Ok(Sequence::from_vec(logs))
@@ -68,13 +61,12 @@ pub(crate) fn logs_of(alloc: Global, walk: &Walk, n: u8) -> Result<Logs, NoMemor
 ///
 /// Only for want of memory.
 pub(crate) fn commits_of(alloc: Global, walk: &Walk, n: u8) -> Result<AllCommits, NoMemory>
-    ensures { (past : List Made) → (c : Settings) → n ≡ c.replicas → StandsForWalk c past walk.now
-        → IfOk result (λ all.
-        map (map pair_of) all ≡ each_below n (λ r. commits_by c r (part r past))) }
+    ensures { OfWalk walk.now n (λ c past. IfOk result (λ all.
+        map (map pair_of) all ≡ each_below n (λ r. commits_by c r (part r past)))) }
 {
     let mut all = Vec::new(alloc);
     for r in 0..n {
-        let list = list_of(alloc, walk.commits(r))?;
+        let list = copy_of(alloc, walk.commits(r))?;
         all.push(list)?;
     }
     Ok(Sequence::from_vec(all))

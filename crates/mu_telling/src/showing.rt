@@ -1,7 +1,6 @@
 //! What holds after the first events of a legal list.
-ghost use Rattle.std.specs.Prelude.{IfOk, List, OnOk, Some, length, take, ◌++◌, ◌<◌, ◌≡◌, ◌≤◌, ◌^◌};
+ghost use Rattle.std.specs.Prelude.{IfOk, List, Some, length, take, ◌<◌, ◌≡◌, ◌≤◌, ◌^◌};
 ghost use Rattle.std.specs.List.{slice_get};
-ghost use Rattle.mu_model.specs.declared.config.Config.{Config as Settings};
 ghost use Rattle.mu_model.specs.declared.event.Event.{Event as Made};
 ghost use Rattle.mu_model.specs.declared.event.Verb.TheVariants as verb;
 ghost use Rattle.mu_model.specs.Answers.{answer_of};
@@ -11,12 +10,12 @@ ghost use Rattle.mu_model.specs.Knowledge.{applied, known};
 ghost use Rattle.mu_model.specs.Leaderships.{has_begun, is_member, is_over, proposal_number};
 ghost use Rattle.mu_model.specs.Regions.{asks, beats, fence, region_fuo, region_head, region_min};
 ghost use Rattle.mu_model.specs.Scores.{is_failed, leader};
-ghost use Rattle.mu_course.specs.Courses.{StandsForCourse};
 ghost use Rattle.mu_course.specs.Walks.{StandsForWalk};
 ghost use Rattle.mu_outcome.specs.declared.moment.Fact.TheVariants as fact;
-ghost use Rattle.mu_telling.specs.Shown.{IsMoment, asks_fact as asks_fact_of, entry_fact as entry_fact_of, facts_of as facts_of_all, failed_fact as failed_fact_of, given_below, joined_below, known_fact as known_fact_of, leads_by as leads_by_these, member_fact as member_fact_of, number_shown, positions as positions_of, region_facts, replica_facts};
+ghost use Rattle.mu_telling.specs.Held.{AtId, OfCourse, OfWalk};
+ghost use Rattle.mu_telling.specs.Shown.{Adds, IsMoment, asks_fact as asks_fact_of, entry_fact as entry_fact_of, facts_of as facts_of_all, failed_fact as failed_fact_of, given_below, joined_below, known_fact as known_fact_of, leads_by as leads_by_these, member_fact as member_fact_of, number_shown, positions as positions_of, region_facts, replica_facts};
 
-use crate::facts::{asks_fact, entry_fact, failed_fact, known_fact, leads_by, member_fact};
+use crate::facts::{asks_fact, entry_fact, given_if, known_fact, leads_by};
 use crate::lists::push_given;
 use mu_course::{Course, Walk};
 use mu_model::{Answer, Config, Event, NoMemory, Sequence, Verb, positions_in};
@@ -35,10 +34,9 @@ fn number_in(answer: Answer) -> u64
 
 /// Adds how often each of the `n` replicas asked for a region.
 fn push_asks(facts: &mut Vec<Fact>, walk: &Walk, n: u8, region: u8) -> Result<(), NoMemory>
-    ensures { (past : List Made) → (c : Settings) → n ≡ c.replicas → region < c.replicas
-        → StandsForWalk c past walk.now
-        → OnOk result (facts.new.items
-        ≡ facts.old.items ++ given_below n (λ w. asks_fact_of region w (asks w region past))) }
+    ensures { AtId walk.now region (λ c past. n ≡ c.replicas
+        → Adds result facts.old.items facts.new.items
+        (given_below n (λ w. asks_fact_of region w (asks w region past)))) }
 {
     for by in 0..n {
         let count = number_in(walk.answer(region, &Verb::ReadAsk(by)));
@@ -54,11 +52,9 @@ fn push_entries(
     positions: u16,
     region: u8,
 ) -> Result<(), NoMemory>
-    ensures { (past : List Made) → (c : Settings) → region < c.replicas
-        → StandsForWalk c past walk.now
-        → OnOk result (facts.new.items ≡ facts.old.items
-        ++ given_below positions
-        (λ i. entry_fact_of region i (answer_of c region past (verb.Look region i)))) }
+    ensures { AtId walk.now region (λ c past. Adds result facts.old.items facts.new.items
+        (given_below positions
+        (λ i. entry_fact_of region i (answer_of c region past (verb.Look region i))))) }
 {
     for position in 0..positions {
         let answer = walk.answer(region, &Verb::Look(region, position));
@@ -69,10 +65,9 @@ fn push_entries(
 
 /// The minimum, the FUO, the head and the beats of a region.
 fn numbers_of(walk: &Walk, region: u8) -> Fact
-    ensures { (past : List Made) → (c : Settings) → region < c.replicas
-        → StandsForWalk c past walk.now
-        → result ≡ fact.Numbers region (region_min region past) (region_fuo region past)
-        (region_head region past) (beats region past) }
+    ensures { AtId walk.now region (λ c past. result
+        ≡ fact.Numbers region (region_min region past) (region_fuo region past)
+        (region_head region past) (beats region past)) }
 {
     Fact::Numbers {
         region,
@@ -85,9 +80,8 @@ fn numbers_of(walk: &Walk, region: u8) -> Fact
 
 /// The fence of a region, if there is such a region.
 fn fence_of(walk: &Walk, region: u8) -> Option<Fact>
-    ensures { (past : List Made) → (c : Settings) → region < c.replicas
-        → StandsForWalk c past walk.now
-        → result ≡ Some (fact.Fence region (fence region past)) }
+    ensures { AtId walk.now region
+        (λ c past. result ≡ Some (fact.Fence region (fence region past))) }
 {
     match walk.fence(region) {
         None => None,
@@ -103,9 +97,8 @@ fn push_region(
     positions: u16,
     region: u8,
 ) -> Result<(), NoMemory>
-    ensures { (past : List Made) → (c : Settings) → n ≡ c.replicas → positions ≡ positions_of c
-        → region < c.replicas → StandsForWalk c past walk.now
-        → OnOk result (facts.new.items ≡ facts.old.items ++ region_facts c past region) }
+    ensures { AtId walk.now region (λ c past. n ≡ c.replicas → positions ≡ positions_of c
+        → Adds result facts.old.items facts.new.items (region_facts c past region)) }
 {
     push_given(facts, fence_of(walk, region))?;
     push_given(facts, Some(numbers_of(walk, region)))?;
@@ -116,28 +109,25 @@ fn push_region(
 /// Adds the members in the leadership of a replica.
 fn push_members(facts: &mut Vec<Fact>, course: &Course, n: u8, replica: u8) -> Result<(), NoMemory>
     requires { n ≤ 7 }
-    ensures { (mine : List Made) → (c : Settings) → StandsForCourse c replica mine course.now
-        → OnOk result (facts.new.items ≡ facts.old.items
-        ++ given_below n (λ p. member_fact_of replica p (is_member replica p mine))) }
+    ensures { OfCourse course.now replica (λ c mine. Adds result facts.old.items facts.new.items
+        (given_below n (λ p. member_fact_of replica p (is_member replica p mine)))) }
 {
     for region in 0..n {
-        push_given(
-            facts,
-            member_fact(replica, region, course.is_member(region)),
-        )?;
+        let fact = Fact::Member { replica, region };
+        push_given(facts, given_if(course.is_member(region), fact))?;
     }
     Ok(())
 }
 
 /// Adds the replicas that a replica holds to be failed.
 fn push_failed(facts: &mut Vec<Fact>, course: &Course, n: u8, replica: u8) -> Result<(), NoMemory>
-    ensures { (mine : List Made) → (c : Settings) → n ≡ c.replicas
-        → StandsForCourse c replica mine course.now
-        → OnOk result (facts.new.items ≡ facts.old.items
-        ++ given_below n (λ q. failed_fact_of replica q (is_failed replica q mine))) }
+    ensures { OfCourse course.now replica (λ c mine. n ≡ c.replicas
+        → Adds result facts.old.items facts.new.items
+        (given_below n (λ q. failed_fact_of replica q (is_failed replica q mine)))) }
 {
     for other in 0..n {
-        push_given(facts, failed_fact(replica, other, course.fails(other)))?;
+        let fact = Fact::Failed { replica, other };
+        push_given(facts, given_if(course.fails(other), fact))?;
     }
     Ok(())
 }
@@ -156,8 +146,8 @@ fn push_known(
     positions: u16,
     replica: u8,
 ) -> Result<(), NoMemory>
-    ensures { OnOk result (facts.new.items ≡ facts.old.items
-        ++ given_below positions (λ i. known_fact_of replica i (slice_get values.now i))) }
+    ensures { Adds result facts.old.items facts.new.items
+        (given_below positions (λ i. known_fact_of replica i (slice_get values.now i))) }
 {
     for position in 0..positions {
         let value = value_at(values, position);
@@ -168,9 +158,9 @@ fn push_known(
 
 /// How far a replica has come, and whom its scores name.
 fn reached_by(course: &Course, replica: u8) -> Fact
-    ensures { (mine : List Made) → (c : Settings) → StandsForCourse c replica mine course.now
-        → result ≡ fact.Reached replica (length mine) (length (known c replica mine))
-        (length (applied c replica mine)) (leader c replica mine) }
+    ensures { OfCourse course.now replica (λ c mine. result
+        ≡ fact.Reached replica (length mine) (length (known c replica mine))
+        (length (applied c replica mine)) (leader c replica mine)) }
 {
     Fact::Reached {
         replica,
@@ -183,9 +173,9 @@ fn reached_by(course: &Course, replica: u8) -> Fact
 
 /// The leadership of a replica.
 fn leadership_of(course: &Course, replica: u8) -> Fact
-    ensures { (mine : List Made) → (c : Settings) → StandsForCourse c replica mine course.now
-        → result ≡ fact.Leadership replica (leads_by_these (has_begun replica mine)
-        (is_over replica mine) (proposal_number replica mine)) }
+    ensures { OfCourse course.now replica (λ c mine. result
+        ≡ fact.Leadership replica (leads_by_these (has_begun replica mine)
+        (is_over replica mine) (proposal_number replica mine))) }
 {
     Fact::Leadership {
         replica,
@@ -202,9 +192,8 @@ fn push_replica(
     replica: u8,
 ) -> Result<(), NoMemory>
     requires { n ≤ 7 }
-    ensures { (mine : List Made) → (c : Settings) → n ≡ c.replicas → positions ≡ positions_of c
-        → StandsForCourse c replica mine course.now
-        → OnOk result (facts.new.items ≡ facts.old.items ++ replica_facts c replica mine) }
+    ensures { OfCourse course.now replica (λ c mine. n ≡ c.replicas → positions ≡ positions_of c
+        → Adds result facts.old.items facts.new.items (replica_facts c replica mine)) }
 {
     push_given(facts, Some(reached_by(course, replica)))?;
     push_given(facts, Some(leadership_of(course, replica)))?;
@@ -222,10 +211,9 @@ fn push_replica_at(
     replica: u8,
 ) -> Result<(), NoMemory>
     requires { n ≤ 7 }
-    ensures { (past : List Made) → (c : Settings) → n ≡ c.replicas → positions ≡ positions_of c
-        → replica < c.replicas → StandsForWalk c past walk.now
-        → OnOk result (facts.new.items
-        ≡ facts.old.items ++ replica_facts c replica (part replica past)) }
+    ensures { AtId walk.now replica (λ c past. n ≡ c.replicas → positions ≡ positions_of c
+        → Adds result facts.old.items facts.new.items
+        (replica_facts c replica (part replica past))) }
 {
     match walk.course(replica) {
         None => Ok(()),
@@ -235,9 +223,8 @@ fn push_replica_at(
 
 /// Adds what the regions hold.
 fn push_regions(facts: &mut Vec<Fact>, walk: &Walk, n: u8, positions: u16) -> Result<(), NoMemory>
-    ensures { (past : List Made) → (c : Settings) → n ≡ c.replicas → positions ≡ positions_of c
-        → StandsForWalk c past walk.now
-        → OnOk result (facts.new.items ≡ facts.old.items ++ joined_below n (region_facts c past)) }
+    ensures { OfWalk walk.now n (λ c past. positions ≡ positions_of c
+        → Adds result facts.old.items facts.new.items (joined_below n (region_facts c past))) }
 {
     for region in 0..n {
         push_region(facts, walk, n, positions, region)?;
@@ -248,10 +235,9 @@ fn push_regions(facts: &mut Vec<Fact>, walk: &Walk, n: u8, positions: u16) -> Re
 /// Adds what the replicas have come to.
 fn push_replicas(facts: &mut Vec<Fact>, walk: &Walk, n: u8, positions: u16) -> Result<(), NoMemory>
     requires { n ≤ 7 }
-    ensures { (past : List Made) → (c : Settings) → n ≡ c.replicas → positions ≡ positions_of c
-        → StandsForWalk c past walk.now
-        → OnOk result (facts.new.items ≡ facts.old.items
-        ++ joined_below n (λ r. replica_facts c r (part r past))) }
+    ensures { OfWalk walk.now n (λ c past. positions ≡ positions_of c
+        → Adds result facts.old.items facts.new.items
+        (joined_below n (λ r. replica_facts c r (part r past)))) }
 {
     for replica in 0..n {
         push_replica_at(facts, walk, n, positions, replica)?;

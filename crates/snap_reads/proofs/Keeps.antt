@@ -18,7 +18,7 @@ use Rattle.mu_model.proofs.Basics.{same_some}
 use Rattle.mu_rows.specs.Rows.{IsCommand, spelled}
 use Rattle.snap_reads.specs.declared.rule.View.{View}
 use Rattle.snap_reads.specs.Published.{AllBegin, AreCommands, Fits, Holds, Stand, fresh_view, informed_view, note_view, row_place, rows_of, spent_view, word_count, writer_view}
-use Rattle.snap_reads.specs.Steps.{Counted, Ended, Loaded, Raised, Stored}
+use Rattle.snap_reads.specs.Steps.{Counted, Ended, Loaded, Raised, Stored, TakesWord}
 use Rattle.snap_reads.proofs.Rows.{all_begin_joined, all_begin_longer, all_within, are_joined, begins_longer, prefix_length, row_at, rows_joined, rows_length, short_begin}
 
 off : (b : Bool) → b ≡ false → b ≡ true → ⊥
@@ -89,9 +89,9 @@ stand_longer words place row n stand is k less = ⊎_elim
     (eqb_tells k (length row))
 
 -- a reader loads a word of its next row that isn't its last
-pub loads : (limit slots id i : ℕ) (me : Me (Unit {0}) View) → me.0.writes ≡ false → i ≡ row_place (length me.0.seen) + length me.0.words → length me.0.words < 11 → length me.0.seen < me.0.upto
+loads_word : (limit slots id i : ℕ) (me : Me (Unit {0}) View) → me.0.writes ≡ false → i ≡ row_place (length me.0.seen) + length me.0.words → length me.0.words < 11 → length me.0.seen < me.0.upto
     → Allows (Holds limit) slots id me i (λ n. n) (λ n after. Loaded me n after)
-loads limit slots id i me reads is_i room below s h some_slots at bound =
+loads_word limit slots id i me reads is_i room below s h some_slots at bound =
     let n = slice_index s.words i in
     let mine = h.fits id me.0 at in (
       record me.0 { words = me.0.words ++ n ∷ [] },
@@ -131,9 +131,9 @@ command_at [] rest command are = are.0
 command_at (x ∷ seen) rest command are = command_at seen rest command are.1
 
 -- a reader loads the last word of its next row
-pub ends : (limit slots id i : ℕ) (me : Me (Unit {0}) View) → me.0.writes ≡ false → i ≡ row_place (length me.0.seen) + length me.0.words → length me.0.words ≡ 11 → length me.0.seen < me.0.upto
+loads_last : (limit slots id i : ℕ) (me : Me (Unit {0}) View) → me.0.writes ≡ false → i ≡ row_place (length me.0.seen) + length me.0.words → length me.0.words ≡ 11 → length me.0.seen < me.0.upto
     → Allows (Holds limit) slots id me i (λ n. n) (λ n after. Ended me n after)
-ends limit slots id i me reads is_i long below s h some_slots at bound = (
+loads_last limit slots id i me reads is_i long below s h some_slots at bound = (
   record me.0 { seen = seen'; words = [] },
   keeps,
   tt,
@@ -173,6 +173,18 @@ ends limit slots id i me reads is_i long below s h some_slots at bound = (
 
     begins : IsPrefixOf (me.0.seen ++ more.0 ∷ []) h.published
     begins = (more.1, more.2 ∙ sym (append_assoc me.0.seen (more.0 ∷ []) more.1))
+
+-- a reader loads a word of its next row
+pub loads : (limit slots id i : ℕ) (me : Me (Unit {0}) View) → me.0.writes ≡ false → i ≡ row_place (length me.0.seen) + length me.0.words → length me.0.words < 12 → length me.0.seen < me.0.upto
+    → Allows (Holds limit) slots id me i (λ n. n) (λ n after. TakesWord me n after)
+loads limit slots id i me reads is_i more below s h some_slots at bound = ⊎_elim
+    (λ (less : length me.0.words < 11).
+    let to = loads_word limit slots id i me reads is_i less below s h some_slots at bound in
+    (to.0, to.1, to.2, to.3, record { other = λ _. to.4; last = λ is. absurd (omega (arith, less, is)) }))
+    (λ (full : 11 ≤ length me.0.words).
+    let to = loads_last limit slots id i me reads is_i (omega (arith, full, more)) below s h some_slots at bound in
+    (to.0, to.1, to.2, to.3, record { other = λ less. absurd (omega (arith, full, less)); last = λ _. to.4 }))
+    (cases_lt (length me.0.words) 11)
 
 -- the writer stores a word past the count
 pub stores : (limit slots id i x : ℕ) (me : Me (Unit {0}) View) → me.0.writes ≡ true → i ≡ row_place (length me.0.seen) + length me.0.words → i < word_count limit

@@ -4,13 +4,31 @@ use Rattle.std.specs.Prelude.{slice_index, slice_set}
 use Rattle.std.proofs.lemmas.Grind.{take-set_at}
 use Rattle.atomic_table.specs.Table.{Me}
 use Rattle.snap_reads.specs.declared.rule.View.{View}
-use Rattle.snap_reads.specs.Steps.{Ended, HasPart, HasRow, ShortBegin}
+use Rattle.snap_reads.specs.Published.{row_place}
+use Rattle.snap_reads.specs.Steps.{AwaitsRow, AwaitsWord, Ended, HasPart, HasRow, ShortBegin}
 
 pub part_begins : (me : Me (Unit {0}) View) (row : List ℕ) → HasPart me 0 row me
 part_begins me row i = (record me.0 { words = (sym (append-nil me.0.words)) i }, me.1)
 
 pub part_length : (before after : Me (Unit {0}) View) (k : ℕ) (row : List ℕ) → HasPart before k row after → k ≤ length row → length after.0.words ≡ length before.0.words + k
 part_length before after k row part short = omega (arith, ap (λ (m : Me (Unit {0}) View). length m.0.words) part, length-append before.0.words (take k row), length-take-le k row short)
+
+pub loaded_length : {capacity : ℕ} (k : ℕ) (row : List ℕ) (before mid : Me (Unit {0}) View) → AwaitsRow capacity before.0 → HasPart before k row mid → length row ≡ 12 → k < 12 → length mid.0.words ≡ k
+loaded_length k row before mid it part long less = omega (arith, ap length it.none, part_length before mid k row part (omega (arith, long, less)))
+
+-- a reader that loaded the first words of its next row awaits the one after them
+pub awaits : (capacity place k : ℕ) (row : List ℕ) (before mid : Me (Unit {0}) View) → AwaitsRow capacity before.0 → place ≡ row_place (length before.0.seen) → HasPart before k row mid → length row ≡ 12 → k < 12
+    → AwaitsWord capacity (place + k) mid.0
+awaits capacity place k row before mid it next part long less =
+    let seen = ap (λ (m : Me (Unit {0}) View). length m.0.seen) part in
+    let words = loaded_length k row before mid it part long less in
+    record {
+      reads = ap (λ (m : Me (Unit {0}) View). m.0.writes) part ∙ it.reads;
+      next = omega (arith, next, seen, words);
+      inside = omega (arith, next, it.counted, it.inside, less);
+      more = omega (arith, words, less);
+      counted = omega (arith, it.counted, seen, ap (λ (m : Me (Unit {0}) View). m.0.upto) part);
+    }
 
 -- one word more was loaded
 pub part_loads : (before mid after : Me (Unit {0}) View) (k n : ℕ) (row : List ℕ) → HasPart before k row mid → k < length row → after ≡ (record mid.0 { words = mid.0.words ++ n ∷ [] }, mid.1)

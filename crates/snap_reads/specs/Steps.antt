@@ -1,11 +1,14 @@
 -- steps of the readers' table: what a load, a store and a raising of the count do to the view of a
 -- seat, and what they tell.
-use Rattle.std.specs.Prelude.{ℕ, ◌≡◌, ◌≤◌, List, [], ◌∷◌, ◌++◌, length, take, Some, ⊤}
+use Rattle.std.specs.Prelude.{ℕ, ◌≡◌, ◌+◌, ◌<◌, ◌≤◌, false, List, [], ◌∷◌, ◌++◌, length, take, Some, ⊤}
 use Rattle.atomic_table.specs.Table.{Me, Step}
+use Rattle.atomic_table.specs.declared.shared.Seat.{Seat}
 use Rattle.kv_store.specs.Commands.{Request}
 use Rattle.mu_model.specs.Histories.{IsPrefixOf}
 use Rattle.mu_rows.specs.Rows.{IsCommand, spelled}
 use Rattle.snap_reads.specs.declared.rule.View.{View}
+use Rattle.snap_reads.specs.Published.{row_place, word_count}
+use Rattle.snap_reads.specs.Seats.{Shelf}
 
 -- each of these lists that is no longer than what was seen begins it
 abbrev pub ShortBegin : List (List Request) → List Request → Type 0
@@ -18,6 +21,31 @@ abbrev pub AllWithin : List (List Request) → ℕ → Type 0
 AllWithin [] count = ⊤
 AllWithin (list ∷ lists) count = (length list ≤ count) × AllWithin lists count
 
+-- the seat is one of this table
+abbrev pub IsOf : Shelf → Seat (Unit {0}) View → Type 0
+IsOf shelf seat = seat.table_id ≡ shelf.table
+
+-- a seat of the same table was cut off, with this view, and the one before it stays as it was
+pub record Cuts (view : View) (before after cut : Seat (Unit {0}) View) : Type 0 where
+  pub same : (after.table_id ≡ before.table_id) × (after.me ≡ before.me)
+  pub cut_is : (cut.table_id ≡ before.table_id) × (cut.me ≡ (view, []))
+
+-- a reader of a table for this many commands has words of no row, and counted the next one
+pub record AwaitsRow (capacity : ℕ) (v : View) : Type 0 where
+  pub reads : v.writes ≡ false
+  pub none : v.words ≡ []
+  pub counted : length v.seen < v.upto
+  pub inside : v.upto ≤ capacity
+  pub few : capacity ≤ 1500
+
+-- it counted the next row, and the next word of that stands at this place
+pub record AwaitsWord (capacity place : ℕ) (v : View) : Type 0 where
+  pub reads : v.writes ≡ false
+  pub next : place ≡ row_place (length v.seen) + length v.words
+  pub inside : place < word_count capacity
+  pub more : length v.words < 12
+  pub counted : length v.seen < v.upto
+
 -- a load of the count, which found n
 pub record Counted (before : Me (Unit {0}) View) (n : ℕ) (after : Me (Unit {0}) View) : Type 0 where
   pub after_is : after ≡ (record before.0 { upto = n }, before.1)
@@ -26,7 +54,7 @@ pub record Counted (before : Me (Unit {0}) View) (n : ℕ) (after : Me (Unit {0}
   pub within : (k : ℕ) → before.0.capacity ≡ Some k → n ≤ k
   pub told : ShortBegin before.0.told before.0.seen
 
--- a load of a word of the next row
+-- a load of a word of the next row that isn't its last
 pub record Loaded (before : Me (Unit {0}) View) (n : ℕ) (after : Me (Unit {0}) View) : Type 0 where
   pub after_is : after ≡ (record before.0 { words = before.0.words ++ n ∷ [] }, before.1)
 
@@ -38,6 +66,12 @@ pub record Ended (before : Me (Unit {0}) View) (n : ℕ) (after : Me (Unit {0}) 
   pub after_is :
       after ≡ (record before.0 { seen = before.0.seen ++ command ∷ []; words = [] }, before.1)
   pub told : ShortBegin before.0.told (before.0.seen ++ command ∷ [])
+
+-- a load of a word of the next row, the last or another
+pub record TakesWord (before : Me (Unit {0}) View) (n : ℕ)
+    (after : Me (Unit {0}) View) : Type 0 where
+  pub other : length before.0.words < 11 → Loaded before n after
+  pub last : length before.0.words ≡ 11 → Ended before n after
 
 -- the first k words of a row were loaded, or stored
 abbrev pub HasPart : Me (Unit {0}) View → ℕ → List ℕ → Me (Unit {0}) View → Type 0
@@ -68,10 +102,7 @@ abbrev pub counting : Step (Unit {0}) → Me (Unit {0}) View → ℕ → Me (Uni
 counting st before n after = Counted before n after
 
 abbrev pub loading : Step (Unit {0}) → Me (Unit {0}) View → ℕ → Me (Unit {0}) View → Type 0
-loading st before n after = Loaded before n after
-
-abbrev pub ending : Step (Unit {0}) → Me (Unit {0}) View → ℕ → Me (Unit {0}) View → Type 0
-ending st before n after = Ended before n after
+loading st before n after = TakesWord before n after
 
 abbrev pub storing : Step (Unit {0}) → Me (Unit {0}) View → ℕ → Me (Unit {0}) View → Type 0
 storing st before n after = Stored before st.first after

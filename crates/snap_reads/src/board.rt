@@ -1,11 +1,9 @@
 //! The table, and its steps.
 ghost use Rattle.std.specs.Prelude.{[], IfOk, false, length, true, ◌+◌, ◌<◌, ◌≡◌, ◌≤◌};
 ghost use Rattle.snap_reads.specs.Published.{AreCommands, fresh_view, informed_view, note_view, row_place, rows_of, word_count, writer_view};
-ghost use Rattle.snap_reads.specs.Steps.{Counted, Ended, Loaded, Raised, Stored};
+ghost use Rattle.snap_reads.specs.Steps.{AwaitsWord, Counted, Cuts, IsOf, Raised, Stored, TakesWord};
 
-use crate::rule::{
-    Begin, Count, Held, Load, LoadLast, Pending, Raise, Store, Tell, View, ViewSeat,
-};
+use crate::rule::{Begin, Count, Held, Load, Pending, Raise, Store, Tell, View, ViewSeat};
 use atomic_table::Table;
 use kv_store::Command;
 use mu_model::NoMemory;
@@ -55,7 +53,7 @@ impl Board {
 
     /// Loads the count.
     pub(crate) fn count(&self, seat: &mut ViewSeat) -> u64
-        requires of { seat.old.table_id ≡ self.now.table }
+        requires of { IsOf self.now seat.old }
         requires reads { seat.old.me.0.writes ≡ false }
         requires none { seat.old.me.0.words ≡ [] }
         ensures same { seat.new.table_id ≡ seat.old.table_id }
@@ -64,37 +62,19 @@ impl Board {
         self.table.shared.load::<Count>(seat, 0)
     }
 
-    /// Loads a word of the next row that isn't its last.
+    /// Loads a word of the next row.
     pub(crate) fn load(&self, seat: &mut ViewSeat, place: usize) -> u64
-        requires of { seat.old.table_id ≡ self.now.table }
-        requires reads { seat.old.me.0.writes ≡ false }
-        requires next { place ≡ row_place (length seat.old.me.0.seen) + length seat.old.me.0.words }
-        requires inside { place < word_count self.now.capacity }
-        requires more { length seat.old.me.0.words < 11 }
-        requires counted { length seat.old.me.0.seen < seat.old.me.0.upto }
+        requires of { IsOf self.now seat.old }
+        requires at { AwaitsWord self.now.capacity place seat.old.me.0 }
         ensures same { seat.new.table_id ≡ seat.old.table_id }
-        ensures loaded { Loaded seat.old.me result seat.new.me }
+        ensures loaded { TakesWord seat.old.me result seat.new.me }
     {
         self.table.shared.load::<Load>(seat, place)
     }
 
-    /// Loads the last word of the next row.
-    pub(crate) fn load_last(&self, seat: &mut ViewSeat, place: usize) -> u64
-        requires of { seat.old.table_id ≡ self.now.table }
-        requires reads { seat.old.me.0.writes ≡ false }
-        requires next { place ≡ row_place (length seat.old.me.0.seen) + length seat.old.me.0.words }
-        requires inside { place < word_count self.now.capacity }
-        requires last { length seat.old.me.0.words ≡ 11 }
-        requires counted { length seat.old.me.0.seen < seat.old.me.0.upto }
-        ensures same { seat.new.table_id ≡ seat.old.table_id }
-        ensures ended { Ended seat.old.me result seat.new.me }
-    {
-        self.table.shared.load::<LoadLast>(seat, place)
-    }
-
     /// Stores a word past the count.
     pub(crate) fn store(&self, seat: &mut ViewSeat, place: usize, word: u64)
-        requires of { seat.old.table_id ≡ self.now.table }
+        requires of { IsOf self.now seat.old }
         requires writes { seat.old.me.0.writes ≡ true }
         requires next { place ≡ row_place (length seat.old.me.0.seen) + length seat.old.me.0.words }
         requires inside { place < word_count self.now.capacity }
@@ -107,7 +87,7 @@ impl Board {
     /// Raises the count, which publishes these commands.
     pub(crate) fn raise<N: Pending>(&self, seat: &mut ViewSeat, count: u64, pending: &[Command])
         requires named { pending.now ≡ N.commands }
-        requires of { seat.old.table_id ≡ self.now.table }
+        requires of { IsOf self.now seat.old }
         requires writes { seat.old.me.0.writes ≡ true }
         requires rows { seat.old.me.0.words ≡ rows_of pending.now }
         requires commands { AreCommands pending.now }
@@ -121,28 +101,24 @@ impl Board {
 
     /// Cuts off the seat of a new reader.
     pub(crate) fn begin(&self, seat: &mut ViewSeat) -> ViewSeat
-        requires { seat.old.table_id ≡ self.now.table }
-        ensures same { (seat.new.table_id ≡ seat.old.table_id) × (seat.new.me ≡ seat.old.me) }
-        ensures reader { (result.table_id ≡ seat.old.table_id)
-            × (result.me ≡ (fresh_view seat.old.me.0, [])) }
+        requires { IsOf self.now seat.old }
+        ensures { Cuts (fresh_view seat.old.me.0) seat.old seat.new result }
     {
         self.table.shared.split_seat::<Begin>(seat)
     }
 
     /// Cuts off a note of what the seat has seen.
     pub(crate) fn tell(&self, seat: &mut ViewSeat) -> ViewSeat
-        requires { seat.old.table_id ≡ self.now.table }
-        ensures same { (seat.new.table_id ≡ seat.old.table_id) × (seat.new.me ≡ seat.old.me) }
-        ensures note { (result.table_id ≡ seat.old.table_id)
-            × (result.me ≡ (note_view seat.old.me.0, [])) }
+        requires { IsOf self.now seat.old }
+        ensures { Cuts (note_view seat.old.me.0) seat.old seat.new result }
     {
         self.table.shared.split_seat::<Tell>(seat)
     }
 
     /// Takes in what another seat was told of.
     pub(crate) fn learn(&self, seat: &mut ViewSeat, note: ViewSeat)
-        requires of { seat.old.table_id ≡ self.now.table }
-        requires note { note.table_id ≡ self.now.table }
+        requires of { IsOf self.now seat.old }
+        requires note { IsOf self.now note }
         requires slots { note.me.1 ≡ [] }
         ensures same { seat.new.table_id ≡ seat.old.table_id }
         ensures told { seat.new.me ≡ (informed_view seat.old.me.0 note.me.0, seat.old.me.1) }

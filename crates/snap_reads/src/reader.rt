@@ -1,10 +1,10 @@
 //! A reader.
-ghost use Rattle.std.specs.Prelude.{[], false, length, ◌++◌, ◌<◌, ◌∷◌, ◌≡◌, ◌≤◌};
+ghost use Rattle.std.specs.Prelude.{[], length, ◌++◌, ◌<◌, ◌∷◌, ◌≡◌, ◌≤◌};
 ghost use Rattle.std.specs.FinMap as map;
 ghost use Rattle.kv_store.specs.Tables.{store};
 ghost use Rattle.mu_model.specs.Histories.{IsPrefixOf};
 ghost use Rattle.snap_reads.specs.Published.{AllBegin, row_place};
-ghost use Rattle.snap_reads.specs.Steps.{HasRow, ShortBegin};
+ghost use Rattle.snap_reads.specs.Steps.{AwaitsRow, HasRow, IsOf, ShortBegin};
 
 use crate::board::{Board, ROW_WORDS, row_place};
 use crate::rule::ViewSeat;
@@ -78,13 +78,9 @@ impl SnapReader {
 
 /// Loads the next row: the command that it spells.
 fn read_command(board: &Board, seat: &mut ViewSeat, seen: usize) -> Command
-    requires of { seat.old.table_id ≡ board.now.table }
-    requires reads { seat.old.me.0.writes ≡ false }
-    requires none { seat.old.me.0.words ≡ [] }
+    requires of { IsOf board.now seat.old }
+    requires row { AwaitsRow board.now.capacity seat.old.me.0 }
     requires next { seen ≡ length seat.old.me.0.seen }
-    requires counted { seen < seat.old.me.0.upto }
-    requires inside { seat.old.me.0.upto ≤ board.now.capacity }
-    requires few { board.now.capacity ≤ 1500 }
     ensures same { seat.new.table_id ≡ seat.old.table_id }
     ensures read { seat.new.me
         ≡ (
@@ -103,13 +99,9 @@ fn read_command(board: &Board, seat: &mut ViewSeat, seen: usize) -> Command
 
 /// Loads the words of the next row.
 fn read_row(board: &Board, seat: &mut ViewSeat, place: usize) -> Row
-    requires of { seat.old.table_id ≡ board.now.table }
-    requires reads { seat.old.me.0.writes ≡ false }
-    requires none { seat.old.me.0.words ≡ [] }
+    requires of { IsOf board.now seat.old }
+    requires row { AwaitsRow board.now.capacity seat.old.me.0 }
     requires next { place ≡ row_place (length seat.old.me.0.seen) }
-    requires counted { length seat.old.me.0.seen < seat.old.me.0.upto }
-    requires inside { seat.old.me.0.upto ≤ board.now.capacity }
-    requires few { board.now.capacity ≤ 1500 }
     ensures same { seat.new.table_id ≡ seat.old.table_id }
     ensures row { HasRow seat.old.me result.words seat.new.me }
 {
@@ -117,6 +109,6 @@ fn read_row(board: &Board, seat: &mut ViewSeat, place: usize) -> Row
     for k in 0..LAST_WORD {
         words[k] = board.load(seat, place + k);
     }
-    words[LAST_WORD] = board.load_last(seat, place + LAST_WORD);
+    words[LAST_WORD] = board.load(seat, place + LAST_WORD);
     Row { words }
 }

@@ -45,22 +45,13 @@ impl Play<(), View> for Count {
     ghost then = { counting };
 }
 
-/// A load of a word of the next row that isn't its last.
+/// A load of a word of the next row.
 pub(crate) struct Load;
 
 impl Play<(), View> for Load {
     ghost use Rattle.snap_reads.specs.Steps.{loading};
 
     ghost then = { loading };
-}
-
-/// A load of the last word of the next row.
-pub(crate) struct LoadLast;
-
-impl Play<(), View> for LoadLast {
-    ghost use Rattle.snap_reads.specs.Steps.{ending};
-
-    ghost then = { ending };
 }
 
 /// A store of a word past the count.

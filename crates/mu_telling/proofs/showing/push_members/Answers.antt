@@ -9,8 +9,8 @@ loop-region-preserved c = λ mine s held.
     let r = c.args.replica in
     let p = c.loop-region.region in
     let low : p < 7 = omega (arith, c.loop-region-test.true, c.requires) in
-    given_next c.args.facts.now.items c.loop-region.facts.items _ p (λ p. member_fact r p (is_member r p mine)) c.member_fact.result
-    (c.loop-region.invariant mine s held) (c.in_ok-push_given.ensures) (c.member_fact.ensures ∙ ap (member_fact r p) (c.is_member.ensures s r mine low held))
+    given_next c.args.facts.now.items c.loop-region.facts.items _ p (λ p. member_fact r p (is_member r p mine)) c.given_if.result
+    (c.loop-region.invariant mine s held) (c.in_ok-push_given.ensures) (c.given_if.ensures ∙ ap (member_fact r p) (c.is_member.ensures s r mine low held))
 
 pub returns : goal.returns
 returns c = λ mine s held.

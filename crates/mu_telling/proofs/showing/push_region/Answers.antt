@@ -8,7 +8,7 @@ use Rattle.mu_telling.proofs.FactLists.{on_ok, two_and_two}
 use Rattle.mu_telling.proofs.showing.push_region.Goals as goal
 
 pub returns : goal.returns
-returns c = λ past s is long low held.
+returns c = λ past s low held is long.
     let p = c.args.region in
     let old = c.args.facts.now.items in
     let one = c.push_given.new.list.items in
@@ -16,7 +16,7 @@ returns c = λ past s is long low held.
     let three = c.push_asks.new.facts.items in
     let first = c.in_ok-push_given.ensures ∙ ap (grown old) (c.fence_of.ensures past s low held) in
     let second = c.in_ok-push_given-2.ensures ∙ ap (λ f. one ++ f ∷ []) (c.numbers_of.ensures past s low held) in
-    let third = c.in_ok-push_asks.ensures past s is low held ∙ ap (λ n. two ++ given_below n (λ w. asks_fact p w (asks w p past))) is in
+    let third = c.in_ok-push_asks.ensures past s low held is ∙ ap (λ n. two ++ given_below n (λ w. asks_fact p w (asks w p past))) is in
     on_ok _ _ c.push_entries.result
     (λ last. two_and_two old one two three _ _ _ _ _ first second third
     (last ∙ ap (λ n. three ++ given_below n (λ i. entry_fact p i (answer_of s p past (Verb.Look p i)))) long))

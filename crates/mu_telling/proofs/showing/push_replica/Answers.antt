@@ -8,7 +8,7 @@ use Rattle.mu_telling.proofs.FactLists.{on_ok, two_and_two}
 use Rattle.mu_telling.proofs.showing.push_replica.Goals as goal
 
 pub returns : goal.returns
-returns c = λ mine s is long held.
+returns c = λ mine s held is long.
     let r = c.args.replica in
     let old = c.args.facts.now.items in
     let one = c.push_given.new.list.items in
@@ -20,7 +20,7 @@ returns c = λ mine s is long held.
     let first = c.in_ok-push_given.ensures ∙ ap (λ f. old ++ f ∷ []) (c.reached_by.ensures mine s held) in
     let second = c.in_ok-push_given-2.ensures ∙ ap (λ f. one ++ f ∷ []) (c.leadership_of.ensures mine s held) in
     let third = c.in_ok-push_members.ensures mine s held ∙ ap (λ n. two ++ given_below n (λ p. member_fact r p (is_member r p mine))) is in
-    let fourth = c.in_ok-push_failed.ensures mine s is held ∙ ap (λ n. three ++ given_below n (λ q. failed_fact r q (is_failed r q mine))) is in
+    let fourth = c.in_ok-push_failed.ensures mine s held is ∙ ap (λ n. three ++ given_below n (λ q. failed_fact r q (is_failed r q mine))) is in
     on_ok _ _ c.push_known.result
     (λ last. two_and_two old one two three _ _ _ _ _ first second third
     (last
