@@ -12,7 +12,7 @@ use Rattle.mu_model.specs.Answers.{answer_of, drained, put_answer}
 use Rattle.mu_model.specs.Bounds.{is_at_most, is_learning, members, stays}
 use Rattle.mu_model.specs.Contents.{IsConfig, row_count}
 use Rattle.mu_model.specs.Diligence.{is_fuo_above, is_joining_step}
-use Rattle.mu_model.specs.Histories.{greatest, max_with, newer_or}
+use Rattle.mu_model.specs.Histories.{greatest, max_with, newer_or, event_by}
 use Rattle.mu_model.specs.Knowledge.{commits, known}
 use Rattle.mu_model.specs.Leaderships.{begins_leadership, grant_at_joining, is_member, is_over, lands_min, leadership, noted_grant, proposal_number}
 use Rattle.mu_model.specs.Legal.{IsLegalHistory}
@@ -21,7 +21,6 @@ use Rattle.mu_model.specs.Placing.{fuo_read_or_raised}
 use Rattle.mu_model.specs.Room.{reserve}
 use Rattle.mu_model.specs.Steps.{commits_more, has_min, is_fencing, is_min_put, is_min_put_verb, is_named, is_over_after, leads}
 use Rattle.mu_model.specs.Stretches.{is_replication, replications}
-use Rattle.mu_model.proofs.Basics.{event_by}
 use Rattle.mu_agree.proofs.Landings.{greatest_since}
 use Rattle.mu_agree.proofs.Legal.{legal_older}
 use Rattle.mu_agree.proofs.Possible.{parts_shorten_law}

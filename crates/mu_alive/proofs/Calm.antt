@@ -13,12 +13,12 @@ use Rattle.mu_model.specs.declared.event.Verb.{Verb}
 use Rattle.mu_model.specs.Bounds.{copied, first_fuo, is_at_most, is_copy_of, is_copying, is_copying_verb, is_learning, members, stays, was_copied}
 use Rattle.mu_model.specs.Diligence.{is_milestone, is_progress}
 use Rattle.mu_model.specs.Ends.{outrun}
-use Rattle.mu_model.specs.Histories.{count_below, has}
+use Rattle.mu_model.specs.Histories.{count_below, has, event_by}
 use Rattle.mu_model.specs.Knowledge.{commits, is_value, known}
 use Rattle.mu_model.specs.Leaderships.{begins_leadership, is_member, leadership}
 use Rattle.mu_model.specs.Steps.{commits_more, is_lagging, is_min, is_named, is_over_after, knows_all, knows_more}
 use Rattle.mu_model.specs.Stretches.{is_replication, replications, steps}
-use Rattle.mu_model.proofs.Basics.{event_by, same_number}
+use Rattle.mu_model.proofs.Basics.{same_number}
 use Rattle.mu_agree.proofs.Counting.{count_more}
 use Rattle.mu_agree.proofs.Tame.{known_longer}
 use Rattle.mu_pace.specs.Counters.{AtEachMoment, IsInTime, fewer, left_after, paid, steps_left}

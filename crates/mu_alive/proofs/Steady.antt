@@ -9,14 +9,13 @@ use Rattle.mu_model.specs.declared.event.Answer.{Answer}
 use Rattle.mu_model.specs.declared.event.Event.{Event}
 use Rattle.mu_model.specs.declared.event.Verb.{Verb}
 use Rattle.mu_model.specs.Bounds.{is_learning, stays}
-use Rattle.mu_model.specs.Histories.{earlier_or, greatest, max_with, newer_or, oldest}
+use Rattle.mu_model.specs.Histories.{earlier_or, greatest, max_with, newer_or, oldest, event_by}
 use Rattle.mu_model.specs.Knowledge.{commits, grown, is_accepted_by_all, known}
 use Rattle.mu_model.specs.Leaderships.{begins_leadership, grant_at_joining, is_member, is_over, lands_min, leadership, noted_grant, number_put, proposal_number}
 use Rattle.mu_model.specs.Parts.{IsPossible}
 use Rattle.mu_model.specs.Picks.{is_joining}
 use Rattle.mu_model.specs.Placing.{fuo_read_or_raised}
 use Rattle.mu_model.specs.Steps.{commits_more, has_min, is_named, is_over_after}
-use Rattle.mu_model.proofs.Basics.{event_by}
 use Rattle.mu_agree.proofs.Possible.{parts_shorten_law}
 use Rattle.mu_pace.specs.Counters.{AtEachMoment, AtEachStep}
 use Rattle.mu_pace.specs.Watches.{is_brought_up, is_raise_to_verb}

@@ -2,8 +2,8 @@
 use Rattle.std.proofs.Common.{◌≡◌, ◌∙◌, ℕ, true, List, [], ◌∷◌, ◌++◌, Some, inl, inr, refl, subst, sym}
 use Rattle.mu_model.specs.declared.config.Config.{Config}
 use Rattle.mu_model.specs.declared.event.Event.{Event}
-use Rattle.mu_model.specs.Histories.{history, part}
-use Rattle.mu_model.proofs.Basics.{event_by, same_some}
+use Rattle.mu_model.specs.Histories.{history, part, event_by}
+use Rattle.mu_model.proofs.Basics.{same_some}
 use Rattle.mu_port.specs.Keeping.{Held}
 use Rattle.mu_node.specs.declared.node.Node.{Node}
 use Rattle.mu_node.specs.declared.turn.Turn.{Turn}

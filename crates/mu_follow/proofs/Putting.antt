@@ -11,10 +11,10 @@ use Rattle.mu_model.specs.declared.config.Config.{Config}
 use Rattle.mu_model.specs.declared.event.Answer.{Answer}
 use Rattle.mu_model.specs.declared.event.Event.{Event}
 use Rattle.mu_model.specs.declared.event.Verb.{Verb}
-use Rattle.mu_model.specs.Histories.{all_below, has}
+use Rattle.mu_model.specs.Histories.{all_below, has, event_by}
 use Rattle.mu_model.specs.Knowledge.{applied, committed, fetched_prefix, grown, is_accepted_by_all, is_number, is_value, known, learnt_by, lands_entry}
 use Rattle.mu_model.specs.Leaderships.{has_quorum, is_member, is_over, leadership, proposal_number}
-use Rattle.mu_model.proofs.Basics.{event_by, none_some, or_true, same_some}
+use Rattle.mu_model.proofs.Basics.{none_some, or_true, same_some}
 use Rattle.mu_model.proofs.Scans.{all_at}
 use Rattle.mu_knowledge.specs.FilledLog.{filled_spot}
 use Rattle.mu_knowledge.specs.HeldRows.{StandsForHeldRows}

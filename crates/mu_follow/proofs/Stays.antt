@@ -7,7 +7,7 @@ use Rattle.mu_model.specs.declared.event.Verb.{Verb}
 use Rattle.mu_model.specs.declared.event.Event.{Event}
 use Rattle.mu_model.specs.Ends.{outrun}
 use Rattle.mu_model.specs.Knowledge.{applied, commits, fuo_read, is_filled}
-use Rattle.mu_model.proofs.Basics.{event_by}
+use Rattle.mu_model.specs.Histories.{event_by}
 use Rattle.mu_knowledge.specs.FilledLog.{StandsForFilledLog, filled_spot, is_at, is_below}
 use Rattle.mu_knowledge.specs.declared.filled_log.FilledLog.{FilledLog}
 use Rattle.mu_knowledge.proofs.Filled.{fills_by}

@@ -13,13 +13,13 @@ use Rattle.mu_model.specs.Answers.{shown}
 use Rattle.mu_model.specs.Contents.{is_batch, rest_of}
 use Rattle.mu_model.specs.Diligence.{completes_row, completes_row_verb, is_row_of}
 use Rattle.mu_model.specs.Ends.{outrun}
-use Rattle.mu_model.specs.Histories.{all_below, earlier_or, max_with}
+use Rattle.mu_model.specs.Histories.{all_below, earlier_or, max_with, event_by}
 use Rattle.mu_model.specs.Knowledge.{applied, fuo_read, front, greatest_fuo_read, grown, has_entry, has_row, has_word, is_known_decided, known, learnt_by}
 use Rattle.mu_model.specs.Parts.{IsPossible}
 use Rattle.mu_model.specs.Regions.{region_log}
 use Rattle.mu_model.specs.Scores.{least_below}
 use Rattle.mu_model.specs.Steps.{knows_more}
-use Rattle.mu_model.proofs.Basics.{event_by, or_true, same_number, same_some, true_or}
+use Rattle.mu_model.proofs.Basics.{or_true, same_number, same_some, true_or}
 use Rattle.mu_model.proofs.Scans.{all_at, each_all}
 use Rattle.mu_agree.proofs.Possible.{answered, at_event, parts_find_law}
 use Rattle.mu_knowledge.proofs.Fetched.{read_word}

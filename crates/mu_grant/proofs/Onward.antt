@@ -7,7 +7,7 @@ use Rattle.mu_model.specs.declared.event.Answer.{Answer}
 use Rattle.mu_model.specs.declared.event.Event.{Event}
 use Rattle.mu_model.specs.declared.event.Verb.{Verb}
 use Rattle.mu_model.specs.Allowed.{Needs}
-use Rattle.mu_model.specs.Histories.{all_below}
+use Rattle.mu_model.specs.Histories.{all_below, event_by}
 use Rattle.mu_model.specs.Regions.{fence_closing}
 use Rattle.mu_model.specs.Serving.{drained_since_close, has_unserved_ask, looked_since_close, must_drain}
 use Rattle.mu_model.specs.Stretches.{is_odd}
@@ -15,7 +15,7 @@ use Rattle.mu_grant.specs.Pace.{DueFollows, FollowsCycle, IsAtPlace, IsElsewhere
 use Rattle.mu_grant.specs.Stands.{Gives, is_of_place}
 use Rattle.mu_grant.proofs.Places.{gives, not_none, of_drain, of_grant, of_look}
 use Rattle.mu_grant.proofs.Turns.{least, not_all}
-use Rattle.mu_model.proofs.Basics.{same_some, event_by}
+use Rattle.mu_model.proofs.Basics.{same_some}
 
 -- a place of the host has no read of asks
 no_ask : (d w : ℕ) (verb : Verb) → is_of_place d verb ≡ true → verb ≡ Verb.ReadAsk w → ⊥

@@ -5,8 +5,8 @@ use Rattle.std.proofs.lemmas.Bool.{ne_eqb, true≢false}
 use Rattle.mu_model.specs.declared.event.Answer.{Answer}
 use Rattle.mu_model.specs.declared.event.Event.{Event}
 use Rattle.mu_model.specs.declared.event.Verb.{Verb}
+use Rattle.mu_model.specs.Histories.{event_by}
 use Rattle.mu_grant.specs.Stands.{HoldsGuest, HoldsGuests, OthersKeep, StandsFor, guest_named, is_host_step, is_noted, is_read_of_asks}
-use Rattle.mu_model.proofs.Basics.{event_by}
 use Rattle.mu_grant.specs.declared.grants.Grants.{Grants}
 use Rattle.mu_grant.specs.declared.grants.Guest.{Guest}
 

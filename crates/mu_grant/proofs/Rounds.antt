@@ -7,7 +7,7 @@ use Rattle.mu_model.specs.declared.event.Answer.{Answer}
 use Rattle.mu_model.specs.declared.event.Event.{Event}
 use Rattle.mu_model.specs.declared.event.Verb.{Verb}
 use Rattle.mu_model.specs.Allowed.{Allowed, Needs}
-use Rattle.mu_model.specs.Histories.{has}
+use Rattle.mu_model.specs.Histories.{has, event_by}
 use Rattle.mu_model.specs.Regions.{fence_closing}
 use Rattle.mu_model.specs.Serving.{drained_since_close, has_unserved_ask, looked_since_close, must_drain}
 use Rattle.mu_model.specs.Steps.{is_ask_read, is_ask_read_verb, is_granting, is_granting_verb}
@@ -15,7 +15,6 @@ use Rattle.mu_grant.specs.Pace.{FollowsCycle, GrantsInTheRound, GrantsWithinTheC
 use Rattle.mu_grant.specs.Stands.{is_of_place}
 use Rattle.mu_grant.proofs.Positions.{IsNext, at_place, next, next_is, place_at, position}
 use Rattle.mu_grant.proofs.Turns.{closes, closing_on, granted_before, granted_now, least, not_all, of_grants, of_host, reads_ask, waits_on}
-use Rattle.mu_model.proofs.Basics.{event_by}
 
 -- what holds of the host before each turn: a pending `Close` has somebody waiting, is looked at and drained by its place, and is granted on by the place of grants
 record IsReady (c : Config) (r : ℕ) (past : List Event) : Type 0 where

@@ -3,14 +3,13 @@ use Rattle.std.proofs.Common.{Bool, List, false, not, true, suc, zero, ℕ, ◌&
 use Rattle.mu_model.specs.declared.event.Answer.{Answer}
 use Rattle.mu_model.specs.declared.event.Event.{Event}
 use Rattle.mu_model.specs.declared.event.Verb.{Verb}
-use Rattle.mu_model.specs.Histories.{all_below, has}
+use Rattle.mu_model.specs.Histories.{all_below, has, event_by}
 use Rattle.mu_model.specs.Regions.{fence_closing}
 use Rattle.mu_model.specs.Serving.{has_unserved_ask}
 use Rattle.mu_model.specs.Steps.{is_ask_read_verb, is_granting, is_granting_verb}
 use Rattle.mu_grant.specs.Pace.{is_host_verb}
 use Rattle.mu_grant.specs.Stands.{is_of_place}
 use Rattle.mu_grant.proofs.Waiting.{one_passes, opposite}
-use Rattle.mu_model.proofs.Basics.{event_by}
 
 -- who waits still does after an event that neither grants nor reads its asks
 pub waits_on : (r w by : ℕ) (verb : Verb) (answer : Answer) (past : List Event) → (by == r) ≡ true → is_granting_verb verb ≡ false → is_ask_read_verb w verb ≡ false → has_unserved_ask r (event_by by verb answer ∷ past) w ≡ has_unserved_ask r past w

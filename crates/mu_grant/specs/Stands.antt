@@ -73,10 +73,6 @@ GuestsTake owner closing r e before after =
     (mine : List Event) → owner ≡ fence_owner r mine → closing ≡ fence_closing r mine
     → HoldsGuests r mine before → HoldsGuests r (e ∷ mine) after
 
--- what is held of the events adds one more
-abbrev pub Adds : {A : Type 0} → (List Event → A) → Event → A → A → Type 0
-Adds of e held now = (mine : List Event) → held ≡ of mine → now ≡ of (e ∷ mine)
-
 -- the verb is that of this place of the round
 abbrev pub is_of_place : ℕ → Verb → Bool
 is_of_place place Verb.Close = place == 0

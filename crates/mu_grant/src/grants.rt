@@ -6,12 +6,12 @@ ghost use Rattle.mu_model.specs.declared.event.Event.{Event};
 ghost use Rattle.mu_model.specs.declared.event.Verb.{Verb};
 ghost use Rattle.mu_model.specs.declared.reason.Reason.{Reason};
 ghost use Rattle.mu_model.specs.Allowed.{Needs};
-ghost use Rattle.mu_model.specs.Histories.{all_below, or_zero};
+ghost use Rattle.mu_model.specs.Histories.{all_below, or_zero, Adds};
 ghost use Rattle.mu_model.specs.Leaderships.{owner_is};
 ghost use Rattle.mu_model.specs.Points.{IsMet};
 ghost use Rattle.mu_model.specs.Regions.{fence_closing, fence_owner};
 ghost use Rattle.mu_model.specs.Serving.{drained_since_close, has_unserved_ask, is_least_waiting, looked_since_close, must_drain, seen_asks, served, served_as_owner, served_by_grant};
-ghost use Rattle.mu_grant.specs.Stands.{close_named, Gives, HoldsGuest, IsDue, StandsFor, guest_named, Adds, GuestsTake, Takes, Tells, TellsIfMay};
+ghost use Rattle.mu_grant.specs.Stands.{close_named, Gives, HoldsGuest, IsDue, StandsFor, guest_named, GuestsTake, Takes, Tells, TellsIfMay};
 
 use crate::verbs::{guest_of, is_of_host, reads_asks};
 use mu_model::{Answer, Event, Target, Verb};

@@ -5,7 +5,7 @@ use Rattle.mu_model.specs.declared.config.Config.{Config}
 use Rattle.mu_model.specs.declared.event.Answer.{Answer}
 use Rattle.mu_model.specs.declared.event.Event.{Event}
 use Rattle.mu_model.specs.declared.event.Verb.{Verb}
-use Rattle.mu_model.proofs.Basics.{event_by}
+use Rattle.mu_model.specs.Histories.{event_by}
 use Rattle.mu_knowledge.specs.HeldRows.{HasWords, StandsForHeldRows, WroteWords, is_of_row}
 use Rattle.mu_knowledge.specs.KnownLog.{StandsForKnownLog, is_telling}
 use Rattle.mu_knowledge.specs.declared.held_rows.HeldRows.{HeldRows}

@@ -9,9 +9,9 @@ use Rattle.mu_model.specs.declared.event.Answer.{Answer}
 use Rattle.mu_model.specs.declared.event.Event.{Event}
 use Rattle.mu_model.specs.declared.event.Verb.{Verb}
 use Rattle.mu_model.specs.Contents.{IsConfig, is_batch, rest_of}
-use Rattle.mu_model.specs.Histories.{all_below, has}
+use Rattle.mu_model.specs.Histories.{all_below, has, event_by}
 use Rattle.mu_model.specs.Knowledge.{applied, fetched_prefix, front, has_entry, has_row, has_word, is_read, known, wrote}
-use Rattle.mu_model.proofs.Basics.{event_by, none_some, same_some}
+use Rattle.mu_model.proofs.Basics.{none_some, same_some}
 use Rattle.mu_model.proofs.Scans.{all_at}
 use Rattle.mu_agree.proofs.Sound.{all_implied}
 use Rattle.mu_knowledge.specs.HeldRows.{IsOfRows, row_named}

@@ -7,7 +7,8 @@ use Rattle.mu_model.specs.declared.event.Event.{Event}
 use Rattle.mu_model.specs.declared.event.Fence.{Fence}
 use Rattle.mu_model.specs.declared.event.Verb.{Verb}
 use Rattle.mu_model.specs.Leaderships.{begins_leadership, grant_at_joining, is_over, noted_grant}
-use Rattle.mu_model.proofs.Basics.{event_by, same_number}
+use Rattle.mu_model.proofs.Basics.{same_number}
+use Rattle.mu_model.specs.Histories.{event_by}
 use Rattle.mu_lead.specs.Confirming.{AtAsk, AtConfirm, AtReadMin, Confirmed, Fresh}
 use Rattle.mu_knowledge.specs.Offers.{IsFirst}
 use Rattle.mu_lead.proofs.Lates.{is_quiet}

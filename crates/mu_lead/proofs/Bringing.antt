@@ -9,12 +9,12 @@ use Rattle.mu_model.specs.declared.event.Answer.{Answer}
 use Rattle.mu_model.specs.declared.event.Event.{Event}
 use Rattle.mu_model.specs.declared.event.Target.{Target}
 use Rattle.mu_model.specs.declared.event.Verb.{Verb}
-use Rattle.mu_model.specs.Histories.{has}
+use Rattle.mu_model.specs.Histories.{has, event_by}
 use Rattle.mu_model.specs.Knowledge.{fills, greatest_fuo_read, grown, is_accepted_by_all, is_filled, is_known_decided, is_value, known}
 use Rattle.mu_model.specs.Leaderships.{is_member, leadership}
 use Rattle.mu_model.specs.Picks.{is_past}
 use Rattle.mu_model.specs.Placing.{is_caught_up_at, is_known_put, is_within_ring, looked_before_entering, has_looked_since}
-use Rattle.mu_model.proofs.Basics.{event_by, or_true, same_number, true_or}
+use Rattle.mu_model.proofs.Basics.{or_true, same_number, true_or}
 use Rattle.mu_lead.specs.declared.place.Then.{Then}
 use Rattle.mu_lead.specs.Leading.{AtEnterBehind, AtFenceBehind, AtPutBehind, AtRaiseBehind, AtReadFuo, AtWiden, Behind, Brought, HasMost, HasPutNone, HaveAtMost, HaveBelow, HaveFew, IsClear, IsDone, IsLeft, IsMember, IsRaised, IsRead, Leads, Level, Near, RaisedBelow, end_of, is_put_at}
 use Rattle.mu_knowledge.specs.Offers.{IsFirst}

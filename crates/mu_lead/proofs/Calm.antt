@@ -13,7 +13,8 @@ use Rattle.mu_model.specs.Leaderships.{begins_leadership}
 use Rattle.mu_model.specs.Parts.{IsPossible}
 use Rattle.mu_model.specs.Room.{head_read, is_mark_candidate, lacks_room, last_head, reserve}
 use Rattle.mu_model.specs.Scores.{is_failed}
-use Rattle.mu_model.proofs.Basics.{event_by, or_true}
+use Rattle.mu_model.proofs.Basics.{or_true}
+use Rattle.mu_model.specs.Histories.{event_by}
 use Rattle.mu_lead.specs.Leading.{end_of}
 use Rattle.mu_lead.specs.Offering.{MayBeMarked, Roomy, leaves_room}
 use Rattle.mu_lead.specs.Stepping.{is_calm}

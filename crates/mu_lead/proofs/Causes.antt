@@ -8,12 +8,12 @@ use Rattle.mu_model.specs.declared.event.Answer.{Answer}
 use Rattle.mu_model.specs.declared.event.Event.{Event}
 use Rattle.mu_model.specs.declared.event.Verb.{Verb}
 use Rattle.mu_model.specs.Diligence.{may_ask_anew, was_unnamed}
-use Rattle.mu_model.specs.Histories.{all_below, how_many}
+use Rattle.mu_model.specs.Histories.{all_below, how_many, event_by}
 use Rattle.mu_model.specs.Knowledge.{known}
 use Rattle.mu_model.specs.Leaderships.{begins_leadership, has_begun, is_over, leadership}
 use Rattle.mu_model.specs.Steps.{has_min, is_asking_verb, is_fencing, is_named}
 use Rattle.mu_model.specs.Stretches.{is_replication}
-use Rattle.mu_model.proofs.Basics.{event_by, same_number, same_some}
+use Rattle.mu_model.proofs.Basics.{same_number, same_some}
 use Rattle.mu_model.proofs.Scans.{each_all}
 use Rattle.mu_pace.specs.Keeping.{HasCause}
 use Rattle.mu_lead.specs.declared.lead.Lead.{Lead}

@@ -8,8 +8,7 @@ use Rattle.mu_lead.specs.Saying.{Commits, SaysCommit}
 use Rattle.mu_lead.specs.Standing.{known_told}
 use Rattle.mu_lead.specs.declared.note.Note.{Note}
 use Rattle.mu_lead.specs.declared.place.Offer.{Offer}
-use Rattle.mu_model.proofs.Basics.{event_by}
-use Rattle.mu_model.specs.Histories.{has}
+use Rattle.mu_model.specs.Histories.{has, event_by}
 use Rattle.mu_model.specs.Knowledge.{grown, known}
 use Rattle.mu_model.specs.Leaderships.{leadership}
 use Rattle.mu_model.specs.Picks.{look_answer}

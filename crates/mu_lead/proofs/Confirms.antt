@@ -7,11 +7,10 @@ use Rattle.mu_model.specs.declared.event.Answer.{Answer}
 use Rattle.mu_model.specs.declared.event.Event.{Event}
 use Rattle.mu_model.specs.declared.event.Verb.{Verb}
 use Rattle.mu_model.specs.Diligence.{is_confirmed}
-use Rattle.mu_model.specs.Histories.{count_below, has}
+use Rattle.mu_model.specs.Histories.{count_below, has, event_by}
 use Rattle.mu_model.specs.Leaderships.{has_begun, leadership, majority_of, noted_grant}
 use Rattle.mu_model.specs.Steps.{has_min, is_any_fencing_verb, is_min}
 use Rattle.mu_model.specs.Stretches.{is_replication}
-use Rattle.mu_model.proofs.Basics.{event_by}
 use Rattle.mu_pace.specs.Counters.{HasRoom, IsInTime, allowed_after}
 use Rattle.mu_pace.specs.Watches.{confirming, is_confirming}
 use Rattle.mu_pace.proofs.Beside.{unallowed}

@@ -12,13 +12,13 @@ use Rattle.mu_model.specs.declared.event.Verb.{Verb}
 use Rattle.mu_model.specs.Allowed.{Needs}
 use Rattle.mu_model.specs.Bounds.{first_fuo, is_at_most, is_copy_of_verb, was_copied}
 use Rattle.mu_model.specs.Entering.{grant_seen}
-use Rattle.mu_model.specs.Histories.{earlier_or, greatest, has, max_with, newer_or, newest, oldest}
+use Rattle.mu_model.specs.Histories.{earlier_or, greatest, has, max_with, newer_or, newest, oldest, event_by}
 use Rattle.mu_model.specs.Knowledge.{fuo_read, is_value, known}
 use Rattle.mu_model.specs.Leaderships.{begins_leadership, fence_seen, grant_for, is_member, leadership, noted_grant, owner_is}
 use Rattle.mu_model.specs.Parts.{IsPossible}
 use Rattle.mu_model.specs.Picks.{first_value, value_put}
 use Rattle.mu_model.specs.Placing.{fuo_read_or_raised}
-use Rattle.mu_model.proofs.Basics.{event_by, none_some, same_number, same_some}
+use Rattle.mu_model.proofs.Basics.{none_some, same_number, same_some}
 use Rattle.mu_agree.specs.Agreement.{end_put, fuo_under, kept_if, lesser_or, put_end}
 use Rattle.mu_agree.proofs.Landings.{greatest_since}
 use Rattle.mu_agree.proofs.Possible.{parts_shorten_law}

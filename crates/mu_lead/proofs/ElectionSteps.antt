@@ -15,7 +15,8 @@ use Rattle.mu_model.specs.Knowledge.{known}
 use Rattle.mu_model.specs.Leaderships.{is_member, is_over}
 use Rattle.mu_model.specs.Steps.{has_min, is_asking, is_fencing, is_named, knows_all, leads}
 use Rattle.mu_model.specs.Stretches.{is_replication}
-use Rattle.mu_model.proofs.Basics.{event_by, none_some, same_number}
+use Rattle.mu_model.proofs.Basics.{none_some, same_number}
+use Rattle.mu_model.specs.Histories.{event_by}
 use Rattle.mu_pace.proofs.Countdowns.{countdowns_run}
 use Rattle.mu_lead.specs.declared.place.Place.{Place}
 use Rattle.mu_lead.specs.Beside.{leads_at}

@@ -10,7 +10,8 @@ use Rattle.mu_model.specs.Knowledge.{known}
 use Rattle.mu_model.specs.Leaderships.{has_begun, is_member, is_over}
 use Rattle.mu_model.specs.Steps.{has_min, is_asking, is_fencing, is_named}
 use Rattle.mu_model.specs.Stretches.{is_replication}
-use Rattle.mu_model.proofs.Basics.{event_by, same_some}
+use Rattle.mu_model.proofs.Basics.{same_some}
+use Rattle.mu_model.specs.Histories.{event_by}
 use Rattle.mu_pace.specs.Keeping.{AsksLately}
 use Rattle.mu_pace.proofs.Countdowns.{countdowns_run}
 use Rattle.mu_lead.specs.declared.lead.Lead.{Lead}

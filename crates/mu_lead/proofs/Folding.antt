@@ -17,9 +17,9 @@ use Rattle.mu_lead.specs.declared.lead.Lead.{Lead}
 use Rattle.mu_lead.specs.declared.note.AbortCause.{AbortCause}
 use Rattle.mu_lead.specs.declared.note.Note.{Note}
 use Rattle.mu_lead.specs.declared.place.Place.{Place}
-use Rattle.mu_model.proofs.Basics.{event_by, same_number, same_some}
+use Rattle.mu_model.proofs.Basics.{same_number, same_some}
 use Rattle.mu_model.specs.Entering.{any_min_read, number_allowed}
-use Rattle.mu_model.specs.Histories.{greatest, or_zero}
+use Rattle.mu_model.specs.Histories.{greatest, or_zero, event_by}
 use Rattle.mu_model.specs.Knowledge.{known}
 use Rattle.mu_model.specs.Leaderships.{begins_leadership, is_above, is_member, is_over, leadership, number_put, proposal_number}
 use Rattle.mu_model.specs.Parts.{IsPossible}

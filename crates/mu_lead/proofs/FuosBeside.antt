@@ -9,8 +9,8 @@ use Rattle.mu_model.specs.declared.event.Verb.{Verb}
 use Rattle.mu_model.specs.Leaderships.{is_member, proposal_number}
 use Rattle.mu_model.specs.Parts.{IsPossible}
 use Rattle.mu_model.specs.Points.{AreMet, new_values}
-use Rattle.mu_model.proofs.Basics.{event_by}
 use Rattle.mu_model.proofs.Putting.{new_met}
+use Rattle.mu_model.specs.Histories.{event_by}
 use Rattle.mu_lead.specs.declared.place.Place.{Place}
 use Rattle.mu_lead.specs.declared.place.Then.{Then}
 use Rattle.mu_lead.specs.declared.place.Sight.{Sight}

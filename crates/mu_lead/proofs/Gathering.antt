@@ -7,7 +7,8 @@ use Rattle.mu_model.specs.declared.event.Fence.{Fence}
 use Rattle.mu_model.specs.declared.event.Target.{Target}
 use Rattle.mu_model.specs.declared.event.Verb.{Verb}
 use Rattle.mu_model.specs.Leaderships.{is_over, proposal_number}
-use Rattle.mu_model.proofs.Basics.{event_by, same_number}
+use Rattle.mu_model.proofs.Basics.{same_number}
+use Rattle.mu_model.specs.Histories.{event_by}
 
 -- an `Enter` takes, or is lost
 pub lost_over : (r p : ℕ) (t : Target) (a : Answer) (f : Fence) (mine : List Event) → a ≡ Answer.Lost f → is_over r (event_by r (Verb.Enter p t) a ∷ mine) ≡ true

@@ -11,7 +11,8 @@ use Rattle.mu_model.specs.Knowledge.{known}
 use Rattle.mu_model.specs.Leaderships.{begins_leadership, is_member, is_over, noted_grant, proposal_number}
 use Rattle.mu_model.specs.Steps.{is_fencing, is_fencing_verb, is_min_put, is_over_after}
 use Rattle.mu_model.specs.Stretches.{is_replication}
-use Rattle.mu_model.proofs.Basics.{event_by, same_number}
+use Rattle.mu_model.proofs.Basics.{same_number}
+use Rattle.mu_model.specs.Histories.{event_by}
 use Rattle.mu_pace.specs.Counters.{HasRoom, IsInTime, steps_left}
 use Rattle.mu_pace.specs.Watches.{is_answer_to_welcome, is_welcoming, joining, turns_away}
 use Rattle.mu_pace.proofs.Beside.{unallowed}

@@ -8,12 +8,12 @@ use Rattle.mu_model.specs.declared.event.Answer.{Answer}
 use Rattle.mu_model.specs.declared.event.Event.{Event}
 use Rattle.mu_model.specs.declared.event.Verb.{Verb}
 use Rattle.mu_model.specs.Contents.{row_count}
-use Rattle.mu_model.specs.Histories.{has}
+use Rattle.mu_model.specs.Histories.{has, event_by}
 use Rattle.mu_model.specs.Knowledge.{greatest_fuo_read, grown, is_filled, known, learnt_by}
 use Rattle.mu_model.specs.Leaderships.{is_member, leadership}
 use Rattle.mu_model.specs.Placing.{fuo_read_or_raised, is_known_put, is_within_ring, reaches_head}
 use Rattle.mu_model.specs.Room.{reserve}
-use Rattle.mu_model.proofs.Basics.{event_by, same_number, true_or}
+use Rattle.mu_model.proofs.Basics.{same_number, true_or}
 use Rattle.mu_leadership.specs.Leadership.{StandsForLeadership}
 use Rattle.mu_leadership.specs.declared.leadership.Leadership.{Leadership}
 use Rattle.mu_lead.specs.Stepping.{is_calm}

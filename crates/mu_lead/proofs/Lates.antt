@@ -13,9 +13,9 @@ use Rattle.mu_model.specs.declared.event.Fence.{Fence}
 use Rattle.mu_model.specs.declared.event.Target.{Target}
 use Rattle.mu_model.specs.declared.event.Verb.{Verb}
 use Rattle.mu_model.specs.Bounds.{is_at_most}
-use Rattle.mu_model.specs.Histories.{count_below, earlier_or, has}
+use Rattle.mu_model.specs.Histories.{count_below, earlier_or, has, event_by}
 use Rattle.mu_model.specs.Leaderships.{grant_at_joining, is_above, is_changed, is_member, is_over, leadership, majority_of, noted_grant, proposal_number}
-use Rattle.mu_model.proofs.Basics.{event_by, none_some, same_number, same_some}
+use Rattle.mu_model.proofs.Basics.{none_some, same_number, same_some}
 use Rattle.mu_agree.proofs.Counting.{count_more}
 use Rattle.mu_lead.specs.declared.place.Then.{Then}
 use Rattle.mu_lead.specs.Leading.{AtLateEnter, AtLateFuo, AtLateMin, AtLatePut, AtWiden, IsRaised, IsRead, Late, Leads, Level, SawPast, end_of, is_put_at}

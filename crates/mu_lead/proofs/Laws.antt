@@ -14,7 +14,8 @@ use Rattle.mu_model.specs.Leaderships.{is_member, is_over, noted_grant, proposal
 use Rattle.mu_model.specs.Parts.{IsPossible}
 use Rattle.mu_model.specs.Steps.{is_fencing, is_missed_at_verb, is_min_put}
 use Rattle.mu_model.specs.Stretches.{is_replication}
-use Rattle.mu_model.proofs.Basics.{event_by, same_number}
+use Rattle.mu_model.proofs.Basics.{same_number}
+use Rattle.mu_model.specs.Histories.{event_by}
 use Rattle.mu_pace.specs.Watches.{joining}
 use Rattle.mu_pace.proofs.Beside.{not_more}
 use Rattle.mu_pace.proofs.Countdowns.{countdowns_run}

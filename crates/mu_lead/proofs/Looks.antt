@@ -8,7 +8,7 @@ use Rattle.mu_model.specs.declared.event.Answer.{Answer}
 use Rattle.mu_model.specs.declared.event.Event.{Event}
 use Rattle.mu_model.specs.declared.event.Verb.{Verb}
 use Rattle.mu_model.specs.Contents.{IsConfig, begins_batch, client_of, command_count, holds_all, is_batch, is_mark, marked, number_of, row_count}
-use Rattle.mu_model.specs.Histories.{all_below, earlier_or, has, oldest}
+use Rattle.mu_model.specs.Histories.{all_below, earlier_or, has, oldest, event_by}
 use Rattle.mu_model.specs.Knowledge.{grown, is_put_done, known, learnt_by, lands_entry, wrote_batch}
 use Rattle.mu_model.specs.Leaderships.{begins_leadership, is_member, leadership}
 use Rattle.mu_model.specs.Parts.{IsPossible}
@@ -16,7 +16,7 @@ use Rattle.mu_model.specs.Picks.{entry_of, highest_accepted, is_mark_offer, is_o
 use Rattle.mu_model.specs.Points.{AreMet, new_values}
 use Rattle.mu_model.specs.Room.{is_mark_candidate, lacks_room, head_read, last_head, reserve}
 use Rattle.mu_model.specs.Scores.{is_failed}
-use Rattle.mu_model.proofs.Basics.{event_by, none_some, or_true, same_number, true_or}
+use Rattle.mu_model.proofs.Basics.{none_some, or_true, same_number, true_or}
 use Rattle.mu_model.proofs.Scans.{all_at, each_all}
 use Rattle.mu_agree.proofs.Landings.{has_since}
 use Rattle.mu_agree.proofs.Readings.{parts_stay_past_law}

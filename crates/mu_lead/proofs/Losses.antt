@@ -18,7 +18,7 @@ use Rattle.mu_lead.specs.declared.note.AbortCause.{AbortCause}
 use Rattle.mu_lead.specs.declared.note.Note.{Note}
 use Rattle.mu_lead.specs.declared.place.Place.{Place}
 use Rattle.mu_lead.specs.declared.place.Then.{Then}
-use Rattle.mu_model.proofs.Basics.{event_by, same_number}
+use Rattle.mu_model.proofs.Basics.{same_number}
 use Rattle.mu_model.proofs.Owned.{noted-part}
 use Rattle.mu_model.specs.Answers.{entered_or_lost}
 use Rattle.mu_model.specs.Knowledge.{known}
@@ -38,6 +38,7 @@ use Rattle.std.proofs.lemmas.Bool.{ne_eqb}
 use Rattle.std.specs.Prelude.{if◌then◌else◌, min, nat_lt, not, ◌↔◌, ◌⊎◌}
 use Rattle.std.specs.declared.option.Option.{Option}
 use Rattle.mu_model.specs.Steps.{is_any_fencing_verb}
+use Rattle.mu_model.specs.Histories.{event_by}
 
 abbrev pub is_lost : Note → Bool
 is_lost (Note.Aborted (AbortCause.Lost p f)) = true

@@ -7,7 +7,8 @@ use Rattle.mu_model.specs.declared.event.Event.{Event}
 use Rattle.mu_model.specs.declared.event.Verb.{Verb}
 use Rattle.mu_model.specs.Steps.{is_missed_at, is_missed_at_verb}
 use Rattle.mu_model.specs.Stretches.{is_replication}
-use Rattle.mu_model.proofs.Basics.{event_by, same_number}
+use Rattle.mu_model.proofs.Basics.{same_number}
+use Rattle.mu_model.specs.Histories.{event_by}
 use Rattle.mu_pace.specs.Counters.{IsInTime, steps_left}
 use Rattle.mu_pace.specs.Watches.{explaining}
 use Rattle.mu_pace.proofs.Beside.{unallowed}

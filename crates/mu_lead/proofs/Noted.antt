@@ -9,9 +9,8 @@ use Rattle.mu_lead.specs.Standing.{At, StandsFor}
 use Rattle.mu_lead.specs.declared.lead.Lead.{Lead}
 use Rattle.mu_lead.specs.declared.note.Note.{Note}
 use Rattle.mu_lead.specs.declared.place.Place.{Place}
-use Rattle.mu_model.proofs.Basics.{event_by}
 use Rattle.mu_model.specs.Contents.{IsInSession, holds_all}
-use Rattle.mu_model.specs.Histories.{or_zero}
+use Rattle.mu_model.specs.Histories.{or_zero, event_by}
 use Rattle.mu_model.specs.Knowledge.{known}
 use Rattle.mu_model.specs.Leaderships.{proposal_number}
 use Rattle.mu_model.specs.declared.config.Config.{Config}

@@ -9,9 +9,9 @@ use Rattle.mu_model.specs.declared.event.Event.{Event}
 use Rattle.mu_model.specs.declared.event.Target.{Target}
 use Rattle.mu_model.specs.declared.event.Verb.{Verb}
 use Rattle.mu_model.specs.Entering.{grant_seen, has_read_min, min_read, min_read_since, min_read_under, number_allowed}
-use Rattle.mu_model.specs.Histories.{count_below, earlier_or, has, newer_or, newest, or_zero}
+use Rattle.mu_model.specs.Histories.{count_below, earlier_or, has, newer_or, newest, or_zero, event_by}
 use Rattle.mu_model.specs.Leaderships.{begins_leadership, grant_at_joining, is_above, is_member, is_over, leadership, majority_of, noted_grant, proposal_number}
-use Rattle.mu_model.proofs.Basics.{event_by, none_some, or_true, same_number, same_some}
+use Rattle.mu_model.proofs.Basics.{none_some, or_true, same_number, same_some}
 use Rattle.mu_agree.proofs.Counting.{count_more}
 use Rattle.mu_agree.proofs.Landings.{has_since}
 use Rattle.mu_lead.specs.Confirming.{AtEnterMin, AtPutMin, AtReadMin, HasGrant, HoldsGrants, Numbered, Telling, greatest_min}

@@ -8,10 +8,10 @@ use Rattle.mu_model.specs.declared.event.Answer.{Answer}
 use Rattle.mu_model.specs.declared.event.Event.{Event}
 use Rattle.mu_model.specs.declared.event.Verb.{Verb}
 use Rattle.mu_model.specs.Contents.{IsConfig, begins_batch, rest_of, row_count}
-use Rattle.mu_model.specs.Histories.{all_below}
+use Rattle.mu_model.specs.Histories.{all_below, event_by}
 use Rattle.mu_model.specs.Knowledge.{known, wrote, wrote_batch}
 use Rattle.mu_model.specs.Parts.{IsPossible}
-use Rattle.mu_model.proofs.Basics.{event_by, same_number}
+use Rattle.mu_model.proofs.Basics.{same_number}
 use Rattle.mu_model.proofs.Scans.{all_at, each_all}
 use Rattle.mu_lead.specs.declared.place.Offer.{Offer}
 use Rattle.mu_lead.specs.Leading.{HoldsTables}

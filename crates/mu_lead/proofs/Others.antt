@@ -9,14 +9,14 @@ use Rattle.mu_model.specs.declared.event.Event.{Event}
 use Rattle.mu_model.specs.declared.event.Verb.{Verb}
 use Rattle.mu_model.specs.Points.{AreMet, last_ask, new_values}
 use Rattle.mu_model.specs.Contents.{client_of, command_count, is_batch, is_mark, marked, number_of}
-use Rattle.mu_model.specs.Histories.{all_below, newest}
+use Rattle.mu_model.specs.Histories.{all_below, newest, event_by}
 use Rattle.mu_model.specs.Knowledge.{known, wrote_batch}
 use Rattle.mu_model.specs.Leaderships.{begins_leadership, is_member, proposal_number}
 use Rattle.mu_model.specs.Parts.{IsPossible}
 use Rattle.mu_model.specs.Picks.{first_value, highest_accepted, is_mark_offer, is_offer, last_look, may_pick_at, may_propose, pick}
 use Rattle.mu_model.specs.Room.{head_read, is_mark_candidate, lacks_room, reserve}
 use Rattle.mu_model.specs.Scores.{is_failed}
-use Rattle.mu_model.proofs.Basics.{event_by, or_true, true_or}
+use Rattle.mu_model.proofs.Basics.{or_true, true_or}
 use Rattle.mu_agree.proofs.Sound.{wrote_more}
 use Rattle.mu_lead.proofs.Offers.{more_all}
 use Rattle.mu_model.proofs.Scans.{all_at, each_all}

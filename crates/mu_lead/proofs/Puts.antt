@@ -10,7 +10,7 @@ use Rattle.mu_model.specs.declared.event.Event.{Event}
 use Rattle.mu_model.specs.declared.event.Verb.{Verb}
 use Rattle.mu_model.specs.Allowed.{Needs}
 use Rattle.mu_model.specs.Contents.{marked, row_count}
-use Rattle.mu_model.specs.Histories.{all_below, earlier_or, has, newer_or, oldest}
+use Rattle.mu_model.specs.Histories.{all_below, earlier_or, has, newer_or, oldest, event_by}
 use Rattle.mu_model.specs.Knowledge.{fills, greatest_fuo_read, grown, is_accepted_by_all, is_filled, is_number, is_put_done, is_value, known, lands_entry}
 use Rattle.mu_model.specs.Leaderships.{begins_leadership, grant_at_joining, has_quorum, is_member, is_over, leadership, noted_grant, proposal_number}
 use Rattle.mu_model.specs.Parts.{IsPossible}
@@ -18,7 +18,7 @@ use Rattle.mu_model.specs.Picks.{first_value, is_joining, joined_since_first_put
 use Rattle.mu_model.specs.Placing.{is_caught_up_at, is_known_put, has_looked_since}
 use Rattle.mu_model.specs.Points.{AreMet, new_values}
 use Rattle.mu_model.specs.Room.{last_head, reserve}
-use Rattle.mu_model.proofs.Basics.{event_by, or_true, same_number, true_or}
+use Rattle.mu_model.proofs.Basics.{or_true, same_number, true_or}
 use Rattle.mu_model.proofs.Lists.{get_push_here}
 use Rattle.mu_model.proofs.Scans.{each_all}
 use Rattle.mu_agree.proofs.Landings.{has_implied, has_more}

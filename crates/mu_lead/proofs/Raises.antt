@@ -13,7 +13,8 @@ use Rattle.mu_model.specs.Leaderships.{is_member}
 use Rattle.mu_model.specs.Parts.{IsPossible}
 use Rattle.mu_model.specs.Steps.{commits_more}
 use Rattle.mu_model.specs.Stretches.{is_replication}
-use Rattle.mu_model.proofs.Basics.{event_by, same_number, false_and}
+use Rattle.mu_model.proofs.Basics.{same_number, false_and}
+use Rattle.mu_model.specs.Histories.{event_by}
 use Rattle.mu_pace.specs.Countdowns.{AreRaisedBelow}
 use Rattle.mu_pace.specs.Counters.{IsInTime}
 use Rattle.mu_pace.specs.Members.{IsNextMember, members_from}

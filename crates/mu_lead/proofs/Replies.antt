@@ -12,7 +12,7 @@ use Rattle.mu_model.specs.Answers.{answer_of, drained, entered_or_lost, put_answ
 use Rattle.mu_model.specs.Leaderships.{noted_grant}
 use Rattle.mu_model.specs.Parts.{IsPossible}
 use Rattle.mu_model.specs.Regions.{fence}
-use Rattle.mu_model.proofs.Basics.{event_by}
+use Rattle.mu_model.specs.Histories.{event_by}
 use Rattle.mu_agree.proofs.Possible.{at_event}
 
 -- the answer of the last event is what the history before it makes it

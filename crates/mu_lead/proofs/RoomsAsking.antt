@@ -10,7 +10,8 @@ use Rattle.mu_model.specs.declared.event.Verb.{Verb}
 use Rattle.mu_model.specs.Leaderships.{is_over}
 use Rattle.mu_model.specs.Steps.{has_min, leads}
 use Rattle.mu_model.specs.Stretches.{is_replication}
-use Rattle.mu_model.proofs.Basics.{event_by, same_number}
+use Rattle.mu_model.proofs.Basics.{same_number}
+use Rattle.mu_model.specs.Histories.{event_by}
 use Rattle.mu_pace.specs.Away.{TakesIdleStep}
 use Rattle.mu_pace.proofs.Away.{away_is_in_time}
 use Rattle.mu_lead.specs.Rooms.{IsOut, IsReading, IsWaiting}

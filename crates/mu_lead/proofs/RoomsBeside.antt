@@ -9,7 +9,7 @@ use Rattle.mu_model.specs.Diligence.{was_unnamed}
 use Rattle.mu_model.specs.Leaderships.{is_member, is_over}
 use Rattle.mu_model.specs.Steps.{has_min, is_named, leads}
 use Rattle.mu_model.specs.Stretches.{is_replication}
-use Rattle.mu_model.proofs.Basics.{event_by}
+use Rattle.mu_model.specs.Histories.{event_by}
 use Rattle.mu_pace.specs.Beside.{is_beside}
 use Rattle.mu_pace.specs.Members.{members_below, members_from}
 use Rattle.mu_pace.specs.Placed.{IsPlacedAt}

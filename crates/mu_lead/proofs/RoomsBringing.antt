@@ -10,7 +10,7 @@ use Rattle.mu_model.specs.Contents.{IsConfig}
 use Rattle.mu_model.specs.Knowledge.{known}
 use Rattle.mu_model.specs.Leaderships.{is_member}
 use Rattle.mu_model.specs.Stretches.{is_replication}
-use Rattle.mu_model.proofs.Basics.{event_by}
+use Rattle.mu_model.specs.Histories.{event_by}
 use Rattle.mu_pace.specs.Asking.{AsksOn, far, near_entered, near_looked, near_past, near_widened}
 use Rattle.mu_pace.specs.Members.{members_below}
 use Rattle.mu_pace.specs.Placed.{IsPlacedAt}

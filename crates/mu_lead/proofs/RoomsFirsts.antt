@@ -13,7 +13,7 @@ use Rattle.mu_model.specs.Diligence.{is_confirmed}
 use Rattle.mu_model.specs.Leaderships.{noted_grant}
 use Rattle.mu_model.specs.Parts.{IsPossible}
 use Rattle.mu_model.specs.Stretches.{is_replication}
-use Rattle.mu_model.proofs.Basics.{event_by}
+use Rattle.mu_model.specs.Histories.{event_by}
 use Rattle.mu_pace.specs.Weights.{Stage}
 use Rattle.mu_lead.specs.declared.place.Place.{Place}
 use Rattle.mu_lead.specs.Confirming.{AtReadMin}

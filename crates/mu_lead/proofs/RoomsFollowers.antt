@@ -10,7 +10,8 @@ use Rattle.mu_model.specs.Contents.{IsConfig}
 use Rattle.mu_model.specs.Leaderships.{is_member}
 use Rattle.mu_model.specs.Steps.{is_fencing_verb}
 use Rattle.mu_model.specs.Stretches.{is_replication}
-use Rattle.mu_model.proofs.Basics.{event_by, same_number}
+use Rattle.mu_model.proofs.Basics.{same_number}
+use Rattle.mu_model.specs.Histories.{event_by}
 use Rattle.mu_pace.specs.Asking.{AsksJoining, AsksOn, far, far_join, near_ahead, near_fuo, near_joined, near_level, near_passed, near_welcomed}
 use Rattle.mu_pace.specs.Watches.{is_brought_up}
 use Rattle.mu_pace.specs.Weights.{Bringing, Lag, Sizes, Stage, ahead, at_joined, at_late_enter, at_late_min, is_first, joins_behind, joins_level, late_fuo, passed, welcomed}

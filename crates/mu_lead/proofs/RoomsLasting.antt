@@ -62,7 +62,8 @@ use Rattle.mu_lead.specs.declared.place.Offer.{Offer}
 use Rattle.mu_lead.specs.declared.place.Place.{Place}
 use Rattle.mu_lead.specs.declared.place.Sight.{Sight}
 use Rattle.mu_lead.specs.declared.place.Then.{Then}
-use Rattle.mu_model.proofs.Basics.{event_by, same_some}
+use Rattle.mu_model.proofs.Basics.{same_some}
+use Rattle.mu_model.specs.Histories.{event_by}
 use Rattle.mu_pace.specs.Members.{members_from}
 use Rattle.mu_pace.specs.Weights.{Bringing, Stage}
 

@@ -7,11 +7,11 @@ use Rattle.mu_model.specs.declared.event.Event.{Event}
 use Rattle.mu_model.specs.declared.event.Target.{Target}
 use Rattle.mu_model.specs.declared.event.Verb.{Verb}
 use Rattle.mu_model.specs.Contents.{IsConfig}
-use Rattle.mu_model.specs.Histories.{has}
+use Rattle.mu_model.specs.Histories.{has, event_by}
 use Rattle.mu_model.specs.Leaderships.{has_begun, is_over, leadership, proposal_number}
 use Rattle.mu_model.specs.Steps.{is_min}
 use Rattle.mu_model.specs.Stretches.{is_replication}
-use Rattle.mu_model.proofs.Basics.{event_by, same_number}
+use Rattle.mu_model.proofs.Basics.{same_number}
 use Rattle.mu_pace.specs.Asking.{AsksOn, far, near_enter, near_min}
 use Rattle.mu_pace.specs.Weights.{Sizes, Stage, at_late_fuo, at_late_put, late_enter, late_min}
 use Rattle.mu_pace.proofs.Away.{away_is_in_time}

@@ -9,11 +9,11 @@ use Rattle.mu_model.specs.declared.event.Target.{Target}
 use Rattle.mu_model.specs.declared.event.Verb.{Verb}
 use Rattle.mu_model.specs.Bounds.{members}
 use Rattle.mu_model.specs.Contents.{IsConfig}
-use Rattle.mu_model.specs.Histories.{has}
+use Rattle.mu_model.specs.Histories.{has, event_by}
 use Rattle.mu_model.specs.Leaderships.{grant_at_joining, has_begun, is_changed, is_member, is_over, leadership}
 use Rattle.mu_model.specs.Steps.{has_min, is_min, leads}
 use Rattle.mu_model.specs.Stretches.{is_replication}
-use Rattle.mu_model.proofs.Basics.{event_by, same_number, or_true}
+use Rattle.mu_model.proofs.Basics.{same_number, or_true}
 use Rattle.mu_pace.specs.Asking.{far, far_join, is_far}
 use Rattle.mu_pace.specs.Away.{IsFresh}
 use Rattle.mu_pace.specs.Members.{members_from}

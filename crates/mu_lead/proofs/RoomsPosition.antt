@@ -13,7 +13,8 @@ use Rattle.mu_model.specs.Leaderships.{has_quorum, is_member}
 use Rattle.mu_model.specs.Picks.{is_past}
 use Rattle.mu_model.specs.Steps.{knows_more}
 use Rattle.mu_model.specs.Stretches.{is_replication}
-use Rattle.mu_model.proofs.Basics.{event_by, true_or}
+use Rattle.mu_model.proofs.Basics.{true_or}
+use Rattle.mu_model.specs.Histories.{event_by}
 use Rattle.mu_pace.specs.Asking.{far, far_copy, turns}
 use Rattle.mu_pace.specs.Members.{IsNextMember, members_below, members_from}
 use Rattle.mu_pace.specs.Watches.{is_brought_up}

@@ -13,7 +13,7 @@ use Rattle.mu_model.specs.Knowledge.{commits, grown, is_accepted_by_all, known}
 use Rattle.mu_model.specs.Leaderships.{is_member}
 use Rattle.mu_model.specs.Steps.{commits_more, is_lagging}
 use Rattle.mu_model.specs.Stretches.{is_replication}
-use Rattle.mu_model.proofs.Basics.{event_by}
+use Rattle.mu_model.specs.Histories.{event_by}
 use Rattle.mu_pace.specs.Asking.{far, commits as commits_there}
 use Rattle.mu_pace.specs.Blocking.{is_blocking}
 use Rattle.mu_pace.specs.Members.{IsNextMember, members_from}

@@ -8,12 +8,12 @@ use Rattle.mu_model.specs.declared.event.Verb.{Verb}
 use Rattle.mu_model.specs.Bounds.{members}
 use Rattle.mu_model.specs.Contents.{IsConfig, marked}
 use Rattle.mu_model.specs.Diligence.{is_milestone}
-use Rattle.mu_model.specs.Histories.{all_below, has}
+use Rattle.mu_model.specs.Histories.{all_below, has, event_by}
 use Rattle.mu_model.specs.Knowledge.{commits, known}
 use Rattle.mu_model.specs.Leaderships.{leadership}
 use Rattle.mu_model.specs.Steps.{commits_more, is_lagging, is_min, knows_more}
 use Rattle.mu_model.specs.Stretches.{is_replication}
-use Rattle.mu_model.proofs.Basics.{event_by, false_and}
+use Rattle.mu_model.proofs.Basics.{false_and}
 use Rattle.mu_pace.specs.Asking.{AsksOn}
 use Rattle.mu_pace.specs.Placed.{Asks, IsPlacedAt, Levels}
 use Rattle.mu_pace.specs.Watches.{falls_behind}

@@ -8,7 +8,7 @@ use Rattle.mu_model.specs.declared.event.Verb.{Verb}
 use Rattle.mu_model.specs.Contents.{IsConfig}
 use Rattle.mu_model.specs.Leaderships.{is_member}
 use Rattle.mu_model.specs.Stretches.{is_replication}
-use Rattle.mu_model.proofs.Basics.{event_by}
+use Rattle.mu_model.specs.Histories.{event_by}
 use Rattle.mu_pace.specs.Asking.{far, is_far, turns}
 use Rattle.mu_pace.specs.Members.{IsNextMember, members_from}
 use Rattle.mu_pace.specs.Placed.{is_level}

@@ -9,7 +9,7 @@ use Rattle.mu_model.specs.declared.event.Verb.{Verb}
 use Rattle.mu_model.specs.Bounds.{members}
 use Rattle.mu_model.specs.Contents.{IsConfig}
 use Rattle.mu_model.specs.Stretches.{is_replication}
-use Rattle.mu_model.proofs.Basics.{event_by}
+use Rattle.mu_model.specs.Histories.{event_by}
 use Rattle.mu_pace.specs.Asking.{far}
 use Rattle.mu_pace.specs.Weights.{IsPlace, Sizes, Stage, at_slot, at_writing, last_word, next_word}
 use Rattle.mu_lead.specs.Rooms.{IsLed, sizes_of, words_left}

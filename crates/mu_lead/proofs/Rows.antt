@@ -19,10 +19,10 @@ use Rattle.mu_lead.specs.declared.note.AbortCause.{AbortCause}
 use Rattle.mu_lead.specs.declared.note.Note.{Note}
 use Rattle.mu_lead.specs.declared.place.Place.{Place}
 use Rattle.mu_lead.specs.declared.place.Then.{Then}
-use Rattle.mu_model.proofs.Basics.{event_by, none_some, same_number, same_some, true_or}
+use Rattle.mu_model.proofs.Basics.{none_some, same_number, same_some, true_or}
 use Rattle.mu_model.proofs.Lists.{get_push_here}
 use Rattle.mu_model.specs.Contents.{IsConfig, marked, row_count}
-use Rattle.mu_model.specs.Histories.{has}
+use Rattle.mu_model.specs.Histories.{has, event_by}
 use Rattle.mu_model.specs.Knowledge.{entry_seen, fuo_read, greatest_fuo_read, grown, is_known_decided, known, learnt_by}
 use Rattle.mu_model.specs.Leaderships.{begins_leadership, is_above, is_over, leadership, noted_grant, proposal_number}
 use Rattle.mu_model.specs.Parts.{IsPossible}

@@ -8,14 +8,14 @@ use Rattle.mu_model.specs.declared.config.Config.{Config}
 use Rattle.mu_model.specs.declared.event.Answer.{Answer}
 use Rattle.mu_model.specs.declared.event.Event.{Event}
 use Rattle.mu_model.specs.declared.event.Verb.{Verb}
-use Rattle.mu_model.specs.Histories.{has, newer_or, newest}
+use Rattle.mu_model.specs.Histories.{has, newer_or, newest, event_by}
 use Rattle.mu_model.specs.Knowledge.{entry_seen, is_entry_seen}
 use Rattle.mu_model.specs.Leaderships.{begins_leadership, is_member, leadership}
 use Rattle.mu_model.specs.Parts.{IsPossible}
 use Rattle.mu_model.specs.Picks.{entry_of, highest_accepted, is_joining, is_past, is_past_look, larger, last_look, look_answer, since_last_joining}
 use Rattle.mu_model.specs.Answers.{shown}
 use Rattle.mu_model.specs.Regions.{region_log}
-use Rattle.mu_model.proofs.Basics.{event_by, none_some, same_number}
+use Rattle.mu_model.proofs.Basics.{none_some, same_number}
 use Rattle.mu_agree.proofs.Landings.{has_since}
 use Rattle.mu_agree.proofs.Entries.{parts_stay_filled_law}
 use Rattle.mu_agree.proofs.Possible.{answered, at_event}

@@ -15,7 +15,7 @@ use Rattle.mu_lead.specs.Leading.{AtEnterBehind, AtFenceBehind, AtLearn, AtPutBe
 use Rattle.mu_lead.specs.Listing.{Tables, after_copy, after_fuo, after_region, bring_up, farther, learn_from, member_from, or_else}
 use Rattle.mu_lead.specs.declared.place.Place.{Place}
 use Rattle.mu_lead.specs.declared.place.Then.{Then}
-use Rattle.mu_model.proofs.Basics.{event_by, same_number, true_or}
+use Rattle.mu_model.proofs.Basics.{same_number, true_or}
 use Rattle.mu_model.specs.Knowledge.{known}
 use Rattle.mu_model.specs.Leaderships.{has_begun, is_member, is_over}
 use Rattle.mu_model.specs.Parts.{IsPossible}
@@ -27,6 +27,7 @@ use Rattle.mu_model.specs.declared.event.Event.{Event}
 use Rattle.mu_model.specs.declared.event.Fence.{Fence}
 use Rattle.mu_model.specs.declared.event.Target.{Target}
 use Rattle.mu_model.specs.declared.event.Verb.{Verb}
+use Rattle.mu_model.specs.Histories.{event_by}
 use Rattle.std.proofs.Common.{Bool, List, None, Some, [], ap, arith, false, get_or, inl, inr, length, refl, subst, sym, true, true≢false, ℕ, ◌%◌, ◌+◌, ◌<◌, ◌∙◌, ◌∷◌, ◌≡◌, ◌≤◌}
 use Rattle.std.proofs.lemmas.Bool.{cases_eq, lt-ltb, ltb-false, ltb-true}
 use Rattle.std.proofs.lemmas.List.{get_or-set_same}

@@ -13,7 +13,8 @@ use Rattle.mu_model.specs.Diligence.{is_confirmed}
 use Rattle.mu_model.specs.Entering.{number_allowed}
 use Rattle.mu_model.specs.Leaderships.{is_member, noted_grant}
 use Rattle.mu_model.specs.Parts.{IsPossible}
-use Rattle.mu_model.proofs.Basics.{event_by, same_number}
+use Rattle.mu_model.proofs.Basics.{same_number}
+use Rattle.mu_model.specs.Histories.{event_by}
 use Rattle.mu_lead.specs.declared.place.Place.{Place}
 use Rattle.mu_lead.specs.Confirming.{AtAsk, AtPutMin, AtReadMin, Fresh}
 use Rattle.mu_lead.specs.Lasting.{step_of}

@@ -22,7 +22,6 @@ use Rattle.mu_lead.specs.Offering.{AtPut, LooksShow}
 use Rattle.mu_lead.specs.Standing.{At, NumberAfter, verb_at}
 use Rattle.mu_lead.specs.declared.place.Offer.{Offer}
 use Rattle.mu_lead.specs.declared.place.Place.{Place}
-use Rattle.mu_model.proofs.Basics.{event_by}
 use Rattle.mu_model.specs.Contents.{config_word}
 use Rattle.mu_model.specs.Knowledge.{known}
 use Rattle.mu_model.specs.Leaderships.{is_member}
@@ -33,6 +32,7 @@ use Rattle.mu_model.specs.declared.event.Event.{Event}
 use Rattle.mu_model.specs.declared.event.Fence.{Fence}
 use Rattle.mu_model.specs.declared.event.Target.{Target}
 use Rattle.mu_model.specs.declared.event.Verb.{Verb}
+use Rattle.mu_model.specs.Histories.{event_by}
 use Rattle.std.proofs.Common.{Bool, List, None, Some, [], ap, arith, eq-eqb, eqb-true, false, get_or, inl, inr, is_some, length, length-append, refl, replicate, subst, sym, true, true≢false, ℕ, ◌%◌, ◌+◌, ◌==◌, ◌∙◌, ◌∷◌, ◌≡◌}
 use Rattle.std.proofs.lemmas.Bool.{le-leb, lt-leb, ltb-false, ltb-true}
 use Rattle.std.specs.Prelude.{if◌then◌else◌, nat_lt, set}

@@ -9,13 +9,13 @@ use Rattle.mu_model.specs.declared.config.Config.{Config}
 use Rattle.mu_model.specs.declared.event.Answer.{Answer}
 use Rattle.mu_model.specs.declared.event.Event.{Event}
 use Rattle.mu_model.specs.declared.event.Verb.{Verb}
-use Rattle.mu_model.specs.Histories.{has, max_with, newer_or, newest, or_zero}
+use Rattle.mu_model.specs.Histories.{has, max_with, newer_or, newest, or_zero, event_by}
 use Rattle.mu_model.specs.Knowledge.{fills, fuo_read, greatest_fuo_read, grown, is_filled, is_value, known, learnt_by, wrote}
 use Rattle.mu_model.specs.Leaderships.{begins_leadership, leadership}
 use Rattle.mu_model.specs.Parts.{IsPossible}
 use Rattle.mu_model.specs.Placing.{fuo_read_or_raised, is_known_put, is_within_ring}
 use Rattle.mu_model.specs.Room.{head_read, last_head}
-use Rattle.mu_model.proofs.Basics.{event_by, or_true, true_or}
+use Rattle.mu_model.proofs.Basics.{or_true, true_or}
 use Rattle.mu_model.proofs.Lists.{get_push_other}
 use Rattle.mu_agree.proofs.Landings.{has_implied, has_more}
 use Rattle.mu_agree.proofs.Readings.{parts_climb_law}

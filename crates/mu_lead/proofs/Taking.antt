@@ -8,12 +8,13 @@ use Rattle.mu_lead.specs.Standing.{HasHeeded, StandsFor, known_told, verb_of}
 use Rattle.mu_lead.specs.Stepping.{IsAnswered, Steps}
 use Rattle.mu_lead.specs.declared.lead.Lead.{Lead}
 use Rattle.mu_lead.specs.declared.note.Note.{Note}
-use Rattle.mu_model.proofs.Basics.{event_by, same_some}
+use Rattle.mu_model.proofs.Basics.{same_some}
 use Rattle.mu_model.specs.Knowledge.{known}
 use Rattle.mu_model.specs.Parts.{IsPossible}
 use Rattle.mu_model.specs.declared.event.Answer.{Answer}
 use Rattle.mu_model.specs.declared.event.Event.{Event}
 use Rattle.mu_model.specs.declared.event.Verb.{Verb}
+use Rattle.mu_model.specs.Histories.{event_by}
 use Rattle.std.proofs.Common.{List, Some, subst, sym, ℕ, ◌∙◌, ◌∷◌, ◌≡◌}
 
 -- by the answer to the verb that was due after these events the leader makes its step

@@ -19,7 +19,6 @@ use Rattle.mu_lead.specs.Standing.{At, known_told, verb_at}
 use Rattle.mu_lead.specs.declared.note.Note.{Note}
 use Rattle.mu_lead.specs.declared.place.Offer.{Offer}
 use Rattle.mu_lead.specs.declared.place.Place.{Place}
-use Rattle.mu_model.proofs.Basics.{event_by}
 use Rattle.mu_model.specs.Knowledge.{grown, known}
 use Rattle.mu_model.specs.Leaderships.{is_member, noted_grant}
 use Rattle.mu_model.specs.Parts.{IsPossible}
@@ -27,6 +26,7 @@ use Rattle.mu_model.specs.declared.config.Config.{Config}
 use Rattle.mu_model.specs.declared.event.Answer.{Answer}
 use Rattle.mu_model.specs.declared.event.Event.{Event}
 use Rattle.mu_model.specs.declared.event.Verb.{Verb}
+use Rattle.mu_model.specs.Histories.{event_by}
 use Rattle.std.proofs.Common.{Bool, List, None, Some, [], ap, arith, false, get_or, inl, inr, is_some, length, length-append, refl, subst, sym, true, ℕ, ◌++◌, ◌+◌, ◌<◌, ◌∙◌, ◌∷◌, ◌≡◌}
 use Rattle.std.proofs.lemmas.Bool.{le-ltb, lt-ltb}
 use Rattle.std.specs.Prelude.{if◌then◌else◌, nat_lt, ◌⊎◌}

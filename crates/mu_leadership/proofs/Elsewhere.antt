@@ -11,7 +11,8 @@ use Rattle.mu_model.specs.Leaderships.{begins_leadership}
 use Rattle.mu_leadership.specs.Bearing.{reads_fence, region_named}
 use Rattle.mu_leadership.specs.Leadership.{StandsForRegionNotes, last_grant}
 use Rattle.mu_leadership.specs.declared.region_notes.RegionNotes.{RegionNotes}
-use Rattle.mu_model.proofs.Basics.{event_by, none_some, same_some}
+use Rattle.mu_model.proofs.Basics.{none_some, same_some}
+use Rattle.mu_model.specs.Histories.{event_by}
 
 -- another region is another number
 apart : (f p q : ℕ) → Some f ≡ Some q → q ≢ p → (f == p) ≡ false

@@ -5,7 +5,8 @@ use Rattle.mu_model.specs.declared.event.Answer.{Answer}
 use Rattle.mu_model.specs.declared.event.Event.{Event}
 use Rattle.mu_model.specs.declared.event.Verb.{Verb}
 use Rattle.mu_model.specs.Leaderships.{ends_leadership, is_over}
-use Rattle.mu_model.proofs.Basics.{event_by, none_some}
+use Rattle.mu_model.proofs.Basics.{none_some}
+use Rattle.mu_model.specs.Histories.{event_by}
 use Rattle.mu_leadership.specs.Bearing.{region_entered, region_named}
 use Rattle.mu_leadership.specs.Leadership.{StandForRegionNotes, Takes}
 use Rattle.mu_leadership.specs.declared.leadership.Leadership.{Leadership}

@@ -10,11 +10,11 @@ use Rattle.mu_model.specs.declared.event.Verb.{Verb}
 use Rattle.mu_model.specs.Again.{foreign_row, row_with}
 use Rattle.mu_model.specs.Answers.{answer_of}
 use Rattle.mu_model.specs.Entering.{min_read_under}
-use Rattle.mu_model.specs.Histories.{newer_or, newest}
+use Rattle.mu_model.specs.Histories.{newer_or, newest, event_by}
 use Rattle.mu_model.specs.Leaderships.{fence_seen, grant_for, proposal_number}
 use Rattle.mu_model.specs.Parts.{IsPossible}
 use Rattle.mu_model.specs.Regions.{fence}
-use Rattle.mu_model.proofs.Basics.{event_by, same_number}
+use Rattle.mu_model.proofs.Basics.{same_number}
 use Rattle.mu_agree.proofs.Possible.{at_event}
 use Rattle.mu_leadership.specs.Bearing.{reads_fence}
 use Rattle.mu_leadership.specs.Leadership.{StandsForRegionNotes}

@@ -3,10 +3,10 @@ use Rattle.std.proofs.Common.{◌≡◌, ℕ, false, List, ◌∷◌}
 use Rattle.mu_model.specs.declared.event.Answer.{Answer}
 use Rattle.mu_model.specs.declared.event.Event.{Event}
 use Rattle.mu_model.specs.declared.event.Verb.{Verb}
+use Rattle.mu_model.specs.Histories.{event_by}
 use Rattle.mu_leadership.specs.Bearing.{changes_leadership}
 use Rattle.mu_leadership.specs.Leadership.{StandsForLeadership}
 use Rattle.mu_leadership.specs.declared.leadership.Leadership.{Leadership}
-use Rattle.mu_model.proofs.Basics.{event_by}
 
 kept_by : (r by : ℕ) (verb : Verb) (answer : Answer) (mine : List Event) (state : Leadership) → changes_leadership verb ≡ false → StandsForLeadership r mine state → StandsForLeadership r (event_by by verb answer ∷ mine) state
 kept_by r by (Verb.Ask p) answer mine state other held = cc

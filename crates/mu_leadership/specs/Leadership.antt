@@ -132,10 +132,6 @@ IfSeen c r p mine e fence numbered fact =
     IsPossible c r (e ∷ mine) → e.verb ≡ Verb.Fence p → e.answer ≡ Answer.Seen fence
     → numbered ≡ is_some (proposal_number r mine) → fact
 
--- what is held of the events adds one more
-abbrev pub Adds : {A : Type 0} → (List Event → A) → Event → A → A → Type 0
-Adds of e held now = (mine : List Event) → held ≡ of mine → now ≡ of (e ∷ mine)
-
 -- what is held of a region adds an event that reads no fence, whichever region it is
 abbrev pub AddsUnfenced : {A : Type 0} → (ℕ → List Event → A) → Event → A → A → Type 0
 AddsUnfenced of e held now =

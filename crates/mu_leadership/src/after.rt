@@ -1,7 +1,8 @@
 //! What the next event makes of each thing that a leadership has come to.
 ghost use Rattle.mu_model.specs.declared.event.Event.{Event};
 ghost use Rattle.mu_model.specs.Leaderships.{has_begun, proposal_number};
-ghost use Rattle.mu_leadership.specs.Leadership.{Adds, greatest_put, greatest_read, last_asked};
+ghost use Rattle.mu_model.specs.Histories.{Adds};
+ghost use Rattle.mu_leadership.specs.Leadership.{greatest_put, greatest_read, last_asked};
 
 use crate::region_notes::begins;
 use mu_model::{Answer, Event, Verb};

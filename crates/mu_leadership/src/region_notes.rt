@@ -5,7 +5,8 @@ ghost use Rattle.mu_model.specs.declared.event.Event.{Event};
 ghost use Rattle.mu_model.specs.Again.{foreign_row, is_foreign, one_more, row_with};
 ghost use Rattle.mu_model.specs.Entering.{has_read_min, last_opened, min_read_since, min_read_under, open_target};
 ghost use Rattle.mu_model.specs.Leaderships.{begins_leadership, grant_at_joining, grant_for, noted_grant};
-ghost use Rattle.mu_leadership.specs.Leadership.{StandForRegionNotes, StandsForRegionNotes, grant_of, last_grant, Adds, AddsUnfenced, NotesTake, NotesTakeUnfenced, TakesAt, last_minimum, last_seen, IfSeen};
+ghost use Rattle.mu_model.specs.Histories.{Adds};
+ghost use Rattle.mu_leadership.specs.Leadership.{StandForRegionNotes, StandsForRegionNotes, grant_of, last_grant, AddsUnfenced, NotesTake, NotesTakeUnfenced, TakesAt, last_minimum, last_seen, IfSeen};
 ghost use Rattle.mu_leadership.specs.Bearing.{reads_fence, region_named};
 
 use crate::bearing::region_of;

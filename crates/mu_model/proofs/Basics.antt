@@ -1,13 +1,6 @@
--- Small facts about numbers, booleans and options, and an event made of its three parts.
+-- Small facts about numbers, booleans and options.
 use Rattle.std.proofs.Common.{◌≡◌, ℕ, suc, ◌+◌, Bool, true, false, ◌==◌, ◌&&◌, ◌||◌, refl, sym, ◌∙◌, ap, subst, arith, None, Some, eq-eqb, true≢false}
 use Rattle.mu_model.specs.Histories.{all_below}
-use Rattle.mu_model.specs.declared.event.Answer.{Answer}
-use Rattle.mu_model.specs.declared.event.Event.{Event}
-use Rattle.mu_model.specs.declared.event.Verb.{Verb}
-
--- the event of a replica with this verb and this answer
-abbrev pub event_by : ℕ → Verb → Answer → Event
-event_by by verb answer = record { by = by; verb = verb; answer = answer }
 
 -- two things that are there and equal as such are the same thing
 pub same_some : {A : Type 0} (x y : A) → Some x ≡ Some y → x ≡ y
@@ -45,9 +38,3 @@ false_and false b is = refl
 pub and_false : (a b : Bool) → b ≡ false → (a && b) ≡ false
 and_false true b is = is
 and_false false b is = refl
-
--- all numbers up to p pass if p does and all below
-pub all_more : (p : ℕ) (test : ℕ → Bool) (t one : Bool) → one ≡ test p → t ≡ (one && all_below p test) → t ≡ all_below (p + 1) test
-all_more p test t one told is =
-    let next : suc p ≡ p + 1 = omega arith in
-    subst (λ n. t ≡ all_below n test) next (is ∙ ap (λ b. b && all_below p test) told)

@@ -1,13 +1,19 @@
 -- history, part, prefix: the list with the newest event first; the events of one replica, in order;
--- a list that begins another.
+-- a list that begins another; the event of a step; a value that adds one more event.
 use Rattle.std.specs.Prelude.{Bool, List, None, Some, [], false, if◌then◌else◌, max, reverse, suc, true, zero, ℕ, ◌&&◌, ◌++◌, ◌+◌, ◌==◌, ◌∷◌, ◌≡◌}
 use Rattle.std.specs.declared.option.Option.{Option}
 use Rattle.std.specs.List.{filter}
+use Rattle.mu_model.specs.declared.event.Answer.{Answer}
 use Rattle.mu_model.specs.declared.event.Event.{Event}
+use Rattle.mu_model.specs.declared.event.Verb.{Verb}
 
 -- one list begins the other
 abbrev pub IsPrefixOf : {A : Type 0} → List A → List A → Type 0
 IsPrefixOf {A} xs ys = (rest : List A) × (ys ≡ xs ++ rest)
+
+-- the event of a replica with this verb and this answer
+abbrev pub event_by : ℕ → Verb → Answer → Event
+event_by by verb answer = record { by = by; verb = verb; answer = answer }
 
 -- the history that a list of events in true order makes
 abbrev pub history : List Event → List Event
@@ -26,6 +32,10 @@ how_many test (e ∷ past) = if test e then how_many test past + 1 else how_many
 abbrev pub has : (Event → Bool) → List Event → Bool
 has test [] = false
 has test (e ∷ past) = if test e then true else has test past
+
+-- a value that was what the events say is now what they say with one more
+abbrev pub Adds : {A : Type 0} → (List Event → A) → Event → A → A → Type 0
+Adds of e held now = (mine : List Event) → held ≡ of mine → now ≡ of (e ∷ mine)
 
 -- the newer, if there is one, else the older
 abbrev pub newer_or : {A : Type 0} → Option A → Option A → Option A

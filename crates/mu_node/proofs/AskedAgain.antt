@@ -36,12 +36,12 @@ use Rattle.mu_lead.specs.declared.note.Note.{Note}
 use Rattle.mu_lead.specs.Going.{begins_at, going_after}
 use Rattle.mu_lead.specs.Noting.{or_idle}
 use Rattle.mu_model.proofs.Basics.{none_some}
+use Rattle.mu_model.specs.Histories.{event_by}
 use Rattle.mu_node.specs.Notes.{MovesGoing, TellsNote}
 use Rattle.mu_node.specs.Journal.{FollowsTurn}
 use Rattle.mu_node.specs.Due.{asks_out_of_turn, idle_due, is_eager, lead_due, turn_due, verb_or_beat}
 use Rattle.mu_node.specs.Node.{StandsForLead, StandsForNode}
 use Rattle.mu_node.specs.Paced.{HasGone, HasPaces, PacesAt}
-use Rattle.mu_node.specs.Events.{event_by}
 use Rattle.mu_node.proofs.Pacing.{kept_with, of_node}
 
 -- a leader that left its leadership has the first ask due

@@ -17,7 +17,8 @@ use Rattle.mu_model.specs.Knowledge.{applied, commits, is_known_decided, known}
 use Rattle.mu_model.specs.Leaderships.{begins_leadership, has_begun, is_member}
 use Rattle.mu_model.specs.Steps.{commits_more, is_any_fencing, is_fencing, is_lagging, is_min, is_missed_at, is_named, is_over_after, leads}
 use Rattle.mu_model.specs.Stretches.{is_odd, is_replication}
-use Rattle.mu_model.proofs.Basics.{event_by, or_true}
+use Rattle.mu_model.proofs.Basics.{or_true}
+use Rattle.mu_model.specs.Histories.{event_by}
 use Rattle.mu_follow.specs.CatchingUp.{catch_up_due, entry_due, lacked_word_due, lacked_word_of, or_else, words_had}
 use Rattle.mu_follow.specs.Due.{first_word_of, next_due, row_under_way, rows_had}
 use Rattle.mu_pace.specs.Away.{IsAway}

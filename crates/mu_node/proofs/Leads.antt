@@ -16,6 +16,7 @@ use Rattle.mu_model.specs.Knowledge.{grown, known}
 use Rattle.mu_model.specs.Parts.{IsPossible}
 use Rattle.mu_model.specs.Scores.{leader}
 use Rattle.mu_model.proofs.Basics.{none_some}
+use Rattle.mu_model.specs.Histories.{event_by}
 use Rattle.mu_grant.specs.declared.grants.Grants.{Grants}
 use Rattle.mu_grant.specs.Stands.{Gives, StandsFor as HostStandsFor, is_of_place}
 use Rattle.mu_agree.proofs.Within.{known_few}
@@ -43,7 +44,6 @@ use Rattle.mu_node.specs.Watch.{StandsForWatch}
 use Rattle.mu_node.specs.Cycle.{other_at, read_at}
 use Rattle.mu_node.specs.Due.{FitsLead, MayBeside, WritesAhead, lead_due, verb_or_beat}
 use Rattle.mu_node.specs.Node.{AwaitsBeside, HoldsBeside, HoldsWith, StandsForLead}
-use Rattle.mu_node.specs.Events.{event_by}
 
 -- if the event commits nothing, the leader is told all that is known after it
 told_none : (c : Config) (r : ℕ) (mine : List Event) (verb : Verb) (answer : Answer) → commit_of c r mine (event_by r verb answer) ≡ None → known c r (event_by r verb answer ∷ mine) ≡ known_told c r mine r verb answer

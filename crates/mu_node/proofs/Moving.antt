@@ -8,10 +8,10 @@ use Rattle.mu_model.specs.Parts.{IsPossible}
 use Rattle.std.specs.Prelude.{take}
 use Rattle.kv_store.specs.Commands.{Request}
 use Rattle.mu_model.specs.Knowledge.{applied}
+use Rattle.mu_model.specs.Histories.{event_by}
 use Rattle.mu_follow.specs.Groups.{AreSpelled}
 use Rattle.mu_node.specs.Answers.{HoldsAnswers}
 use Rattle.mu_node.specs.Cycle.{handed_before}
-use Rattle.mu_node.specs.Events.{event_by}
 use Rattle.mu_node.specs.Reads.{ReadsNext}
 use Rattle.mu_node.specs.declared.node.Node.{Node}
 use Rattle.mu_node.specs.Node.{HoldsBeside, LivesForNode, StandsAs, StandsForLead}

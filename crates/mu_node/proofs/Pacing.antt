@@ -20,7 +20,8 @@ use Rattle.mu_model.specs.Parts.{IsPossible}
 use Rattle.mu_model.specs.Scores.{leader}
 use Rattle.mu_model.specs.Steps.{is_named}
 use Rattle.mu_model.specs.Stretches.{is_odd}
-use Rattle.mu_model.proofs.Basics.{event_by, none_some}
+use Rattle.mu_model.proofs.Basics.{none_some}
+use Rattle.mu_model.specs.Histories.{event_by}
 use Rattle.mu_pace.specs.Collecting.{LeaderKeepsBy}
 use Rattle.mu_pace.specs.Counters.{steps_left}
 use Rattle.mu_pace.specs.Keeping.{HasCauseBy, AsksLately, HasCause}

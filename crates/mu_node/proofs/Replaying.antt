@@ -16,8 +16,9 @@ use Rattle.mu_model.specs.Knowledge.{applied, greatest_fuo_read, has_row, has_wo
 use Rattle.mu_model.specs.Parts.{IsPossible}
 use Rattle.mu_model.specs.Steps.{knows_more}
 use Rattle.mu_model.specs.Stretches.{is_odd}
-use Rattle.mu_model.proofs.Basics.{event_by, or_true, true_or}
+use Rattle.mu_model.proofs.Basics.{or_true, true_or}
 use Rattle.mu_model.proofs.Scans.{each_all}
+use Rattle.mu_model.specs.Histories.{event_by}
 use Rattle.mu_agree.proofs.Possible.{parts_shorten_law}
 use Rattle.mu_follow.specs.Due.{first_word_of, look_due, next_word_of, raise_due, replay_due, row_read, row_under_way, rows_had, word_due}
 use Rattle.mu_follow.proofs.Waiting.{IsNextRow, look_teaches, next_row, row_of_known}

@@ -14,7 +14,7 @@ use Rattle.mu_model.specs.Parts.{IsPossible}
 use Rattle.mu_model.specs.Scores.{leader}
 use Rattle.mu_model.specs.Steps.{is_named}
 use Rattle.mu_model.specs.Stretches.{is_odd}
-use Rattle.mu_model.proofs.Basics.{event_by}
+use Rattle.mu_model.specs.Histories.{event_by}
 use Rattle.mu_grant.specs.Pace.{FollowsCycle, host_place, is_host_verb}
 use Rattle.mu_grant.specs.Stands.{is_host_step}
 use Rattle.mu_grant.proofs.Onward.{due_is_next, other_is_next}

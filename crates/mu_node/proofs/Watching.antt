@@ -5,7 +5,7 @@ use Rattle.mu_model.specs.declared.config.Config.{Config}
 use Rattle.mu_model.specs.declared.event.Answer.{Answer}
 use Rattle.mu_model.specs.declared.event.Event.{Event}
 use Rattle.mu_model.specs.declared.event.Verb.{Verb}
-use Rattle.mu_model.proofs.Basics.{event_by}
+use Rattle.mu_model.specs.Histories.{event_by}
 use Rattle.mu_detect.proofs.Peers.{others_kept}
 use Rattle.mu_node.specs.declared.watch.Watch.{Watch}
 use Rattle.mu_node.specs.Watch.{StandsForWatch, is_beat_read}

@@ -12,6 +12,7 @@ use Rattle.mu_model.specs.Allowed.{Allowed}
 use Rattle.mu_model.specs.Contents.{IsConfig}
 use Rattle.mu_model.specs.Parts.{IsPossible}
 use Rattle.mu_model.specs.Stretches.{is_odd}
+use Rattle.mu_model.specs.Histories.{event_by}
 use Rattle.mu_follow.specs.Follow.{commit_of}
 use Rattle.mu_lead.specs.declared.lead.Lead.{Lead}
 use Rattle.mu_lead.specs.declared.note.Note.{Note}
@@ -19,7 +20,6 @@ use Rattle.mu_lead.specs.Standing.{HasHeeded}
 use Rattle.mu_node.specs.declared.node.Node.{Node}
 use Rattle.mu_node.specs.declared.planning.Plan.{Plan}
 use Rattle.mu_node.specs.Due.{FitsLead, IsIdle, lead_due, verb_or_beat}
-use Rattle.mu_node.specs.Events.{event_by}
 use Rattle.mu_node.specs.Journal.{FollowsTurn}
 use Rattle.mu_node.specs.Node.{AwaitsBeside, HasPlanned, HoldsBeside, LivesForNode, StandsAs, StandsForNode}
 use Rattle.mu_node.specs.Notes.{SaysTook, TellsTook}

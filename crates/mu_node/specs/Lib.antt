@@ -2,7 +2,6 @@ pub mod Answering
 pub mod Answers
 pub mod Cycle
 pub mod Due
-pub mod Events
 pub mod Growing
 pub mod Journal
 pub mod Keeping

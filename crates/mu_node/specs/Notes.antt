@@ -6,7 +6,7 @@ use Rattle.mu_model.specs.declared.event.Answer.{Answer}
 use Rattle.mu_model.specs.declared.event.Event.{Event}
 use Rattle.mu_model.specs.declared.event.Verb.{Verb}
 use Rattle.mu_model.specs.Contents.{holds_all}
-use Rattle.mu_model.specs.Histories.{or_zero}
+use Rattle.mu_model.specs.Histories.{or_zero, event_by}
 use Rattle.mu_model.specs.Knowledge.{grown, known}
 use Rattle.mu_model.specs.Leaderships.{proposal_number}
 use Rattle.mu_model.specs.Parts.{IsPossible}
@@ -24,7 +24,6 @@ use Rattle.mu_lead.specs.Notes.{value_committed}
 use Rattle.mu_lead.specs.Noting.{next_note, or_idle}
 use Rattle.mu_lead.specs.Saying.{Says}
 use Rattle.mu_lead.specs.Standing.{known_told}
-use Rattle.mu_node.specs.Events.{event_by}
 use Rattle.mu_node.specs.declared.turn.Turn.{Turn}
 use Rattle.mu_node.specs.declared.zeal.Zeal.{Zeal}
 use Rattle.mu_node.specs.Cycle.{IsMade}

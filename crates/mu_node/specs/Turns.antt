@@ -12,10 +12,10 @@ use Rattle.mu_model.specs.declared.script.Script.{Script}
 use Rattle.mu_model.specs.Diligence.{IsDiligentBy}
 use Rattle.mu_model.specs.Ends.{EndsBy}
 use Rattle.mu_model.specs.Knowledge.{applied, commits}
+use Rattle.mu_model.specs.Histories.{event_by}
 use Rattle.mu_port.specs.Telling.{Tells}
 use Rattle.mu_knowledge.specs.Commits.{pair_of}
 use Rattle.mu_follow.specs.Groups.{AreSpelled, groups_of}
-use Rattle.mu_node.specs.Events.{event_by}
 use Rattle.mu_node.specs.declared.result.NodeResult.{NodeResult}
 use Rattle.mu_node.specs.declared.turn.Turn.{Turn}
 

@@ -11,7 +11,8 @@ use Rattle.mu_model.specs.Knowledge.{commits}
 use Rattle.mu_model.specs.Leaderships.{begins_leadership, is_member, proposal_number}
 use Rattle.mu_model.specs.Steps.{commits_more, is_fencing, is_lagging, is_named, is_over_after, leads}
 use Rattle.mu_model.specs.Stretches.{is_replication}
-use Rattle.mu_model.proofs.Basics.{event_by, true_or, or_true}
+use Rattle.mu_model.proofs.Basics.{true_or, or_true}
+use Rattle.mu_model.specs.Histories.{event_by}
 use Rattle.mu_pace.specs.Away.{AwayIsInTime, EndsStretch, IsAway, IsFresh, LooksBeside, TakesIdleStep}
 use Rattle.mu_pace.specs.Beside.{is_beside}
 use Rattle.mu_pace.specs.Blocking.{is_blocking, is_progress_by}

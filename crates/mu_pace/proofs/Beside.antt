@@ -12,7 +12,7 @@ use Rattle.mu_model.specs.Knowledge.{commits}
 use Rattle.mu_model.specs.Leaderships.{has_begun, is_member}
 use Rattle.mu_model.specs.Steps.{commits_more, is_lagging, is_missed_at}
 use Rattle.mu_model.specs.Stretches.{is_replication}
-use Rattle.mu_model.proofs.Basics.{event_by}
+use Rattle.mu_model.specs.Histories.{event_by}
 use Rattle.mu_pace.specs.Beside.{BesideKeepsRooms, Keeps, KeepsRooms, is_beside}
 use Rattle.mu_pace.specs.Counters.{HasRoom, Watch, allowed_after}
 use Rattle.mu_pace.specs.Watches.{advancing, asking_after, bringing_up, confirming, explaining, falls_behind, is_confirming, is_welcoming, joining, limit, limit_now, progressing, raising}

@@ -9,7 +9,8 @@ use Rattle.mu_model.specs.Diligence.{is_confirmed}
 use Rattle.mu_model.specs.Leaderships.{begins_leadership, has_begun, leaderships}
 use Rattle.mu_model.specs.Steps.{has_min, is_any_fencing, is_min, is_named, named_throughout, replicates}
 use Rattle.mu_model.specs.Stretches.{IsStretch, each_step, is_replication}
-use Rattle.mu_model.proofs.Basics.{event_by, none_some}
+use Rattle.mu_model.proofs.Basics.{none_some}
+use Rattle.mu_model.specs.Histories.{event_by}
 use Rattle.mu_pace.specs.Counters.{AtEachMoment, AtEachStep, IsInTime}
 use Rattle.mu_pace.specs.Keeping.{ConfirmsInTime, HasCauseBy}
 use Rattle.mu_pace.specs.Paces.{AsksHaveCause, ConfirmedBeginInTime}

@@ -8,7 +8,7 @@ use Rattle.mu_model.specs.declared.event.Event.{Event}
 use Rattle.mu_model.specs.declared.event.Verb.{Verb}
 use Rattle.mu_model.specs.Bounds.{Follows, bound, copied, members, stays}
 use Rattle.mu_model.specs.Diligence.{is_milestone}
-use Rattle.mu_model.specs.Histories.{greatest}
+use Rattle.mu_model.specs.Histories.{greatest, event_by}
 use Rattle.mu_model.specs.Knowledge.{commits, grown, is_accepted_by_all, known}
 use Rattle.mu_model.specs.Leaderships.{is_member, leadership}
 use Rattle.mu_model.specs.Placing.{fuo_read_or_raised}
@@ -18,7 +18,6 @@ use Rattle.mu_pace.specs.Blocking.{is_blocking, is_progress_by}
 use Rattle.mu_pace.specs.Counters.{AtEachMoment, IsInTime, paid}
 use Rattle.mu_pace.specs.Paces.{AdvancesComeInTime, FuosAreRaisedInTime, MembersAreBroughtUp, OthersAreAskedAfter, ProgressComesInTime, WelcomedJoinInTime}
 use Rattle.mu_pace.specs.Watches.{asking_after, bringing_up, earns, falls_behind, is_answer_to_welcome, is_brought_up, is_full_raise, is_raise_to_verb, is_welcoming, joining, leaves, limit_now, progressing_by, raising}
-use Rattle.mu_model.proofs.Basics.{event_by}
 use Rattle.mu_pace.proofs.Counting.{allowed_here, allowed_now, shorter}
 use Rattle.mu_pace.proofs.Growing.{earned, greatest_grows, greatest_on, known_grows, member_on, member_stays, stays_less, twice_paid}
 use Rattle.mu_pace.proofs.Hosts.{by_failing}

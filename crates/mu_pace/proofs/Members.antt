@@ -8,9 +8,9 @@ use Rattle.mu_model.specs.declared.event.Answer.{Answer}
 use Rattle.mu_model.specs.declared.event.Event.{Event}
 use Rattle.mu_model.specs.declared.event.Verb.{Verb}
 use Rattle.mu_model.specs.Bounds.{members}
-use Rattle.mu_model.specs.Histories.{count_below, newer_or}
+use Rattle.mu_model.specs.Histories.{count_below, newer_or, event_by}
 use Rattle.mu_model.specs.Leaderships.{grant_at_joining, has_quorum, is_member, majority_of, noted_grant}
-use Rattle.mu_model.proofs.Basics.{event_by, same_number, false_and, and_false}
+use Rattle.mu_model.proofs.Basics.{same_number, false_and, and_false}
 use Rattle.mu_pace.specs.Members.{CountsOfMembers, IsNextMember, members_below, members_from}
 
 -- tests that are the same below n count the same

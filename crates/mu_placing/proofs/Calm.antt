@@ -9,11 +9,11 @@ use Rattle.mu_model.specs.declared.config.Config.{Config}
 use Rattle.mu_model.specs.declared.event.Answer.{Answer}
 use Rattle.mu_model.specs.declared.event.Event.{Event}
 use Rattle.mu_model.specs.declared.event.Verb.{Verb}
-use Rattle.mu_model.specs.Histories.{has, max_with}
+use Rattle.mu_model.specs.Histories.{has, max_with, event_by}
 use Rattle.mu_model.specs.Knowledge.{fills, fuo_read, greatest_fuo_read, grown, is_filled, known, lands_entry, learnt_by}
 use Rattle.mu_model.specs.Leaderships.{begins_leadership, leadership}
 use Rattle.mu_model.specs.Placing.{is_caught_up_at, is_known_put}
-use Rattle.mu_model.proofs.Basics.{event_by, none_some}
+use Rattle.mu_model.proofs.Basics.{none_some}
 use Rattle.mu_placing.specs.FilledLogs.{HoldsCoverage}
 use Rattle.mu_placing.specs.Naming.{region_of_step}
 use Rattle.mu_placing.specs.declared.filled_logs.Coverage.{Coverage}

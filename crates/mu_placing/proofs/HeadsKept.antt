@@ -4,10 +4,10 @@ use Rattle.mu_model.specs.declared.event.Answer.{Answer}
 use Rattle.mu_model.specs.declared.event.Event.{Event}
 use Rattle.mu_model.specs.declared.event.Verb.{Verb}
 use Rattle.mu_model.specs.declared.config.Config.{Config}
+use Rattle.mu_model.specs.Histories.{event_by}
 use Rattle.mu_placing.specs.Heads.{HoldsPeers, StandsForHeads, tells_of_heads, tells_of_peers}
 use Rattle.mu_placing.specs.declared.heads.Heads.{Heads}
 use Rattle.mu_placing.specs.declared.heads.Peer.{Peer}
-use Rattle.mu_model.proofs.Basics.{event_by}
 
 told_by : (c : Config) (r by : ℕ) (verb : Verb) (answer : Answer) (mine : List Event) (state : Heads) → tells_of_peers verb ≡ false → StandsForHeads c r mine state → StandsForHeads c r (event_by by verb answer ∷ mine) state
 told_by c r by (Verb.Ask p) answer mine state none held = cc

@@ -4,10 +4,10 @@ use Rattle.mu_model.specs.declared.config.Config.{Config}
 use Rattle.mu_model.specs.declared.event.Answer.{Answer}
 use Rattle.mu_model.specs.declared.event.Event.{Event}
 use Rattle.mu_model.specs.declared.event.Verb.{Verb}
+use Rattle.mu_model.specs.Histories.{event_by}
 use Rattle.mu_leadership.specs.Bearing.{is_leader_verb}
 use Rattle.mu_placing.specs.FilledLogs.{StandsForFilledLogs}
 use Rattle.mu_placing.specs.declared.filled_logs.FilledLogs.{FilledLogs}
-use Rattle.mu_model.proofs.Basics.{event_by}
 
 kept_by : (c : Config) (r by : ℕ) (verb : Verb) (answer : Answer) (mine : List Event) (state : FilledLogs) → is_leader_verb verb ≡ false → StandsForFilledLogs c r mine state → StandsForFilledLogs c r (event_by by verb answer ∷ mine) state
 kept_by c r by (Verb.Ask p) answer mine state other held = cc

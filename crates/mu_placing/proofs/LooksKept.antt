@@ -4,11 +4,11 @@ use Rattle.mu_model.specs.declared.config.Config.{Config}
 use Rattle.mu_model.specs.declared.event.Answer.{Answer}
 use Rattle.mu_model.specs.declared.event.Event.{Event}
 use Rattle.mu_model.specs.declared.event.Verb.{Verb}
+use Rattle.mu_model.specs.Histories.{event_by}
 use Rattle.mu_leadership.specs.Bearing.{is_leader_verb}
 use Rattle.mu_placing.specs.Looks.{StandsForLooks}
 use Rattle.mu_placing.specs.declared.looks.Looks.{Looks}
 use Rattle.mu_placing.proofs.Tables.{firsts_stay, looks_stay}
-use Rattle.mu_model.proofs.Basics.{event_by}
 
 -- the same with this time
 abbrev pub at_time : Looks → ℕ → Looks

@@ -10,10 +10,10 @@ use Rattle.mu_model.specs.Answers.{drained}
 use Rattle.mu_model.specs.Leaderships.{noted_grant}
 use Rattle.mu_model.specs.Regions.{asks, beats, fence, region_fuo, region_head, region_log, region_min, row_word}
 use Rattle.mu_model.specs.Steps.{is_beat_verb}
+use Rattle.mu_model.specs.Histories.{event_by}
 use Rattle.mu_regions.specs.Range.{is_first, is_read_alone, read_at}
 use Rattle.mu_regions.specs.Stands.{Holds}
 use Rattle.mu_regions.specs.declared.region.Region.{Region}
-use Rattle.mu_model.proofs.Basics.{event_by}
 
 fence_elsewhere : (p by : ℕ) (verb : Verb) (answer : Answer) (past : List Event) → (read_at by verb == p) ≡ false → fence p (event_by by verb answer ∷ past) ≡ fence p past
 fence_elsewhere p by (Verb.Grant w) answer past other = rw other refl

@@ -8,10 +8,10 @@ use Rattle.mu_model.specs.declared.config.Config.{Config}
 use Rattle.mu_model.specs.declared.event.Event.{Event}
 use Rattle.mu_model.specs.declared.event.Answer.{Answer}
 use Rattle.mu_model.specs.declared.event.Verb.{Verb}
-use Rattle.mu_model.specs.Histories.{history, part}
+use Rattle.mu_model.specs.Histories.{history, part, event_by}
 use Rattle.mu_model.specs.Knowledge.{known}
 use Rattle.mu_model.specs.Legal.{IsLegal, IsLegalHistory}
-use Rattle.mu_model.proofs.Basics.{event_by, none_some}
+use Rattle.mu_model.proofs.Basics.{none_some}
 use Rattle.mu_detect.specs.declared.scores.Scores.{Scores}
 use Rattle.mu_lead.specs.declared.lead.Lead.{Lead}
 use Rattle.mu_lead.specs.Beside.{is_beside, leads_at, writes_row}

@@ -1,8 +1,8 @@
 use Rattle.std.proofs.Common.{refl, subst, ◌∷◌}
 use Rattle.mu_lead.specs.Stepping.{IsWritten}
 use Rattle.mu_leadership.specs.Leadership.{StandsForLeadership}
-use Rattle.mu_model.proofs.Basics.{event_by}
 use Rattle.mu_model.specs.declared.event.Verb.{Verb}
+use Rattle.mu_model.specs.Histories.{event_by}
 use Rattle.mu_lead.proofs.recording.write_up.Goals as goal
 
 pub returns-in-PutSlot-Done : goal.returns-in-PutSlot-Done

@@ -1,6 +1,7 @@
 use Rattle.std.proofs.Common.{◌≡◌, ◌∙◌, ◌∷◌, ap, subst, sym, true}
 use Rattle.mu_model.specs.Parts.{IsPossible}
 use Rattle.mu_model.proofs.Basics.{same_some}
+use Rattle.mu_model.specs.Histories.{event_by}
 use Rattle.mu_follow.specs.Follow.{StandsForFollow}
 use Rattle.mu_lead.specs.declared.lead.Lead.{Lead}
 use Rattle.mu_lead.specs.Ahead.{IsAhead, ahead_event, ahead_verb}
@@ -20,7 +21,6 @@ use Rattle.mu_node.specs.Journal.{IsListed}
 use Rattle.mu_node.proofs.Answering.{answers_stay}
 use Rattle.mu_node.proofs.Leading.{leads_on}
 use Rattle.mu_node.proofs.Leads.{beside_commits_none, beside_lead, lead_ahead, lead_stays}
-use Rattle.mu_node.specs.Events.{event_by}
 use Rattle.mu_node.proofs.Pacing.{even_paces, kept_other, paces_ahead, paces_other, writes_even}
 use Rattle.mu_node.proofs.node.Node.note_other.Goals as goal
 

@@ -13,7 +13,6 @@ use Rattle.mu_node.specs.Reads.{IsReadNext}
 use Rattle.mu_node.specs.Cycle.{IsBackgroundDue, IsCycleDue, IsMade}
 use Rattle.mu_node.specs.Notes.{MovesGoing, SaysTook, TellsNote, TellsTook}
 use Rattle.mu_node.proofs.AskedAgain.{asks_parts, follows_asked, made_asked, moves_asked, tells_asked}
-use Rattle.mu_node.specs.Events.{event_by}
 use Rattle.mu_node.proofs.Moving.{as_far, in_full, moved, possible_own, to_own, to_port}
 use Rattle.std.specs.Prelude.{if◌then◌else◌, is_some}
 use Rattle.std.specs.declared.option.Option.{Option}
@@ -23,6 +22,7 @@ use Rattle.mu_model.specs.declared.event.Answer.{Answer}
 use Rattle.mu_model.specs.declared.event.Event.{Event}
 use Rattle.mu_model.specs.Allowed.{Allowed}
 use Rattle.mu_model.specs.Stretches.{is_odd}
+use Rattle.mu_model.specs.Histories.{event_by}
 use Rattle.mu_lead.specs.Beside.{leads_at}
 use Rattle.mu_node.specs.declared.node.Node.{Node}
 use Rattle.mu_node.specs.Plans.{due_of}

@@ -4,6 +4,7 @@ use Rattle.mu_model.specs.Contents.{IsConfig}
 use Rattle.mu_model.specs.Knowledge.{grown, known}
 use Rattle.mu_model.specs.Parts.{IsPossible}
 use Rattle.mu_model.proofs.Basics.{none_some, same_some}
+use Rattle.mu_model.specs.Histories.{event_by}
 use Rattle.mu_knowledge.specs.KnownLog.{HoldsValues}
 use Rattle.mu_lead.specs.declared.lead.Lead.{Lead}
 use Rattle.mu_lead.specs.Going.{begins_at, going_after}
@@ -22,7 +23,6 @@ use Rattle.mu_node.proofs.Leading.{due_leads_on}
 use Rattle.mu_lead.specs.Lasting.{tables_of}
 use Rattle.mu_node.specs.Notes.{note_at}
 use Rattle.mu_node.proofs.Leads.{lead_noted, lead_says, lead_takes, lead_tells, led_beside, led_log, led_told}
-use Rattle.mu_node.specs.Events.{event_by}
 use Rattle.mu_node.proofs.Pacing.{TakesPaces, kept_led, led_paces, paces_led}
 use Rattle.mu_node.proofs.node.Node.take_led.Goals as goal
 

@@ -1,13 +1,13 @@
 use Rattle.std.proofs.Common.{◌∙◌, ◌∷◌, ◌≡◌, false, refl, subst, sym, true}
 use Rattle.std.proofs.lemmas.Bool.{true≢false}
 use Rattle.mu_model.specs.Parts.{IsPossible}
+use Rattle.mu_model.specs.Histories.{event_by}
 use Rattle.mu_node.specs.Plans.{due_of}
 use Rattle.mu_node.specs.Due.{FitsLead, IsIdle}
 use Rattle.mu_node.specs.Journal.{FollowsTurn}
 use Rattle.mu_node.specs.Node.{HasPlanned, StandsAs}
 use Rattle.mu_node.specs.Reads.{IsReadNext}
 use Rattle.mu_node.proofs.Leads.{fits_led, fits_other, says_led, some_made, tells_led}
-use Rattle.mu_node.specs.Events.{event_by}
 use Rattle.mu_node.proofs.node.Node.took.Goals as goal
 
 pub took_led-requires : goal.took_led-requires

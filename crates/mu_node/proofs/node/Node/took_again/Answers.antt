@@ -17,6 +17,7 @@ use Rattle.mu_node.specs.Due.{is_eager}
 use Rattle.mu_node.specs.Journal.{IsListed}
 use Rattle.mu_model.specs.Again.{asks_again}
 use Rattle.mu_model.specs.Steps.{is_named}
+use Rattle.mu_model.specs.Histories.{event_by}
 use Rattle.mu_node.specs.Node.{IsGone, StandsForLead}
 use Rattle.mu_node.specs.Notes.{note_at}
 use Rattle.mu_node.specs.Paced.{HasGone, HasPaces}
@@ -24,7 +25,6 @@ use Rattle.mu_node.proofs.Answering.{answers_stay}
 use Rattle.mu_node.proofs.AskedAgain.{asked_due, going_asked, kept_asked, odd_handed, paces_asked}
 use Rattle.mu_node.proofs.Leading.{due_leads_on}
 use Rattle.mu_node.proofs.Leads.{beside_lead, lead_noted, lead_takes, led_log, led_told}
-use Rattle.mu_node.specs.Events.{event_by}
 use Rattle.mu_node.proofs.node.Node.took_again.Goals as goal
 
 pub returns-clause-stands : goal.returns-clause-stands

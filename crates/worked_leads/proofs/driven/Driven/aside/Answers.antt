@@ -1,6 +1,5 @@
 use Rattle.std.proofs.Common.{◌∙◌, refl, subst, sym}
-use Rattle.mu_model.specs.Histories.{history}
-use Rattle.mu_model.proofs.Basics.{event_by}
+use Rattle.mu_model.specs.Histories.{history, event_by}
 use Rattle.worked_leads.specs.Driven.{Drives}
 use Rattle.worked_leads.proofs.Driving.{history_after, legal_after}
 use Rattle.worked_leads.proofs.driven.Driven.aside.Goals as goal

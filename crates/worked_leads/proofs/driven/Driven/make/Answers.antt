@@ -1,8 +1,8 @@
 use Rattle.std.proofs.Common.{◌∙◌, subst, sym}
-use Rattle.mu_model.proofs.Basics.{event_by}
 use Rattle.worked_leads.specs.Driven.{Drives}
 use Rattle.worked_leads.proofs.Driving.{history_after, legal_after}
 use Rattle.worked_leads.proofs.driven.Driven.make.Goals as goal
+use Rattle.mu_model.specs.Histories.{event_by}
 
 pub take_put-note-requires : goal.take_put-note-requires
 take_put-note-requires g c =

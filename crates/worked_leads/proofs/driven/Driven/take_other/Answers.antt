@@ -1,7 +1,6 @@
 use Rattle.std.proofs.Common.{◌∙◌, ◌∷◌, ap, subst, sym}
-use Rattle.mu_model.specs.Histories.{part}
+use Rattle.mu_model.specs.Histories.{part, event_by}
 use Rattle.mu_model.specs.Knowledge.{known}
-use Rattle.mu_model.proofs.Basics.{event_by}
 use Rattle.mu_knowledge.specs.KnownLog.{HoldsValues}
 use Rattle.mu_lead.specs.Standing.{StandsFor}
 use Rattle.worked_leads.proofs.Driving.{beside_same, told_other}
