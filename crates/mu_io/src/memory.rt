@@ -1,7 +1,7 @@
 //! A source and a sink in memory, which fail at the calls that they are told.
-ghost use Rattle.std.specs.Prelude.{◌≡◌, ◌+◌, ◌-◌, ◌<◌, ◌≤◌, ◌↔◌, ◌⊎◌, ◌++◌, [], Some, Contains, IsTrue, IsErr, IfOk, OnOk, OnErr, length, take, drop, min, vec_len};
-ghost use Rattle.std.specs.Io.KnownBytes.{Appends, Consumes, IsAtEnd, Keeps};
-ghost use Rattle.mu_io.specs.Faults.{Rose, one_more};
+ghost use Rattle.std.specs.Prelude.{◌≡◌, ◌+◌, ◌-◌, ◌<◌, ◌≤◌, ◌↔◌, ◌⊎◌, ◌++◌, [], Some, Contains, IsTrue, IsErr, IfOk, OnErr, length, take, drop, min, vec_len};
+ghost use Rattle.mu_io.specs.Faults.{one_more};
+ghost use Rattle.mu_io.specs.Streams.{Reads, Writes};
 
 use crate::streams::fault;
 use crate::{Failed, Sink, Source};
@@ -87,15 +87,8 @@ impl Source for MemSource {
             }) }
 
         // What any source promises.
-        ensures at_most { IfOk result (λ k. k ≤ length into.new) }
-        ensures bytes { IfOk result (λ k.
-            Consumes (Some self.old.left) (Some self.new.left) (take k into.new)) }
-        ensures end { IfOk result (λ k.
-            k ≡ 0 → 0 < length into.old → IsAtEnd (Some self.old.left)) }
-        ensures same_faults { OnOk result (self.new.faults ≡ self.old.faults) }
-        ensures failed { OnErr result (Rose self.old.faults self.new.faults) }
-        ensures kept { OnErr result (Keeps (Some self.old.left) (Some self.new.left)) }
-        ensures never_falls { self.old.faults ≤ self.new.faults }
+        ensures reads { Reads result (Some self.old.left) (Some self.new.left) into.old into.new
+            self.old.faults self.new.faults }
     {
         self.calls = self.calls.saturating_add(1);
         if is_listed(&self.fails, self.calls) {
@@ -198,14 +191,8 @@ impl Sink for MemSink {
             }) }
 
         // What any sink promises.
-        ensures at_most { IfOk result (λ k. k ≤ length from.now) }
-        ensures some { IfOk result (λ k. 0 < length from.now → 0 < k) }
-        ensures bytes { IfOk result (λ k.
-            Appends (Some self.old.written) (Some self.new.written) (take k from.now)) }
-        ensures same_faults { OnOk result (self.new.faults ≡ self.old.faults) }
-        ensures failed { OnErr result (Rose self.old.faults self.new.faults) }
-        ensures kept { OnErr result (Keeps (Some self.old.written) (Some self.new.written)) }
-        ensures never_falls { self.old.faults ≤ self.new.faults }
+        ensures writes { Writes result (Some self.old.written) (Some self.new.written) from.now
+            self.old.faults self.new.faults }
     {
         self.calls = self.calls.saturating_add(1);
         let free = self.room.len() - self.filled;

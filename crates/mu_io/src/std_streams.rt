@@ -1,7 +1,7 @@
 //! The readers and writers of `std` as a source and a sink: the edge of what is proved.
-ghost use Rattle.std.specs.Prelude.{◌≡◌, ◌<◌, ◌≤◌, length, take, IfOk, OnOk, OnErr};
-ghost use Rattle.std.specs.Io.KnownBytes.{Appends, Consumes, IsAtEnd, Keeps};
-ghost use Rattle.mu_io.specs.Faults.{Rose, one_more};
+ghost use Rattle.std.specs.Prelude.{◌≡◌, OnErr};
+ghost use Rattle.mu_io.specs.Faults.{one_more};
+ghost use Rattle.mu_io.specs.Streams.{Reads, Writes};
 
 use crate::streams::fault;
 use crate::{Failed, Sink, Source};
@@ -42,16 +42,9 @@ impl<I: Read> Source for StdSource<I> {
     /// One read of the reader. Each error of it is a fault: an interrupted read too, and an end
     /// that comes as an error.
     fn read(&mut self, into: &mut [u8]) -> Result<usize, Failed>
-        ensures at_most { IfOk result (λ k. k ≤ length into.new) }
-        ensures bytes { IfOk result
-            (λ k. Consumes (I.remaining self.old.0) (I.remaining self.new.0) (take k into.new)) }
-        ensures end { IfOk result
-            (λ k. k ≡ 0 → 0 < length into.old → IsAtEnd (I.remaining self.old.0)) }
-        ensures same_faults { OnOk result (self.new.1 ≡ self.old.1) }
         ensures counted { OnErr result (self.new.1 ≡ one_more self.old.1) }
-        ensures failed { OnErr result (Rose self.old.1 self.new.1) }
-        ensures kept { OnErr result (Keeps (I.remaining self.old.0) (I.remaining self.new.0)) }
-        ensures never_falls { self.old.1 ≤ self.new.1 }
+        ensures reads { Reads result (I.remaining self.old.0) (I.remaining self.new.0)
+            into.old into.new self.old.1 self.new.1 }
     {
         match self.input.read(into) {
             Ok(count) => Ok(count),
@@ -106,15 +99,9 @@ impl<O: Write> Sink for StdSink<O> {
     /// One write of the writer. Each error of it is a fault, and so is a write that takes nothing
     /// of a piece that has bytes.
     fn write(&mut self, from: &[u8]) -> Result<usize, Failed>
-        ensures at_most { IfOk result (λ k. k ≤ length from.now) }
-        ensures some { IfOk result (λ k. 0 < length from.now → 0 < k) }
-        ensures bytes { IfOk result
-            (λ k. Appends (O.contents self.old.0) (O.contents self.new.0) (take k from.now)) }
-        ensures same_faults { OnOk result (self.new.1 ≡ self.old.1) }
         ensures counted { OnErr result (self.new.1 ≡ one_more self.old.1) }
-        ensures failed { OnErr result (Rose self.old.1 self.new.1) }
-        ensures kept { OnErr result (Keeps (O.contents self.old.0) (O.contents self.new.0)) }
-        ensures never_falls { self.old.1 ≤ self.new.1 }
+        ensures writes { Writes result (O.contents self.old.0) (O.contents self.new.0) from.now
+            self.old.1 self.new.1 }
     {
         match self.output.write(from) {
             Ok(count) if count > 0 || from.is_empty() => Ok(count),

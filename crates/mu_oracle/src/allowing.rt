@@ -14,21 +14,17 @@ use crate::hosting::{
 use crate::knowledge::{are_filled, known_length};
 use crate::leadership::{grant_noted, has_asked, has_ended};
 use crate::placing::{has_reached, may_put_slot};
+use crate::walks::newest_of;
 use mu_model::{Config, Event, Fence, PAYLOADS, Verb, count_of_rows, reserve_of, row_word};
 
 /// The region that was asked last.
 fn asked_last(r: u8, part: &[Event]) -> Option<u8>
     ensures { result ≡ newest (λ e. last_ask r e.by e.verb) (history part.now) }
 {
-    let mut last: Option<u8> = None;
-    for e in part {
-        if let Verb::Ask(p) = e.verb {
-            if e.by == r {
-                last = Some(p);
-            }
-        }
-    }
-    last
+    newest_of(part, |e| match e.verb {
+        Verb::Ask(p) if e.by == r => Some(p),
+        _ => None,
+    })
 }
 
 /// Whether `i` is a position.

@@ -5,7 +5,10 @@ ghost use Rattle.mu_model.specs.Answers.{answer_of, drained};
 ghost use Rattle.mu_model.specs.Histories.{history};
 ghost use Rattle.mu_model.specs.Regions.{asks, beats, fence, fence_grant, region_fuo, region_head, region_log, region_min, row_word};
 
+use crate::hosting::{drains, is_closing, is_granting, owner_of};
 use crate::leadership::grant_noted;
+use crate::placing::is_entering;
+use crate::walks::{count_of, events_since, greatest_of, newest_of, some_event};
 use mu_model::{Answer, Config, Event, Fence, PAYLOADS, Target, Verb};
 
 /// The fence of `p`.
@@ -13,126 +16,77 @@ fn fence_of(p: u8, events: &[Event]) -> Fence
     requires { fence_grant p (history events.now) < 2 ^ 32 }
     ensures { result ≡ fence p (history events.now) }
 {
-    let mut fence = Fence {
-        owner: None,
-        grant: 0,
-        closing: false,
-        target: Target::None,
-    };
-    for e in events {
-        match (e.verb, e.answer) {
-            (Verb::Grant(w), _) => {
-                if e.by == p {
-                    fence.owner = Some(w);
-                    fence.grant = fence.grant.saturating_add(1);
-                    fence.closing = false;
-                    fence.target = Target::None;
-                }
-            }
-            (Verb::Close, _) => {
-                if e.by == p {
-                    fence.closing = true;
-                }
-            }
-            (Verb::Enter(q, t), Answer::Entered) => {
-                if q == p {
-                    fence.target = t;
-                }
-            }
-            _ => {}
-        }
+    let since_grant = events_since(events, |e| is_granting(p, e));
+    let target = newest_of(since_grant, |e| match (e.verb, e.answer) {
+        (Verb::Enter(q, t), Answer::Entered) if q == p => Some(t),
+        _ => None,
+    });
+    Fence {
+        owner: owner_of(p, events),
+        grant: count_of(events, |e| is_granting(p, e)) as u32,
+        closing: is_closing(p, events),
+        target: target.unwrap_or(Target::None),
     }
-    fence
 }
 
 /// The minimum of `p`.
 fn minimum_of(p: u8, events: &[Event]) -> u32
     ensures { result ≡ region_min p (history events.now) }
 {
-    let mut minimum = 0;
-    for e in events {
-        if let (Verb::PutMin(q, b), Answer::Done) = (e.verb, e.answer) {
-            if q == p {
-                minimum = b;
-            }
-        }
-    }
-    minimum
+    newest_of(events, |e| match (e.verb, e.answer) {
+        (Verb::PutMin(q, b), Answer::Done) if q == p => Some(b),
+        _ => None,
+    })
+    .unwrap_or(0)
 }
 
 /// The FUO of `p`.
-fn fuo_of(p: u8, events: &[Event]) -> u16
+fn fuo_of(p: u8, events: &[Event]) -> u64
     ensures { result ≡ region_fuo p (history events.now) }
 {
-    let mut fuo: u16 = 0;
-    for e in events {
-        if let Verb::RaiseFuo(q, u) = e.verb {
-            if q == p {
-                fuo = fuo.max(u);
-            }
-        }
-    }
-    fuo
+    greatest_of(events, |e| match e.verb {
+        Verb::RaiseFuo(q, u) if q == p => Some(u64::from(u)),
+        _ => None,
+    })
 }
 
 /// The head of `p`.
-fn head_of(p: u8, events: &[Event]) -> u16
+fn head_of(p: u8, events: &[Event]) -> u64
     ensures { result ≡ region_head p (history events.now) }
 {
-    let mut head: u16 = 0;
-    for e in events {
-        if let Verb::RaiseHead(h) = e.verb {
-            if e.by == p {
-                head = head.max(h);
-            }
-        }
-    }
-    head
+    greatest_of(events, |e| match e.verb {
+        Verb::RaiseHead(h) if e.by == p => Some(u64::from(h)),
+        _ => None,
+    })
 }
 
 /// How many beats `q` made.
 fn beats_of(q: u8, events: &[Event]) -> u64
     ensures { result ≡ beats q (history events.now) }
 {
-    let mut count: u64 = 0;
-    for e in events {
-        if let Verb::Beat = e.verb {
-            if e.by == q {
-                count += 1;
-            }
-        }
-    }
-    count
+    count_of(events, |e| matches!(e.verb, Verb::Beat if e.by == q))
 }
 
 /// How often `w` asked `p`.
 fn asks_of(w: u8, p: u8, events: &[Event]) -> u64
     ensures { result ≡ asks w p (history events.now) }
 {
-    let mut count: u64 = 0;
-    for e in events {
-        if let Verb::Ask(q) = e.verb {
-            if e.by == w && q == p {
-                count += 1;
-            }
-        }
-    }
-    count
+    count_of(
+        events,
+        |e| matches!(e.verb, Verb::Ask(q) if e.by == w && q == p),
+    )
 }
 
 /// Word `k` of the row of the payload number `v`.
 fn word_of(v: u16, k: u8, events: &[Event]) -> u64
     ensures { result ≡ row_word v k (history events.now) }
 {
-    let mut word = 0;
-    for e in events {
-        if let Verb::WriteRow(row, l, x) = e.verb {
-            if u16::from(e.by) == v / PAYLOADS && row == v % PAYLOADS && l == k {
-                word = x;
-            }
-        }
-    }
-    word
+    newest_of(events, |e| match e.verb {
+        Verb::WriteRow(row, l, x)
+            if u16::from(e.by) == v / PAYLOADS && row == v % PAYLOADS && l == k => Some(x),
+        _ => None,
+    })
+    .unwrap_or(0)
 }
 
 /// How long the log of `p` is.
@@ -192,23 +146,10 @@ fn entry_at(p: u8, i: u16, events: &[Event]) -> Option<(u32, u16)>
 fn is_drained(r: u8, p: u8, events: &[Event]) -> bool
     ensures { result ≡ drained r p (history events.now) }
 {
-    let mut drained = false;
-    for e in events {
-        match e.verb {
-            Verb::Enter(q, _) => {
-                if e.by == r && q == p {
-                    drained = false;
-                }
-            }
-            Verb::Drain => {
-                if e.by == p {
-                    drained = true;
-                }
-            }
-            _ => {}
-        }
-    }
-    drained
+    some_event(
+        events_since(events, |e| is_entering(r, p, e)),
+        |e| drains(p, e),
+    )
 }
 
 /// What the replica `by` is answered to `verb` after `events`, if each region was granted fewer
@@ -244,8 +185,8 @@ pub fn answers(config: &Config, events: &[Event], by: u8, verb: &Verb) -> Answer
                 }
             }
         }
-        Verb::Fuo(p) => Answer::Number(u64::from(fuo_of(p, events))),
-        Verb::Head(q) => Answer::Number(u64::from(head_of(q, events))),
+        Verb::Fuo(p) => Answer::Number(fuo_of(p, events)),
+        Verb::Head(q) => Answer::Number(head_of(q, events)),
         Verb::ReadBeat(q) => Answer::Number(beats_of(q, events)),
         Verb::ReadRow(v, k) => Answer::Number(word_of(v, k, events)),
         Verb::ReadAsk(w) => Answer::Number(asks_of(w, by, events)),

@@ -1,13 +1,14 @@
 //! When a replica may enter a region, and when it may put its minimum.
 ghost use Rattle.std.specs.Prelude.{IsTrue, ℕ, ◌%◌, ◌+◌, ◌<◌, ◌↔◌, ◌≡◌, ◌≤◌, ◌⊎◌};
 ghost use Rattle.mu_model.specs.Allowed.{Needs};
-ghost use Rattle.mu_model.specs.Entering.{any_min_read, has_confirmed_majority, has_read_min, min_read, min_read_under, number_allowed, open_target};
+ghost use Rattle.mu_model.specs.Entering.{any_min_read, enter_open, has_confirmed_majority, has_read_min, min_read, min_read_under, number_allowed, open_target};
 ghost use Rattle.mu_model.specs.Histories.{count_below, greatest, history, newest, or_zero};
 ghost use Rattle.mu_model.specs.Leaderships.{leadership, number_put, proposal_number};
 ghost use Rattle.mu_model.specs.Points.{AreMet, enters};
 ghost use Rattle.mu_model.specs.declared.event.Verb.{Verb as SomeVerb};
 
-use crate::leadership::{grant_noted, has_ended, is_in, proposal_of, starts_leadership};
+use crate::leadership::{grant_noted, has_ended, is_in, leadership_of, proposal_of};
+use crate::walks::{count_under, greatest_of, newest_of};
 use mu_model::{Answer, Config, Event, Fence, Target, Verb, majority};
 
 /// Whether a `Min(p)` was answered since the first `Fence(p)` answer with the grant `g`.
@@ -48,13 +49,7 @@ fn has_read_minimum(r: u8, p: u8, part: &[Event]) -> bool
 fn minimums_read(n: u8, r: u8, part: &[Event]) -> u8
     ensures { result ≡ count_below n (λ p. has_read_min r p (history part.now)) }
 {
-    let mut count: u8 = 0;
-    for p in 0..n {
-        if has_read_minimum(r, p, part) {
-            count += 1;
-        }
-    }
-    count
+    count_under(n, |p| has_read_minimum(r, p, part))
 }
 
 /// Whether the regions whose minimum `r` read are a majority with its own.
@@ -81,32 +76,23 @@ pub fn may_enter(config: &Config, r: u8, part: &[Event], p: u8, target: Target) 
     }
 }
 
+/// What the event does to what `r` has entered at `p`.
+pub fn opening(r: u8, p: u8, e: &Event) -> Option<Target>
+    ensures { result ≡ enter_open r p e.now.by e.now.verb e.now.answer }
+{
+    match (e.verb, e.answer) {
+        (Verb::Enter(q, t), Answer::Entered) if e.by == r && q == p => Some(t),
+        (Verb::Enter(q, _) | Verb::PutMin(q, _) | Verb::PutSlot(q, _, _, _), _)
+            if e.by == r && q == p => Some(Target::None),
+        _ => None,
+    }
+}
+
 /// The target that `r` has entered `p` with in its leadership and not put yet.
 fn entered_target(r: u8, p: u8, part: &[Event]) -> Option<Target>
     ensures { result ≡ open_target r p (history part.now) }
 {
-    let mut open: Option<Target> = None;
-    for e in part {
-        if starts_leadership(r, e) {
-            open = None;
-        } else {
-            match (e.verb, e.answer) {
-                (Verb::Enter(q, t), Answer::Entered) => {
-                    if e.by == r && q == p {
-                        open = Some(t);
-                    }
-                }
-                (Verb::Enter(q, _), _) | (Verb::PutMin(q, _), _) | (Verb::PutSlot(q, _, _, _), _) =>
-                    {
-                        if e.by == r && q == p {
-                            open = Some(Target::None);
-                        }
-                    }
-                _ => {}
-            }
-        }
-    }
-    open
+    newest_of(leadership_of(r, part), |e| opening(r, p, e))
 }
 
 /// The last answer of `Min(p)`.
@@ -114,15 +100,11 @@ fn last_minimum_read(r: u8, p: u8, part: &[Event]) -> u64
     ensures { result
         ≡ or_zero (newest (λ e. min_read r p e.by e.verb e.answer) (history part.now)) }
 {
-    let mut read = 0;
-    for e in part {
-        if let (Verb::Min(q), Answer::Number(x)) = (e.verb, e.answer) {
-            if e.by == r && q == p {
-                read = x;
-            }
-        }
-    }
-    read
+    newest_of(part, |e| match (e.verb, e.answer) {
+        (Verb::Min(q), Answer::Number(x)) if e.by == r && q == p => Some(x),
+        _ => None,
+    })
+    .unwrap_or(0)
 }
 
 /// The greatest answer of a `Min` of the leadership.
@@ -130,46 +112,34 @@ fn greatest_minimum_read(r: u8, part: &[Event]) -> u64
     ensures { result
         ≡ greatest (λ e. any_min_read r e.by e.verb e.answer) (leadership r (history part.now)) }
 {
-    let mut read: u64 = 0;
-    for e in part {
-        if starts_leadership(r, e) {
-            read = 0;
-        } else if let (Verb::Min(_), Answer::Number(x)) = (e.verb, e.answer) {
-            if e.by == r {
-                read = read.max(x);
-            }
-        }
-    }
-    read
+    greatest_of(leadership_of(r, part), |e| match (e.verb, e.answer) {
+        (Verb::Min(_), Answer::Number(x)) if e.by == r => Some(x),
+        _ => None,
+    })
 }
 
 /// The greatest number that `r` put.
-fn greatest_number_put(r: u8, part: &[Event]) -> u32
+fn greatest_number_put(r: u8, part: &[Event]) -> u64
     ensures { result ≡ greatest (λ e. number_put r e.by e.verb) (history part.now) }
 {
-    let mut put: u32 = 0;
-    for e in part {
-        if let Verb::PutMin(_, b) = e.verb {
-            if e.by == r {
-                put = put.max(b);
-            }
-        }
-    }
-    put
+    greatest_of(part, |e| match e.verb {
+        Verb::PutMin(_, b) if e.by == r => Some(u64::from(b)),
+        _ => None,
+    })
 }
 
 /// Whether the number 8 below `b` is too small.
-fn is_next(b: u32, read: u64, put: u32) -> bool
+fn is_next(b: u64, read: u64, put: u64) -> bool
     ensures { IsTrue result ↔ ((b < 16) ⊎ ((b ≤ read + 8) ⊎ (b ≤ put + 8))) }
 {
-    b < 16 || u64::from(b) - 8 <= read || b - 8 <= put
+    b < 16 || b - 8 <= read || b - 8 <= put
 }
 
 /// Whether `b` is a number of `r` above two others.
-fn is_own_above(b: u32, r: u8, read: u64, put: u32) -> bool
+fn is_own_above(b: u64, r: u8, read: u64, put: u64) -> bool
     ensures { IsTrue result ↔ ((b % 8 ≡ r) × (8 ≤ b) × (read < b) × (put < b)) }
 {
-    b % 8 == u32::from(r) && 8 <= b && read < u64::from(b) && put < b
+    b % 8 == u64::from(r) && 8 <= b && read < b && put < b
 }
 
 /// Whether both hold.
@@ -180,7 +150,7 @@ fn both(own: bool, next: bool) -> bool
 }
 
 /// Whether `b` is the least number of `r` above two others.
-fn is_least_number(b: u32, r: u8, read: u64, put: u32) -> bool
+fn is_least_number(b: u64, r: u8, read: u64, put: u64) -> bool
     ensures { IsTrue result
         ↔ ((b % 8 ≡ r) × (8 ≤ b) × (read < b) × (put < b)
         × ((n : ℕ) → n % 8 ≡ r → 8 ≤ n → read < n → put < n → b ≤ n)) }
@@ -198,7 +168,7 @@ fn may_take_number(r: u8, part: &[Event], b: u32) -> bool
     match proposal_of(r, part) {
         Some(first) => b == first,
         None => is_least_number(
-            b,
+            u64::from(b),
             r,
             greatest_minimum_read(r, part),
             greatest_number_put(r, part),

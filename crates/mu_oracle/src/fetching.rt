@@ -1,87 +1,56 @@
 //! Which rows a replica has written or read, and what it has applied.
 ghost use Rattle.std.specs.Prelude.{List, [], length, ℕ, ◌%◌, ◌&&◌, ◌++◌, ◌+◌, ◌/◌, ◌<◌, ◌==◌, ◌^◌, ◌||◌, ◌∷◌, ◌≡◌, ◌≤◌};
 ghost use Rattle.mu_model.specs.Histories.{all_below, has, history};
-ghost use Rattle.mu_model.specs.Knowledge.{applied, fetched_prefix, front, has_entry, has_row, is_read, wrote, wrote_batch};
+ghost use Rattle.mu_model.specs.Knowledge.{applied, fetched_prefix, front, has_entry, has_row, has_word, is_read, wrote, wrote_batch};
 
 use crate::knowledge::learnt;
+use crate::walks::{all_under, all_up_to, some_event};
 use mu_model::{Config, Event, PAYLOADS, Verb, row_rest, stands_for_batch};
 
 /// Whether `r` wrote word `k` of its row `j`.
 pub fn has_written(r: u8, j: u64, k: u8, part: &[Event]) -> bool
     ensures { result ≡ wrote r j k (history part.now) }
 {
-    let mut written = false;
-    for e in part {
-        if let Verb::WriteRow(row, word, _) = e.verb {
-            if e.by == r && u64::from(row) == j && word == k {
-                written = true;
-            }
-        }
-    }
-    written
+    some_event(part, |e| match e.verb {
+        Verb::WriteRow(row, word, _) => e.by == r && u64::from(row) == j && word == k,
+        _ => false,
+    })
 }
 
 /// Whether `r` read word `k` of the row of `v`.
 fn has_read(r: u8, v: u64, k: u8, part: &[Event]) -> bool
     ensures { result ≡ has (λ e. is_read r v k e.by e.verb) (history part.now) }
 {
-    let mut read = false;
-    for e in part {
-        if let Verb::ReadRow(w, word) = e.verb {
-            if e.by == r && u64::from(w) == v && word == k {
-                read = true;
-            }
-        }
-    }
-    read
+    some_event(part, |e| match e.verb {
+        Verb::ReadRow(w, word) => e.by == r && u64::from(w) == v && word == k,
+        _ => false,
+    })
 }
 
-/// Whether `r` wrote all words of its row `j`.
-fn wrote_row(r: u8, j: u64, part: &[Event]) -> bool
-    ensures { result ≡ all_below 12 (λ k. wrote r j k (history part.now)) }
+/// Whether `r` wrote the first `n` words of its row `j`.
+fn wrote_below(n: u8, r: u8, j: u64, part: &[Event]) -> bool
+    ensures { result ≡ all_below n (λ k. wrote r j k (history part.now)) }
 {
-    let mut all = true;
-    for k in 0..12 {
-        all = has_written(r, j, k, part) && all;
-    }
-    all
+    all_under(n, |k| has_written(r, j, k, part))
 }
 
 /// Whether `r` wrote or read the first `n` words of the row of `v`.
 fn has_words_below(n: u8, r: u8, v: u64, part: &[Event]) -> bool
-    requires { n ≤ 12 }
-    ensures { result
-        ≡ all_below n
-        (λ k. (v / 4096 == r) && wrote r (v % 4096) k (history part.now)
-        || has (λ e. is_read r v k e.by e.verb) (history part.now)) }
+    ensures { result ≡ all_below n (λ k. has_word r v k (history part.now)) }
 {
-    let mut all = true;
-    for k in 0..n {
-        all = ((v / 4096 == u64::from(r) && has_written(r, v % 4096, k, part))
-            || has_read(r, v, k, part))
-            && all;
-    }
-    all
-}
-
-/// Whether `r` wrote or read all words of the row of `v`.
-fn has_whole_row(r: u8, v: u64, part: &[Event]) -> bool
-    ensures { result ≡ has_row r v (history part.now) }
-{
-    has_words_below(12, r, v, part)
+    all_under(n, |k| {
+        (v / 4096 == u64::from(r) && has_written(r, v % 4096, k, part)) || has_read(r, v, k, part)
+    })
 }
 
 /// Whether `r` has the `n` rows from that of `v` on.
-#[tactic(auto, using(mu_model::proofs::Scans::all_more))]
-fn has_rows(n: u64, r: u8, v: u16, part: &[Event]) -> bool
-    requires { n ≤ 256 }
+fn has_rows(n: u16, r: u8, v: u16, part: &[Event]) -> bool
     ensures { result ≡ all_below n (λ t. has_row r (v + t) (history part.now)) }
 {
-    let mut all = true;
-    for t in 0..n {
-        all = has_whole_row(r, u64::from(v) + t, part) && all;
-    }
-    all
+    all_up_to(
+        n,
+        |t| has_words_below(12, r, u64::from(v) + u64::from(t), part),
+    )
 }
 
 /// Whether `r` has all rows of the entry `v`.
@@ -89,26 +58,18 @@ fn has_whole_entry(config: &Config, r: u8, v: u16, part: &[Event]) -> bool
     ensures { result ≡ has_entry config.now r v (history part.now) }
 {
     !stands_for_batch(config, v)
-        || has_rows(u64::from(row_rest(config, v % PAYLOADS)) + 1, r, v, part)
-}
-
-/// Whether `r` wrote `n` of its rows from row `j` on.
-fn wrote_rows(n: u64, r: u8, j: u16, part: &[Event]) -> bool
-    requires { n ≤ 256 }
-    ensures { result ≡ all_below n (λ t. all_below 12 (λ k. wrote r (j + t) k (history part.now))) }
-{
-    let mut all = true;
-    for t in 0..n {
-        all = wrote_row(r, u64::from(j) + t, part) && all;
-    }
-    all
+        || has_rows(u16::from(row_rest(config, v % PAYLOADS)) + 1, r, v, part)
 }
 
 /// Whether `r` wrote all rows of the batch that begins with its row `j`.
 pub fn has_written_batch(config: &Config, r: u8, j: u16, part: &[Event]) -> bool
     ensures { result ≡ wrote_batch config.now r j (history part.now) }
 {
-    wrote_rows(u64::from(row_rest(config, j)) + 1, r, j, part)
+    let rows = u16::from(row_rest(config, j)) + 1;
+    all_up_to(
+        rows,
+        |t| wrote_below(12, r, u64::from(j) + u64::from(t), part),
+    )
 }
 
 /// How many of the first values `r` has after `v` was added.

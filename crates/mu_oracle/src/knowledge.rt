@@ -6,24 +6,27 @@ ghost use Rattle.mu_model.specs.Histories.{all_below, has, history};
 ghost use Rattle.mu_model.specs.Knowledge.{entry_seen, fills, greatest_fuo_read, is_accepted_by_all, is_filled, is_known_decided, known, lands_entry, learnt_by};
 ghost use Rattle.mu_model.specs.Leaderships.{is_member, leadership};
 
-use crate::leadership::{has_ended, is_carried, is_in, proposal_of, starts_leadership};
+use crate::leadership::{has_ended, is_carried, is_in, leadership_of, proposal_of};
+use crate::walks::{all_under, all_up_to, greatest_of, some_event};
 use mu_model::{Answer, Config, Event, Verb, count_of_commands, stands_for_batch, stands_for_mark};
 
-/// Whether `r` put `v` at `p` and `i` under the number `b` in its leadership, and it landed.
+/// Whether the event is a put of `r` of `v` at `p` and `i` under the number `b` that landed.
+fn lands(r: u8, p: u8, i: u16, b: u32, v: u16, e: &Event) -> bool
+    ensures { result ≡ lands_entry r p i b v e.now }
+{
+    match (e.verb, e.answer) {
+        (Verb::PutSlot(q, j, n, w), Answer::Done) => {
+            e.by == r && q == p && j == i && n == b && w == v
+        }
+        _ => false,
+    }
+}
+
+/// Whether the leadership of `r` has such a put.
 fn has_put(r: u8, p: u8, i: u16, b: u32, v: u16, part: &[Event]) -> bool
     ensures { result ≡ has (lands_entry r p i b v) (leadership r (history part.now)) }
 {
-    let mut put = false;
-    for e in part {
-        if starts_leadership(r, e) {
-            put = false;
-        } else if let (Verb::PutSlot(q, j, n, w), Answer::Done) = (e.verb, e.answer) {
-            if e.by == r && q == p && j == i && n == b && w == v {
-                put = true;
-            }
-        }
-    }
-    put
+    some_event(leadership_of(r, part), |e| lands(r, p, i, b, v, e))
 }
 
 /// Whether every member below `n` took `v`.
@@ -33,11 +36,7 @@ fn have_taken(n: u8, r: u8, i: u16, b: u32, v: u16, part: &[Event]) -> bool
         (λ p. not (is_member r p (history part.now))
         || has (lands_entry r p i b v) (leadership r (history part.now))) }
 {
-    let mut all = true;
-    for p in 0..n {
-        all = (!is_in(r, p, part) || has_put(r, p, i, b, v, part)) && all;
-    }
-    all
+    all_under(n, |p| !is_in(r, p, part) || has_put(r, p, i, b, v, part))
 }
 
 /// Whether `r` commits `v` at `i` by what it did last.
@@ -51,33 +50,23 @@ fn has_accepted(config: &Config, r: u8, part: &[Event], i: u16, b: u32, v: u16) 
 }
 
 /// The greatest answer of `Fuo(p)`.
-fn fuo_read_by(r: u8, p: u8, part: &[Event]) -> u64
+pub fn fuo_read_by(r: u8, p: u8, part: &[Event]) -> u64
     ensures { result ≡ greatest_fuo_read r p (history part.now) }
 {
-    let mut fuo: u64 = 0;
-    for e in part {
-        if let (Verb::Fuo(q), Answer::Number(x)) = (e.verb, e.answer) {
-            if e.by == r && q == p {
-                fuo = fuo.max(x);
-            }
-        }
-    }
-    fuo
+    greatest_of(part, |e| match (e.verb, e.answer) {
+        (Verb::Fuo(q), Answer::Number(x)) if e.by == r && q == p => Some(x),
+        _ => None,
+    })
 }
 
 /// Whether `r` saw an entry at `p` in position `i`.
 fn has_seen(r: u8, p: u8, i: u64, part: &[Event]) -> bool
     ensures { result ≡ has (entry_seen r p i) (history part.now) }
 {
-    let mut seen = false;
-    for e in part {
-        if let (Verb::Look(q, j), Answer::Entry { .. }) = (e.verb, e.answer) {
-            if e.by == r && q == p && u64::from(j) == i {
-                seen = true;
-            }
-        }
-    }
-    seen
+    some_event(part, |e| match (e.verb, e.answer) {
+        (Verb::Look(q, j), Answer::Entry { .. }) => e.by == r && q == p && u64::from(j) == i,
+        _ => false,
+    })
 }
 
 /// Whether `r` may trust what it sees at `p` in position `i`.
@@ -202,9 +191,7 @@ fn is_filled_at(config: &Config, r: u8, p: u8, part: &[Event], j: u16) -> bool
 {
     let mut filled = false;
     for (i, e) in part.iter().enumerate() {
-        if step_fills(config, r, p, j, &part[..i], e, &part[..i + 1]) {
-            filled = true;
-        }
+        filled = step_fills(config, r, p, j, &part[..i], e, &part[..i + 1]) || filled;
     }
     filled
 }
@@ -213,11 +200,7 @@ fn is_filled_at(config: &Config, r: u8, p: u8, part: &[Event], j: u16) -> bool
 pub fn are_filled(config: &Config, r: u8, p: u8, part: &[Event], u: u16) -> bool
     ensures { result ≡ all_below u (is_filled config.now r p (history part.now)) }
 {
-    let mut all = true;
-    for j in 0..u {
-        all = is_filled_at(config, r, p, part, j) && all;
-    }
-    all
+    all_up_to(u, |j| is_filled_at(config, r, p, part, j))
 }
 
 /// Whether a mark of `q` is among some values and `v`.

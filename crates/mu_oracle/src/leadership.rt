@@ -1,28 +1,23 @@
 //! What a leadership of a replica comes to.
 ghost use Rattle.std.specs.Prelude.{◌≡◌};
 ghost use Rattle.mu_model.specs.Histories.{count_below, history};
-ghost use Rattle.mu_model.specs.Leaderships.{begins_leadership, ends_leadership, fence_seen, grant_at_joining, grant_for, has_begun, has_quorum, is_changed, is_member, is_over, lands_min, noted_grant, number_put, proposal_number};
+ghost use Rattle.mu_model.specs.Leaderships.{begins_leadership, ends_leadership, grant_at_joining, grant_for, has_begun, has_quorum, is_changed, is_member, is_over, lands_min, leadership, noted_grant, proposal_number};
 
+use crate::walks::{count_under, events_since, newest_of, oldest_of, some_event};
 use mu_model::{Answer, Config, Event, Fence, Verb, majority};
 
 /// Whether the event begins a leadership of `r`.
 pub fn starts_leadership(r: u8, e: &Event) -> bool
     ensures { result ≡ begins_leadership r e.now }
 {
-    match e.verb {
-        Verb::Ask(p) => e.by == r && p == 0,
-        _ => false,
-    }
+    matches!(e.verb, Verb::Ask(p) if e.by == r && p == 0)
 }
 
-/// What `r` saw of the fence of `p`.
-fn seen_fence(r: u8, p: u8, e: &Event) -> Option<Fence>
-    ensures { result ≡ fence_seen r p e.now.by e.now.verb e.now.answer }
+/// The events of the leadership of `r` under way.
+pub fn leadership_of(r: u8, part: &[Event]) -> &[Event]
+    ensures { history result.now ≡ leadership r (history part.now) }
 {
-    match (e.verb, e.answer) {
-        (Verb::Fence(q), Answer::Seen(f)) => { if e.by == r && q == p { Some(f) } else { None } }
-        _ => None,
-    }
+    events_since(part, |e| starts_leadership(r, e))
 }
 
 /// The grant of a fence that names `r` and isn't closing.
@@ -30,14 +25,8 @@ fn named_grant(r: u8, seen: Option<Fence>) -> Option<u32>
     ensures { result ≡ grant_for r seen }
 {
     match seen {
-        None => None,
-        Some(f) => {
-            if !f.closing && f.owner == Some(r) {
-                Some(f.grant)
-            } else {
-                None
-            }
-        }
+        Some(f) if !f.closing && f.owner == Some(r) => Some(f.grant),
+        _ => None,
     }
 }
 
@@ -45,14 +34,10 @@ fn named_grant(r: u8, seen: Option<Fence>) -> Option<u32>
 pub fn grant_noted(r: u8, p: u8, part: &[Event]) -> Option<u32>
     ensures { result ≡ noted_grant r p (history part.now) }
 {
-    let mut seen: Option<Fence> = None;
-    for e in part {
-        if starts_leadership(r, e) {
-            seen = None;
-        } else if let Some(f) = seen_fence(r, p, e) {
-            seen = Some(f);
-        }
-    }
+    let seen = newest_of(leadership_of(r, part), |e| match (e.verb, e.answer) {
+        (Verb::Fence(q), Answer::Seen(f)) if e.by == r && q == p => Some(f),
+        _ => None,
+    });
     named_grant(r, seen)
 }
 
@@ -60,35 +45,17 @@ pub fn grant_noted(r: u8, p: u8, part: &[Event]) -> Option<u32>
 pub fn proposal_of(r: u8, part: &[Event]) -> Option<u32>
     ensures { result ≡ proposal_number r (history part.now) }
 {
-    let mut number: Option<u32> = None;
-    for e in part {
-        if starts_leadership(r, e) {
-            number = None;
-        } else if number.is_none() {
-            number = number_in(r, e);
-        }
-    }
-    number
-}
-
-/// The number that the event puts.
-fn number_in(r: u8, e: &Event) -> Option<u32>
-    ensures { result ≡ number_put r e.now.by e.now.verb }
-{
-    match e.verb {
-        Verb::PutMin(_, b) => { if e.by == r { Some(b) } else { None } }
+    oldest_of(leadership_of(r, part), |e| match e.verb {
+        Verb::PutMin(_, b) if e.by == r => Some(b),
         _ => None,
-    }
+    })
 }
 
 /// Whether the event is a minimum of `r` that landed at `p`.
 fn minimum_landed(r: u8, p: u8, e: &Event) -> bool
     ensures { result ≡ lands_min r p e.now.by e.now.verb e.now.answer }
 {
-    match (e.verb, e.answer) {
-        (Verb::PutMin(q, _), Answer::Done) => e.by == r && q == p,
-        _ => false,
-    }
+    matches!((e.verb, e.answer), (Verb::PutMin(q, _), Answer::Done) if e.by == r && q == p)
 }
 
 /// What was noted of `p` when it became a member, if it is one.
@@ -163,13 +130,7 @@ pub fn is_in(r: u8, p: u8, part: &[Event]) -> bool
 fn members_below(n: u8, r: u8, part: &[Event]) -> u8
     ensures { result ≡ count_below n (λ p. is_member r p (history part.now)) }
 {
-    let mut count: u8 = 0;
-    for p in 0..n {
-        if is_in(r, p, part) {
-            count += 1;
-        }
-    }
-    count
+    count_under(n, |p| is_in(r, p, part))
 }
 
 /// Whether the members are a majority with `r`.
@@ -183,11 +144,5 @@ pub fn is_carried(config: &Config, r: u8, part: &[Event]) -> bool
 pub fn has_asked(r: u8, part: &[Event]) -> bool
     ensures { result ≡ has_begun r (history part.now) }
 {
-    let mut begun = false;
-    for e in part {
-        if starts_leadership(r, e) {
-            begun = true;
-        }
-    }
-    begun
+    some_event(part, |e| starts_leadership(r, e))
 }

@@ -16,6 +16,7 @@ mod picking;
 mod placing;
 mod room;
 mod scoring;
+mod walks;
 
 pub use allowing::allows;
 pub use answering::answers;

@@ -2,14 +2,15 @@
 ghost use Rattle.std.specs.Prelude.{IsTrue, None, if◌then◌else◌, is_some, length, not, true, ◌&&◌, ◌<◌, ◌^◌, ◌||◌, ◌↔◌, ◌≡◌};
 ghost use Rattle.mu_model.specs.Histories.{all_below, has, history};
 ghost use Rattle.mu_model.specs.Leaderships.{is_member, leadership};
-ghost use Rattle.mu_model.specs.Picks.{entry_of, first_value, highest_accepted, is_fresh_batch, is_joining, is_offer, is_past_look, joined_since_first_put, larger, last_look, look_answer, may_pick_at, may_propose, value_put};
+ghost use Rattle.mu_model.specs.Picks.{entry_of, first_value, highest_accepted, is_fresh_batch, is_joining, is_offer, is_past_look, joined_since_first_put, larger, last_look, look_answer, may_pick_at, may_propose};
 ghost use Rattle.mu_model.specs.Knowledge.{known};
 ghost use Rattle.mu_model.specs.Room.{has_room, reserve};
 
 use crate::fetching::has_written_batch;
 use crate::knowledge::{commands_known, known_length};
-use crate::leadership::{is_in, starts_leadership};
+use crate::leadership::{is_in, leadership_of, starts_leadership};
 use crate::room::{is_offer_of_mark, leaves_room};
+use crate::walks::{all_under, oldest_of, some_event};
 use mu_model::{
     Answer, Config, Event, PAYLOADS, Verb, reserve_of, row_client, row_number, stands_for_batch,
 };
@@ -29,13 +30,7 @@ pub fn look_in(r: u8, p: u8, i: u16, e: &Event) -> Option<Answer>
     ensures { result ≡ look_answer r p i e.now.by e.now.verb e.now.answer }
 {
     match e.verb {
-        Verb::Look(q, j) => {
-            if e.by == r && q == p && j == i {
-                Some(e.answer)
-            } else {
-                None
-            }
-        }
+        Verb::Look(q, j) if e.by == r && q == p && j == i => Some(e.answer),
         _ => None,
     }
 }
@@ -123,29 +118,14 @@ fn is_pick(config: &Config, r: u8, part: &[Event], i: u16, v: u16) -> bool
     }
 }
 
-/// The value that the event puts at `i`.
-fn value_in(r: u8, i: u16, e: &Event) -> Option<u16>
-    ensures { result ≡ value_put r i e.now.by e.now.verb }
-{
-    match e.verb {
-        Verb::PutSlot(_, j, _, v) => { if e.by == r && j == i { Some(v) } else { None } }
-        _ => None,
-    }
-}
-
 /// The value of the first put at `i` in the leadership.
 fn first_value_of(r: u8, i: u16, part: &[Event]) -> Option<u16>
     ensures { result ≡ first_value r i (history part.now) }
 {
-    let mut first: Option<u16> = None;
-    for e in part {
-        if starts_leadership(r, e) {
-            first = None;
-        } else if first.is_none() {
-            first = value_in(r, i, e);
-        }
-    }
-    first
+    oldest_of(leadership_of(r, part), |e| match e.verb {
+        Verb::PutSlot(_, j, _, v) if e.by == r && j == i => Some(v),
+        _ => None,
+    })
 }
 
 /// Whether a region became a member after the first put at `i`.
@@ -170,11 +150,10 @@ fn have_looked(n: u8, r: u8, i: u16, part: &[Event]) -> bool
         (λ p. not (is_member r p (history part.now))
         || is_some (last_look r p i (history part.now))) }
 {
-    let mut all = true;
-    for p in 0..n {
-        all = (!is_in(r, p, part) || last_look_of(r, p, i, part).is_some()) && all;
-    }
-    all
+    all_under(
+        n,
+        |p| !is_in(r, p, part) || last_look_of(r, p, i, part).is_some(),
+    )
 }
 
 /// Whether `v` is the value of the first put at `i`, or may be.
@@ -202,15 +181,10 @@ fn has_seen_past(r: u8, p: u8, i: u16, part: &[Event]) -> bool
         ≡ has (λ e. is_past_look (look_answer r p i e.by e.verb e.answer))
         (leadership r (history part.now)) }
 {
-    let mut seen = false;
-    for e in part {
-        if starts_leadership(r, e) {
-            seen = false;
-        } else if let Some(Answer::Past) = look_in(r, p, i, e) {
-            seen = true;
-        }
-    }
-    seen
+    some_event(
+        leadership_of(r, part),
+        |e| matches!(look_in(r, p, i, e), Some(Answer::Past)),
+    )
 }
 
 /// Whether no look at a member below `n` was `Past`.
@@ -222,11 +196,7 @@ fn none_past(n: u8, r: u8, i: u16, part: &[Event]) -> bool
         && has (λ e. is_past_look (look_answer r p i e.by e.verb e.answer))
         (leadership r (history part.now)))) }
 {
-    let mut none = true;
-    for p in 0..n {
-        none = !(is_in(r, p, part) && has_seen_past(r, p, i, part)) && none;
-    }
-    none
+    all_under(n, |p| !(is_in(r, p, part) && has_seen_past(r, p, i, part)))
 }
 
 /// Whether `v` may be put at the new position `i`.

@@ -2,61 +2,38 @@
 ghost use Rattle.std.specs.List.{slice_get};
 ghost use Rattle.std.specs.Prelude.{IsTrue, List, [], length, ℕ, ◌++◌, ◌<◌, ◌^◌, ◌∷◌, ◌↔◌, ◌≡◌};
 ghost use Rattle.mu_model.specs.Answers.{is_enter_of};
-ghost use Rattle.mu_model.specs.Entering.{enter_open, last_opened};
+ghost use Rattle.mu_model.specs.Entering.{last_opened};
 ghost use Rattle.mu_model.specs.Histories.{all_below, has, history};
-ghost use Rattle.mu_model.specs.Knowledge.{greatest_fuo_read};
 ghost use Rattle.mu_model.specs.Leaderships.{leadership};
 ghost use Rattle.mu_model.specs.Picks.{look_answer};
 ghost use Rattle.mu_model.specs.Placing.{fuo_read_or_raised, is_caught_up_at, is_good_look, is_known_put, is_slot_put_at, is_within_ring, looked_before_entering, reaches_head};
 ghost use Rattle.mu_model.specs.Points.{AreMet, each_below, puts, values};
 ghost use Rattle.mu_model.specs.declared.reason.Reason.{Reason};
 
-use crate::knowledge::known_at;
-use crate::leadership::{has_ended, is_carried, is_in, proposal_of, starts_leadership};
+use crate::entering::opening;
+use crate::knowledge::{fuo_read_by, known_at};
+use crate::leadership::{
+    has_ended, is_carried, is_in, leadership_of, proposal_of, starts_leadership,
+};
 use crate::picking::{look_in, may_begin};
+use crate::walks::{all_up_to, newest_of, some_event};
 use mu_model::{Answer, Config, Event, Target, Verb};
-
-/// What the event does to what `r` has entered at `p`.
-fn opening(r: u8, p: u8, e: &Event) -> Option<Target>
-    ensures { result ≡ enter_open r p e.now.by e.now.verb e.now.answer }
-{
-    match (e.verb, e.answer) {
-        (Verb::Enter(q, t), Answer::Entered) => { if e.by == r && q == p { Some(t) } else { None } }
-        (Verb::Enter(q, _), _) | (Verb::PutMin(q, _), _) | (Verb::PutSlot(q, _, _, _), _) => {
-            if e.by == r && q == p {
-                Some(Target::None)
-            } else {
-                None
-            }
-        }
-        _ => None,
-    }
-}
 
 /// The target of the last `Enter` at `p`, if no put came since.
 fn opened_last(r: u8, p: u8, part: &[Event]) -> Option<Target>
     ensures { result ≡ last_opened r p (history part.now) }
 {
-    let mut open: Option<Target> = None;
-    for e in part {
-        if let Some(t) = opening(r, p, e) {
-            open = Some(t);
-        }
-    }
-    open
+    newest_of(part, |e| opening(r, p, e))
 }
 
-/// Whether the event reads or raises a FUO of `p` near `i`.
-fn is_within_by(r: u8, p: u8, i: u16, ring: u16, e: &Event) -> bool
-    ensures { result
-        ≡ is_within_ring i ring (fuo_read_or_raised r p e.now.by e.now.verb e.now.answer) }
+/// The FUO of `p` that the event reads or raises.
+fn fuo_in(r: u8, p: u8, e: &Event) -> Option<u64>
+    ensures { result ≡ fuo_read_or_raised r p e.now.by e.now.verb e.now.answer }
 {
     match (e.verb, e.answer) {
-        (Verb::Fuo(q), Answer::Number(x)) => e.by == r
-            && q == p
-            && (u64::from(i) < x || u64::from(i) < x + u64::from(ring)),
-        (Verb::RaiseFuo(q, u), _) => e.by == r && q == p && (i < u || i - u < ring),
-        _ => false,
+        (Verb::Fuo(q), Answer::Number(x)) if e.by == r && q == p => Some(x),
+        (Verb::RaiseFuo(q, u), _) if e.by == r && q == p => Some(u64::from(u)),
+        _ => None,
     }
 }
 
@@ -66,26 +43,10 @@ fn is_within_reach(r: u8, p: u8, i: u16, ring: u16, part: &[Event]) -> bool
         ≡ has (λ e. is_within_ring i ring (fuo_read_or_raised r p e.by e.verb e.answer))
         (leadership r (history part.now)) }
 {
-    let mut near = false;
-    for e in part {
-        if starts_leadership(r, e) {
-            near = false;
-        } else if is_within_by(r, p, i, ring, e) {
-            near = true;
-        }
-    }
-    near
-}
-
-/// Whether the event reads or raises a FUO of its own region of at least `h`.
-fn reaches(r: u8, h: u16, e: &Event) -> bool
-    ensures { result ≡ reaches_head h (fuo_read_or_raised r r e.now.by e.now.verb e.now.answer) }
-{
-    match (e.verb, e.answer) {
-        (Verb::Fuo(q), Answer::Number(x)) => e.by == r && q == r && u64::from(h) <= x,
-        (Verb::RaiseFuo(q, u), _) => e.by == r && q == r && h <= u,
-        _ => false,
-    }
+    some_event(leadership_of(r, part), |e| match fuo_in(r, p, e) {
+        None => false,
+        Some(x) => u64::from(i) < x || u64::from(i) < x + u64::from(ring),
+    })
 }
 
 /// Whether `r` read or raised a FUO of its own region of at least `h`.
@@ -94,30 +55,10 @@ pub fn has_reached(r: u8, h: u16, part: &[Event]) -> bool
         ≡ has (λ e. reaches_head h (fuo_read_or_raised r r e.by e.verb e.answer))
         (history part.now) }
 {
-    let mut reached = false;
-    for e in part {
-        if reaches(r, h, e) {
-            reached = true;
-        }
-    }
-    reached
-}
-
-/// The greatest answer of `Fuo(p)` in the leadership.
-fn fuo_read_in_leadership(r: u8, p: u8, part: &[Event]) -> u64
-    ensures { result ≡ greatest_fuo_read r p (leadership r (history part.now)) }
-{
-    let mut fuo: u64 = 0;
-    for e in part {
-        if starts_leadership(r, e) {
-            fuo = 0;
-        } else if let (Verb::Fuo(q), Answer::Number(x)) = (e.verb, e.answer) {
-            if e.by == r && q == p {
-                fuo = fuo.max(x);
-            }
-        }
-    }
-    fuo
+    some_event(part, |e| match fuo_in(r, r, e) {
+        None => false,
+        Some(x) => u64::from(h) <= x,
+    })
 }
 
 /// Whether the event is a put of `r` at `p` in the place of `i`.
@@ -125,10 +66,7 @@ fn puts_in_place(r: u8, p: u8, ring: u16, i: u16, e: &Event) -> bool
     requires { 0 < ring }
     ensures { result ≡ is_slot_put_at r p ring i e.now.by e.now.verb }
 {
-    match e.verb {
-        Verb::PutSlot(q, j, _, _) => e.by == r && q == p && j % ring == i % ring,
-        _ => false,
-    }
+    matches!(e.verb, Verb::PutSlot(q, j, _, _) if e.by == r && q == p && j % ring == i % ring)
 }
 
 /// Whether the event is a look at `p` in position `i` that isn't `Past`.
@@ -143,13 +81,10 @@ fn is_good_look_at(r: u8, p: u8, i: u16, e: &Event) -> bool
 }
 
 /// Whether the event is an `Enter` of `r` at `p`.
-fn is_entering(r: u8, p: u8, e: &Event) -> bool
+pub fn is_entering(r: u8, p: u8, e: &Event) -> bool
     ensures { result ≡ is_enter_of r p e.now }
 {
-    match e.verb {
-        Verb::Enter(q, _) => e.by == r && q == p,
-        _ => false,
-    }
+    matches!(e.verb, Verb::Enter(q, _) if e.by == r && q == p)
 }
 
 /// Whether a good look came before the last `Enter` at `p`, since `p` became a member and since the
@@ -178,6 +113,19 @@ fn has_looked_before(config: &Config, r: u8, p: u8, i: u16, part: &[Event]) -> b
     at_enter
 }
 
+/// Whether the event is a put of `r` of the value at `p` in position `j` that landed.
+fn puts_known(r: u8, p: u8, j: u16, value: Option<u16>, e: &Event) -> bool
+    ensures { (values : List ℕ) → slice_get values j ≡ value
+        → result ≡ is_known_put values r p j e.now.by e.now.verb e.now.answer }
+{
+    match (e.verb, e.answer) {
+        (Verb::PutSlot(q, i, _, v), Answer::Done) => {
+            e.by == r && q == p && i == j && value == Some(v)
+        }
+        _ => false,
+    }
+}
+
 /// Whether `r` put at `p` in position `j` what it knows of it, in its leadership.
 fn has_put_known(r: u8, p: u8, j: u16, value: Option<u16>, part: &[Event]) -> bool
     ensures { (values : List ℕ) → slice_get values j ≡ value
@@ -185,24 +133,14 @@ fn has_put_known(r: u8, p: u8, j: u16, value: Option<u16>, part: &[Event]) -> bo
         ≡ has (λ e. is_known_put values r p j e.by e.verb e.answer)
         (leadership r (history part.now)) }
 {
-    let mut put = false;
-    for e in part {
-        if starts_leadership(r, e) {
-            put = false;
-        } else if let (Verb::PutSlot(q, i, _, v), Answer::Done) = (e.verb, e.answer) {
-            if e.by == r && q == p && i == j && value == Some(v) {
-                put = true;
-            }
-        }
-    }
-    put
+    some_event(leadership_of(r, part), |e| puts_known(r, p, j, value, e))
 }
 
 /// Whether `p` has what is known of `j`.
 fn is_caught_up_with(config: &Config, r: u8, p: u8, part: &[Event], j: u16) -> bool
     ensures { result ≡ is_caught_up_at config.now r p (history part.now) j }
 {
-    u64::from(j) < fuo_read_in_leadership(r, p, part)
+    u64::from(j) < fuo_read_by(r, p, leadership_of(r, part))
         || has_put_known(r, p, j, known_at(config, r, part, j), part)
 }
 
@@ -210,11 +148,7 @@ fn is_caught_up_with(config: &Config, r: u8, p: u8, part: &[Event], j: u16) -> b
 fn is_caught_up_below(config: &Config, r: u8, p: u8, part: &[Event], i: u16) -> bool
     ensures { result ≡ all_below i (is_caught_up_at config.now r p (history part.now)) }
 {
-    let mut all = true;
-    for j in 0..i {
-        all = is_caught_up_with(config, r, p, part, j) && all;
-    }
-    all
+    all_up_to(i, |j| is_caught_up_with(config, r, p, part, j))
 }
 
 /// Whether each position below `i` is brought.

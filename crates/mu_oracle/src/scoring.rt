@@ -10,9 +10,7 @@ fn beat_in(r: u8, q: u8, e: &Event) -> Option<u64>
     ensures { result ≡ beat_read r q e.now.by e.now.verb e.now.answer }
 {
     match (e.verb, e.answer) {
-        (Verb::ReadBeat(p), Answer::Number(x)) => {
-            if e.by == r && p == q { Some(x) } else { None }
-        }
+        (Verb::ReadBeat(p), Answer::Number(x)) if e.by == r && p == q => Some(x),
         _ => None,
     }
 }

@@ -1,7 +1,0 @@
-use Rattle.std.proofs.Common.{◌≡◌, take}
-use Rattle.mu_model.specs.Histories.{history}
-use Rattle.mu_model.specs.Serving.{drained_since_close}
-use Rattle.mu_oracle.proofs.hosting.has_drained.Given as goal
-
-abbrev pub invariant-loop-e : goal.invariant-loop-e
-invariant-loop-e l = l.drained ≡ drained_since_close l.r (history (take l.e-index l.part))
