@@ -16,7 +16,7 @@ pub use entries::commands_of;
 pub use fault::{Broken, Fault};
 pub use logs::{logs_agree, longest};
 pub use moment::{Fact, Leads, Moment};
-pub use mu_knowledge::{Commit, Commits, Log};
+pub use mu_knowledge::Log;
 pub use outcome::{AllCommits, AllEvents, AllReplies, Ends, Logs, Outcome, Replies};
 pub use status::Status;
 pub use verdict::{Verdict, Wrong, at_most_one_verdict};
