@@ -137,8 +137,8 @@ def ended_with(run):
             signal.signal(signal.SIGTERM, before)
 
 
-def gate_passes(name, below, room, at_once=None):
-    """Runs the gate over a copy: whether it passes, and the lines that it said, which are printed if it doesn't."""
+def gate_passes(name, below, room, at_once=None, is_printed=True):
+    """Runs the gate over a copy: whether it passes, and the lines that it said, which may be printed if it doesn't."""
     environment = {**os.environ, **({JOBS: str(at_once)} if at_once else {})}
     progress, log = Progress(name, below, lanes_of(at_once)), []
     with subprocess.Popen(["rt", "ci"], cwd=room, stdout=subprocess.PIPE, stderr=subprocess.STDOUT, text=True,
@@ -148,7 +148,7 @@ def gate_passes(name, below, room, at_once=None):
             log.append(line)
             progress.take(line.rstrip())
         run.wait()
-    if run.returncode:
+    if run.returncode and is_printed:
         print("".join(log), end="")
     return run.returncode == 0, log
 
