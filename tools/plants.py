@@ -60,7 +60,7 @@ def bugs_of(line):
     if ASSIGNMENT.match(line):
         yield "unassigned", "{}"
     arm = re.match(r"^(.*=> )?Some\(.*\)(,?)$", line)
-    if arm:
+    if arm and (arm[1] or not arm[2]):
         yield "nothing", f"{arm[1] or ''}None{arm[2]}"
 
 
