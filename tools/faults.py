@@ -32,7 +32,7 @@ RUNS = [("mu", ["replay"], "put-and-get.job", b"read fault\n", b""),
         ("mu", ["serve", "3"], A_LONG_LINE, b"read fault\n", b""),
         ("mu_draw", [], "late-exchange.trace", b"read fault\n", b""),
         ("mu_draw", ["0", "3"], "late-exchange.trace", b"read fault\n", b""),
-        ("mu_judge", [], TWO_TRACES, b"", FIRST_LINE)]
+        ("judge_traces", [], TWO_TRACES, b"", FIRST_LINE)]
 
 
 def broken_input(given):

@@ -102,7 +102,7 @@ STATED = [
     ("docs/MEASURED.md", r"(\d+) in `cases/replay` and \d+ in `cases/more.table`",
      lambda: [sum(name.startswith("v") and name.endswith(".stdout")
                   for name in os.listdir(os.path.join(TOP, "cases", "replay")))]),
-    ("docs/MEASURED.md", r"(\d+) judged traces in `crates/mu_judge/stdin`",
+    ("docs/MEASURED.md", r"(\d+) judged traces in `crates/judge_traces/stdin`",
      lambda: [sum(name.startswith("check/") for name in contents("cases/judged.names").split("\n"))]),
     # What ALIVE and PACE say of three replicas.
     ("docs/ALIVE.md", r"enough for ([\d,]+) commands by `steps_enough`, ([\d,]+) by `steps_in_any_ring`, "

@@ -1,12 +1,12 @@
 #!/usr/bin/env python3
-"""Writes the judged traces, or shows one: the input and the wanted output of crates/mu_judge.
+"""Writes the judged traces, or shows one: the input and the wanted output of crates/judge_traces.
 
     tools/judged_table.py TRACES JOBS MORE..     writes the input, the output and the names
     tools/judged_table.py --case LINE            shows the name, the trace and the wanted line
 
 TRACES, JOBS and MORE are folders of cases: a trace or a job in a file NAME, `check` in NAME.args, and
 what an independent program says of it in NAME.stdout. The input gets them, byte for byte, with the
-separator of crates/mu_judge/src/main.rt between two; the output gets one line for each, and
+separator of crates/judge_traces/src/main.rt between two; the output gets one line for each, and
 cases/judged.names its name. The lines are those of the cases, never the program's own. A job that is
 refused for a line after its `end` is left out: events may follow there in a trace (such jobs stand in
 cases/refusals.table). What stands last shows how an input is cut into traces.
@@ -18,8 +18,8 @@ import sys
 from beginning import begin
 
 TOP = pathlib.Path(__file__).resolve().parent.parent
-INPUT = TOP / "crates" / "mu_judge" / "stdin"
-OUTPUT = TOP / "crates" / "mu_judge" / "stdout"
+INPUT = TOP / "crates" / "judge_traces" / "stdin"
+OUTPUT = TOP / "crates" / "judge_traces" / "stdout"
 NAMES = TOP / "cases" / "judged.names"
 SEPARATOR = b"\n---\n"
 AFTER_END = b" cause 12\n"

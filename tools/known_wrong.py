@@ -195,7 +195,7 @@ def tells_stops():
 def tells_edits():
     """An edit fits if its file has the old text once, after the pairs before."""
     def trouble(*lines):
-        return edits.trouble_of("mu_judge", "\n".join(lines))
+        return edits.trouble_of("judge_traces", "\n".join(lines))
 
     file, old = "file: src/main.rt", "old: ExitCode::from(status("
     yield trouble(file, old, "new: ExitCode::from(other(", "old: from(other(", "new: from(it(") is None

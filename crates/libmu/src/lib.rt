@@ -10,8 +10,8 @@ ghost use Rattle.mu_library.specs.Engines.{Asks, HoldsBy, IsUntold, OfHandle, Op
 
 use mu_handle::Handle;
 use mu_library::{
-    answer, draw, let_go, open_engine, open_judge, pause_replica, play_round, reply_told, show,
-    stop_replica, submit_line, take_line, told_by, trace_told,
+    answer, draw, judge_answer, let_go, open_engine, open_judge, pause_replica, play_round,
+    row_reply, show, stop_replica, submit_line, take_line, trace_so_far,
 };
 use std::alloc::Global;
 
@@ -103,7 +103,7 @@ pub extern "C" fn mu_judge_why(
     ensures says { SaysOfJudge judge.old.held out.old out.new result taken.new }
     ensures kept { judge.new.held ≡ judge.old.held }
 {
-    let answered = told_by(alloc, judge, out);
+    let answered = judge_answer(alloc, judge, out);
     *taken = answered.taken;
     u32::from(answered.status)
 }
@@ -194,7 +194,7 @@ pub extern "C" fn mu_engine_reply(
         (Asks (Replies row reply.new out.old out.new taken.new))
         engine.old.held engine.new.held result }
 {
-    let replied = reply_told(alloc, engine, row, out);
+    let replied = row_reply(alloc, engine, row, out);
     *reply = u32::from(replied.reply);
     *taken = replied.taken;
     u32::from(replied.status)
@@ -211,7 +211,7 @@ pub extern "C" fn mu_engine_trace(
     ensures { OfHandle ((taken.new ≡ 0) × (out.new ≡ out.old))
         (Asks (Traces out.old out.new taken.new)) engine.old.held engine.new.held result }
 {
-    let answered = trace_told(alloc, engine, out);
+    let answered = trace_so_far(alloc, engine, out);
     *taken = answered.taken;
     u32::from(answered.status)
 }

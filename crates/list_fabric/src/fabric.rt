@@ -45,7 +45,7 @@ impl ListFabric {
     {
         let room = usize::from(config.replicas) * config.budget as usize;
         Ok(ListFabric {
-            config: config.shared()?,
+            config: config.try_clone()?,
             kept: Journal::with_room(alloc, room)?,
             regions: Regions::new(alloc, config)?,
         })

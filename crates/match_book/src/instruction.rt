@@ -5,7 +5,7 @@ ghost use Rattle.match_book.specs.Orders.{amount_of, cancel_of, instruction_of, 
 use crate::order::Side;
 use crate::{BUY, CANCEL, MOST_AMOUNT, SELL, TIMES};
 use kv_store::LAST_NUMBER;
-use mu_text::{limited, of_32};
+use mu_text::{number_within, of_32};
 
 /// What a client asks of the book.
 #[derive(Clone, Copy, PartialEq, Eq, Debug)]
@@ -57,7 +57,7 @@ fn order_for(side: Side, price: Option<u32>, quantity: Option<u32>) -> Option<In
 fn cancel(word: &[u8]) -> Option<Instruction>
     ensures { result ≡ cancel_of word.now }
 {
-    let number = limited(word, 1, u32::from(LAST_NUMBER))?;
+    let number = number_within(word, 1, u32::from(LAST_NUMBER))?;
     Some(Instruction::Cancel(number as u16))
 }
 

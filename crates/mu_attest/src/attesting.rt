@@ -33,7 +33,7 @@ pub enum Found {
 ///
 /// `Refused` exactly if the bytes leave the grammar of attested traces, with the first line that
 /// leaves it and the cause; `NoMemory` for want of memory.
-pub fn attested(alloc: Global, bytes: &[u8]) -> Result<Found, InputEnd>
+pub fn finding_of(alloc: Global, bytes: &[u8]) -> Result<Found, InputEnd>
     requires { length bytes.now ≤ TRACE_LIMIT }
     ensures found { IfOk result (IsFound bytes.now) }
     ensures end { IfErr result (IsEndOfItems bytes.now) }

@@ -128,7 +128,7 @@ impl Attestor {
         ensures { (past : List SomeItem) → StandsForAttestor job.now past self.now
             → IfOk result (StaysOrTakes job.now past (item.Told by row reply.now) self.now) }
     {
-        let right = reply_over(alloc, job, self.walk.applied(by), row)?;
+        let right = reply_over(alloc, job, self.walk.applied_values(by), row)?;
         Ok(flaw_of_reply(right, reply))
     }
 }

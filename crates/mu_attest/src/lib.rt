@@ -8,4 +8,4 @@ mod reading;
 mod replying;
 mod rows;
 
-pub use attesting::{Found, attested};
+pub use attesting::{Found, finding_of};

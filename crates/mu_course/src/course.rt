@@ -20,7 +20,7 @@ use crate::finishing::is_finished;
 use crate::halts::stops_at;
 use crate::noting::{commit_in, push_commit};
 use crate::so_far::first_end;
-use crate::told::{Told, is_end, told_by};
+use crate::told::{Told, is_end, take_event};
 use mu_detect::Scores;
 use mu_follow::{Completion, Published, count_applied, outrun_after};
 use mu_knowledge::{Commit, first_values};
@@ -187,7 +187,7 @@ impl Course {
     }
 
     /// The replica that its scores name leader.
-    pub fn named(&self) -> u8
+    pub fn named_leader(&self) -> u8
         ensures { TellsOf self.now leader_of result }
     {
         self.scores.leader()
@@ -233,7 +233,7 @@ impl Course {
         ensures tells { IfNext config.now event.now self.old
             (λ mine. Tells config.now mine event.now result) }
     {
-        let told = told_by(&mut self.replica, config, event);
+        let told = take_event(&mut self.replica, config, event);
         let commit = commit_in(event, told.taught);
         push_commit(&mut self.commits, commit);
         self.outrun = outrun_after(self.outrun, event.by, told.known, event);
@@ -257,7 +257,7 @@ impl Course {
     }
 
     /// What it has applied, in order.
-    pub fn applied(&self) -> &[u16]
+    pub fn applied_values(&self) -> &[u16]
         ensures { TellsOf self.now applied_of result.now }
     {
         first_values(self.known(), self.replica.held_rows.applied_length())

@@ -75,8 +75,8 @@ pub fn is_finished(
         → HoldsCompletion c (applied c r mine) completion.now
         → result ≡ is_finished_of c r mine }
 {
-    match completion.full() {
-        Some(full) => full <= usize::from(heads.own()) && are_done(heads, scores, r, n, full),
+    match completion.full_count() {
+        Some(full) => full <= usize::from(heads.own_head()) && are_done(heads, scores, r, n, full),
         None => false,
     }
 }

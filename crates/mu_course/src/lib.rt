@@ -14,4 +14,4 @@ mod walk;
 pub use course::{Course, Turn};
 pub use halts::{Halt, halt_after};
 pub use told::Told;
-pub use walk::{Walk, walked};
+pub use walk::{Walk, walk_of};

@@ -41,7 +41,7 @@ pub fn is_end(before: bool, after: bool) -> bool
 }
 
 /// Takes the next event of the replica, which it was allowed, and tells what it comes to.
-pub fn told_by(replica: &mut Replica, config: &Config, event: &Event) -> Told
+pub fn take_event(replica: &mut Replica, config: &Config, event: &Event) -> Told
     requires config { IsConfig config.now }
     ensures stands { (mine : List Made) → IsPossible config.now event.now.by (event.now ∷ mine)
         → StandsForReplica config.now event.now.by mine replica.old

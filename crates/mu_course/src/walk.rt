@@ -100,7 +100,7 @@ impl Walk {
     }
 
     /// How often the region was granted.
-    pub fn granted(&self, region: u8) -> u32
+    pub fn grant_count(&self, region: u8) -> u32
         ensures { TellsRegion self.now region fence_grant result }
     {
         grants_in(self.fence(region))
@@ -117,12 +117,12 @@ impl Walk {
     }
 
     /// What the replica has applied, in order. Nothing if there is no such replica.
-    pub fn applied(&self, r: u8) -> &[u16]
+    pub fn applied_values(&self, r: u8) -> &[u16]
         ensures { TellsAt self.now r applied_of result.now }
     {
         match self.course(r) {
             None => &[],
-            Some(course) => course.applied(),
+            Some(course) => course.applied_values(),
         }
     }
 
@@ -150,12 +150,12 @@ impl Walk {
     }
 
     /// The replica that the scores of a replica name leader.
-    pub fn named(&self, r: u8) -> u8
+    pub fn named_leader(&self, r: u8) -> u8
         ensures { TellsAt self.now r leader result }
     {
         match self.course(r) {
             None => 0,
-            Some(course) => course.named(),
+            Some(course) => course.named_leader(),
         }
     }
 
@@ -215,7 +215,7 @@ impl Walk {
 /// # Errors
 ///
 /// Only for want of memory.
-pub fn walked(
+pub fn walk_of(
     alloc: Global,
     config: &Config,
     events: &[Event],

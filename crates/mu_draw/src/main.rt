@@ -10,7 +10,7 @@
 //! `read fault`, `no memory` or `too long`; or how the program is called.
 #![tactic(auto)]
 
-use mu_drawing::{answer, draw, unread};
+use mu_drawing::{answer, draw, unread_output};
 use mu_io::{StdSink, StdSource};
 use mu_shell::words_after_name;
 use std::process::ExitCode;
@@ -20,7 +20,7 @@ fn main(rt: HostRuntime) -> ExitCode {
     let mut sink = StdSink::new(rt.stdout());
     let answered = match words_after_name(&rt) {
         Ok(words) => draw(rt.alloc(), words.as_slice(), &mut source, &mut sink),
-        Err(kind) => answer(&mut sink, unread(kind)),
+        Err(kind) => answer(&mut sink, unread_output(kind)),
     };
     answered.into_exit_code()
 }

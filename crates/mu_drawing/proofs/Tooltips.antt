@@ -5,7 +5,7 @@ use Rattle.mu_input.specs.declared.job.InputEnd.{InputEnd}
 use Rattle.mu_picture.specs.declared.pictures.Extent.{Extent}
 use Rattle.mu_input.specs.Readings.{Fits}
 use Rattle.mu_input.specs.Traces.{Trace, trace}
-use Rattle.mu_judging.proofs.EventLines.{event_line_is, few_events}
+use Rattle.mu_verdict.proofs.EventLines.{event_line_is, few_events}
 use Rattle.mu_text.specs.Lines.{lines}
 use Rattle.mu_drawing.specs.Answers.{Draws, TellsOfEvents, TooltipsNameLines, told_with}
 

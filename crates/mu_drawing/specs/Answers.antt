@@ -21,7 +21,7 @@ use Rattle.mu_picture.specs.declared.pictures.Picture.{Picture}
 use Rattle.mu_input.specs.declared.job.InputEnd.{InputEnd}
 use Rattle.mu_text.specs.Lines.{lines}
 use Rattle.std.specs.List.{slice_get}
-use Rattle.mu_judging.specs.Explained.{IsLineOf}
+use Rattle.mu_verdict.specs.Explained.{IsLineOf}
 use Rattle.mu_outcome.specs.Breaks.{Explains}
 use Rattle.mu_outcome.specs.declared.fault.Broken.{Broken}
 use Rattle.mu_report.specs.Reasons.{fault_words}

@@ -7,8 +7,8 @@ ghost use Rattle.mu_drawing.specs.Answers.{IsSayable, TellsOfCall, TellsOfSource
 ghost use Rattle.mu_shell.specs.Written.{Wrote};
 ghost use Rattle.mu_drawing.specs.Words.{asked_of as asked_of_words};
 
-use crate::asking::asked_of;
-use crate::drawing::{Output, told_of};
+use crate::asking::extent_of;
+use crate::drawing::{Output, output_of};
 use mu_input::TRACE_LIMIT;
 use mu_io::{Sink, Source, WriteFault, read_all, write_all};
 use mu_outcome::Status;
@@ -35,7 +35,7 @@ pub fn draw<S: Source, K: Sink>(
         (K.faults sink.old) (K.faults sink.new)
         (text_of result.said) (status_for result.said) result.status result.taken }
 {
-    answer(sink, told(alloc, asked_of(words), source))
+    answer(sink, told(alloc, extent_of(words), source))
 }
 
 /// What is told if this is asked of the source.
@@ -57,7 +57,7 @@ fn told_of_source<S: Source>(alloc: Global, asked: Extent, source: &mut S) -> Ou
     ensures sayable { IsSayable result }
 {
     match read_all(alloc, source, TRACE_LIMIT) {
-        Ok(bytes) => told_of(alloc, bytes.as_slice(), asked),
+        Ok(bytes) => output_of(alloc, bytes.as_slice(), asked),
         Err(end) => Output::Said(Said::from(end)),
     }
 }

@@ -10,7 +10,7 @@ ghost use Rattle.mu_report.specs.declared.said.Said.TheVariants.{NoMemory};
 use crate::drawing::Output;
 use mu_picture::Extent;
 use mu_report::Said;
-use mu_text::limited;
+use mu_text::number_within;
 use std::io::ErrorKind;
 
 /// The greatest step that a word can name.
@@ -41,7 +41,7 @@ fn all(brief: bool) -> Extent
 
 /// What the words ask for, if they ask for anything: all steps, or those from one to another, each
 /// a number of at most 7 digits; in brief if the first word says so.
-pub fn asked_of(words: &[String]) -> Option<Extent>
+pub fn extent_of(words: &[String]) -> Option<Extent>
     ensures { result ≡ asked_of_words words.now }
 {
     match words {
@@ -81,14 +81,14 @@ fn asked_by_three(word: &[u8], first: &[u8], last: &[u8]) -> Option<Extent>
 fn asked_with(brief: bool, first: &[u8], last: &[u8]) -> Option<Extent>
     ensures { result ≡ asked_of_two brief first.now last.now }
 {
-    let first = limited(first, 0, LAST_STEP)?;
-    let last = limited(last, first, LAST_STEP)?;
+    let first = number_within(first, 0, LAST_STEP)?;
+    let last = number_within(last, first, LAST_STEP)?;
     Some(Extent { first, last, brief })
 }
 
 /// What is told if the words couldn't be read: the usage if one of them is no text, since no
 /// call has such a word, else want of memory.
-pub fn unread(kind: ErrorKind) -> Output
+pub fn unread_output(kind: ErrorKind) -> Output
     ensures no_text { kind ≡ InvalidData → result ≡ Usage }
     ensures no_memory { kind ≢ InvalidData → result ≡ SaidOf NoMemory }
 {

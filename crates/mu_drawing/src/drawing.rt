@@ -7,13 +7,13 @@ ghost use Rattle.mu_text.specs.Lines.{lines};
 ghost use Rattle.mu_outcome.specs.Breaks.{Explains};
 ghost use Rattle.mu_drawing.specs.Answers.{Draws, IsBrokenDrawingOf, IsDrawingOf, TellsOfEvents, breach_with, told_with};
 
-use mu_check::explain;
 use mu_input::{InputEnd, Job, TRACE_LIMIT, read_trace};
-use mu_judging::count_of_lines;
+use mu_judge::explain;
 use mu_model::{Event, NoMemory};
 use mu_outcome::Broken;
-use mu_picture::{Breach, Extent, Sheet, drawn, picture_of};
+use mu_picture::{Breach, Extent, Sheet, drawing_of, picture_of};
 use mu_report::{Said, fault_line};
+use mu_verdict::count_of_lines;
 use std::alloc::Global;
 
 /// What the program puts out.
@@ -33,7 +33,7 @@ pub enum Output {
 /// with the first line that leaves it and the cause; `Broken` exactly if its events aren't
 /// legal, with the first that breaks them and why; else its picture, of the steps that are asked
 /// for. `NoMemory` for want of memory.
-pub fn told_of(alloc: Global, bytes: &[u8], asked: Extent) -> Output
+pub fn output_of(alloc: Global, bytes: &[u8], asked: Extent) -> Output
     requires { length bytes.now ≤ TRACE_LIMIT }
     ensures { Draws bytes.now asked result }
 {
@@ -119,7 +119,7 @@ fn picture(
     ensures { IfOk result (λ sheet. IsDrawingOf job.now line events.now asked sheet) }
 {
     let picture = picture_of(alloc, &job.config, &job.script, events, asked)?;
-    drawn(alloc, job, line, &picture, &None)
+    drawing_of(alloc, job, line, &picture, &None)
 }
 
 /// The event that breaks a list, and what is wrong with it, in the words of `mu why`.
@@ -165,5 +165,5 @@ fn broken_picture(
     let before = front(events, broken.index);
     let picture = picture_of(alloc, &job.config, &job.script, before, asked)?;
     let breach = Some(breach_of(broken));
-    drawn(alloc, job, line, &picture, &breach)
+    drawing_of(alloc, job, line, &picture, &breach)
 }

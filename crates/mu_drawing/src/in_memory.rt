@@ -4,14 +4,14 @@ ghost use Rattle.mu_drawing.specs.Answers.{IsSayable, TellsOfCall, TellsOfSource
 ghost use Rattle.mu_drawing.specs.Words.{asked_steps};
 
 use crate::asking::LAST_STEP;
-use crate::drawing::{Output, told_of};
+use crate::drawing::{Output, output_of};
 use mu_input::TRACE_LIMIT;
 use mu_picture::Extent;
 use mu_report::Said;
 use std::alloc::Global;
 
 /// The steps from one to another, if they are in order and the last is one that can be named.
-pub fn asked_between(first: u32, last: u32) -> Option<Extent>
+pub fn extent_between(first: u32, last: u32) -> Option<Extent>
     ensures { result ≡ asked_steps first last }
 {
     if first <= last && last <= LAST_STEP {
@@ -26,7 +26,7 @@ pub fn asked_between(first: u32, last: u32) -> Option<Extent>
 }
 
 /// What the program tells if it is asked this, and these are the bytes of its input.
-pub fn told_in_memory(alloc: Global, asked: Option<Extent>, bytes: &[u8]) -> Output
+pub fn output_in_memory(alloc: Global, asked: Option<Extent>, bytes: &[u8]) -> Output
     ensures told { TellsOfCall asked (Some bytes.now) (Some bytes.now) 0 0 result }
     ensures sayable { IsSayable result }
 {
@@ -44,5 +44,5 @@ fn told_of_bytes(alloc: Global, asked: Extent, bytes: &[u8]) -> Output
     if bytes.len() > TRACE_LIMIT {
         return Output::Said(Said::TooLong);
     }
-    told_of(alloc, bytes, asked)
+    output_of(alloc, bytes, asked)
 }

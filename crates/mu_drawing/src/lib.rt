@@ -8,6 +8,6 @@ mod drawing;
 mod in_memory;
 
 pub use answering::{USAGE, answer, draw, status_of};
-pub use asking::{LAST_STEP, asked_of, limits_are_stated, unread};
+pub use asking::{LAST_STEP, extent_of, limits_are_stated, unread_output};
 pub use drawing::Output;
-pub use in_memory::{asked_between, told_in_memory};
+pub use in_memory::{extent_between, output_in_memory};

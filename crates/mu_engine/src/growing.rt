@@ -47,8 +47,8 @@ fn pairs(alloc: Global, config: &Config, nodes: usize) -> Result<Vec<(Config, Co
 {
     let mut pairs = Vec::with_capacity(alloc, nodes)?;
     for _ in 0..nodes {
-        let first = config.shared()?;
-        let second = config.shared()?;
+        let first = config.try_clone()?;
+        let second = config.try_clone()?;
         pairs.push_reserved((first, second));
     }
     Ok(pairs)
@@ -66,7 +66,7 @@ impl Copies {
         ensures { IfOk result (λ copies. AreCopies (with_more config.now (row ∷ [])) nodes copies) }
     {
         let own = grown(alloc, config, row)?;
-        let memory = own.shared()?;
+        let memory = own.try_clone()?;
         let nodes = pairs(alloc, &own, nodes)?;
         Ok(Copies { own, memory, nodes })
     }

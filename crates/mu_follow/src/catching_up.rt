@@ -47,7 +47,7 @@ impl Follow {
     /// The read by which the replica goes on, whatever the place of its cycle: the next word that
     /// it lacks of the row that is being read, else the first word of a row of the first entry that
     /// it doesn't have in full, else a look at the next position of its own log, if it is decided.
-    pub fn catching_up(&self) -> Option<Verb>
+    pub fn catching_up_read(&self) -> Option<Verb>
         requires config { IsConfig self.now.config }
         ensures exact { Plans self.now catch_up_due result }
         ensures allowed { MayReplay self.now false result }

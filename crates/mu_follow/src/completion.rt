@@ -168,7 +168,7 @@ impl Completion {
     }
 
     /// How many of the counted entries hold all commands, if they do.
-    pub fn full(&self) -> Option<usize>
+    pub fn full_count(&self) -> Option<usize>
         ensures { (c : Config) → (values : List ℕ) → HoldsCompletion c values self.now
             → result
             ≡ (if nat_le (full_of c values) (length values) then Some (full_of c values)

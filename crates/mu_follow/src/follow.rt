@@ -157,7 +157,7 @@ impl Follow {
         let (knowing, rows) = no_rows(alloc, config)?;
         let (words, own_log) = no_words(alloc, config)?;
         Ok(Follow {
-            config: config.shared()?,
+            config: config.try_clone()?,
             replica: id,
             steps: 0,
             knowing,
@@ -222,7 +222,7 @@ impl Follow {
         ensures { Tells StandsForFollow self.now
             (λ c r mine. if is_full c r mine then Some (full_length c r mine) else None) result }
     {
-        self.completion.full()
+        self.completion.full_count()
     }
 
     /// Whether an applied entry holds the row. Looks at one mark.
@@ -238,7 +238,7 @@ impl Follow {
     pub fn own_head(&self) -> u16
         ensures { Tells StandsForFollow self.now (λ c r mine. region_head r mine) result }
     {
-        self.heads.own()
+        self.heads.own_head()
     }
 
     /// The head of `q` that was read last.
@@ -252,7 +252,7 @@ impl Follow {
 
     /// The region and the position of the first look at what the replica still had to read that
     /// found the place used again.
-    pub fn outrun(&self) -> Option<(u8, u16)>
+    pub fn outrun_place(&self) -> Option<(u8, u16)>
         ensures { Tells StandsForFollow self.now outrun result }
     {
         self.outrun
@@ -408,7 +408,7 @@ impl Follow {
             (λ c r mine. head_due r mine self.now.progress.handed) result }
     {
         let head = (self.progress.handed as u64).min(self.progress.fuo);
-        if u64::from(self.heads.own()) < head {
+        if u64::from(self.heads.own_head()) < head {
             Some(Verb::RaiseHead(as_position(head)))
         } else {
             None

@@ -56,7 +56,7 @@ impl Follow {
         ensures there { IfSome result
             (λ ready. self.now.progress.handed < self.now.rows.applied) }
     {
-        if self.rows.reached() <= self.progress.handed {
+        if self.rows.applied_count() <= self.progress.handed {
             return None;
         }
         match self.knowing.known().get(self.progress.handed) {
@@ -69,7 +69,7 @@ impl Follow {
     }
 
     /// The entries that were handed on to be applied, in order.
-    pub fn handed_on(&self) -> &[u16]
+    pub fn entries_handed_on(&self) -> &[u16]
         ensures { Tells StandsForFollow self.now
             (λ c r mine. take self.now.progress.handed (applied c r mine)) result.now }
     {
@@ -77,7 +77,7 @@ impl Follow {
     }
 
     /// The entries that are applied and were not handed on yet, in order.
-    pub fn to_hand_on(&self) -> &[u16]
+    pub fn entries_to_hand_on(&self) -> &[u16]
         ensures { Tells StandsForFollow self.now
             (λ c r mine. drop self.now.progress.handed (applied c r mine)) result.now }
     {
@@ -114,7 +114,7 @@ impl Follow {
         ensures rows { self.new.rows ≡ self.old.rows }
         ensures config { self.new.config ≡ self.old.config }
     {
-        if self.progress.handed < self.rows.reached() {
+        if self.progress.handed < self.rows.applied_count() {
             self.progress.handed += 1;
         }
     }

@@ -59,7 +59,7 @@ impl Published {
     }
 
     /// The replica's own head.
-    pub fn own(&self) -> u16
+    pub fn own_head(&self) -> u16
         ensures { (r : ℕ) → (mine : List Event) → HoldsPublished r mine self.now
             → result ≡ region_head r mine }
     {

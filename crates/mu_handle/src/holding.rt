@@ -1,7 +1,7 @@
 //! What stands behind a handle.
 
 use mu_engine::Engine;
-use mu_judging::LineJudge;
+use mu_verdict::LineJudge;
 
 /// What a C program holds by a handle.
 pub enum Held {

@@ -8,7 +8,7 @@ ghost use Rattle.mu_input.specs.Settings.{setting, setting_at, width_at, setting
 use crate::cause::{BATCH, BUDGET, HEAD, NO_END, REPLICAS, RING};
 use crate::job::InputEnd;
 use crate::{LEAST_RING, MOST_REPLICAS, MOST_RING, MOST_STEPS, MOST_WIDTH};
-use mu_text::{LineReader, limited, two_words};
+use mu_text::{LineReader, number_within, two_words};
 
 /// The most lines of settings.
 pub const SETTING_LINES: u32 = 5;
@@ -104,7 +104,7 @@ pub fn setting(line: &[u8], name: &[u8], low: u32, high: u32) -> Option<u32>
 {
     let (word, value) = two_words(line)?;
     if word == name {
-        limited(value, low, high)
+        number_within(value, low, high)
     } else {
         None
     }

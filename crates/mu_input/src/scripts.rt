@@ -8,7 +8,7 @@ use crate::cause::{NO_END, SCRIPT, TOO_MANY};
 use crate::job::InputEnd;
 use crate::{MOST_ROUNDS, MOST_SCRIPT_LINES, MOST_STEPS};
 use mu_model::{Pause, Script, Sequence, Stop, is_stopped};
-use mu_text::{LineReader, Words, is_alone, limited, number};
+use mu_text::{LineReader, Words, is_alone, number, number_within};
 use std::alloc::{AllocError, Global};
 
 /// What a line of the script says.
@@ -143,7 +143,7 @@ fn stop_line(replicas: u8, stops: &[Stop], words: &[&[u8]]) -> Option<Stop>
         [name, replica, steps] if *name == b"stop".as_slice() => another_stop(
             stops,
             replica_of(replica, replicas),
-            limited(steps, 0, MOST_STEPS),
+            number_within(steps, 0, MOST_STEPS),
         ),
         _ => None,
     }
@@ -169,8 +169,8 @@ fn pause_line(replicas: u8, pauses: &[Pause], words: &[&[u8]]) -> Option<Pause>
         [name, replica, steps, rounds] if *name == b"pause".as_slice() => another_pause(
             pauses,
             replica_of(replica, replicas),
-            limited(steps, 0, MOST_STEPS),
-            limited(rounds, 1, MOST_ROUNDS),
+            number_within(steps, 0, MOST_STEPS),
+            number_within(rounds, 1, MOST_ROUNDS),
         ),
         _ => None,
     }

@@ -25,7 +25,7 @@ pub struct FilledLog {
 }
 
 /// The greater of a number that was read, if any, and another.
-pub fn raised(read: Option<u64>, held: u64) -> u64
+pub fn greater_of(read: Option<u64>, held: u64) -> u64
     ensures { result ≡ max_with read held }
 {
     match read {
@@ -114,7 +114,7 @@ impl FilledLog {
             → StandsForFilledLog c r p (event ∷ mine) self.new }
     {
         mark(&mut self.filled, spot);
-        self.filled_to = first_unmarked(&self.filled, raised(read, self.filled_to));
+        self.filled_to = first_unmarked(&self.filled, greater_of(read, self.filled_to));
     }
 
     /// The position below which all are known to be filled.

@@ -316,7 +316,7 @@ impl HeldRows {
     }
 
     /// The same number.
-    pub fn reached(&self) -> usize
+    pub fn applied_count(&self) -> usize
         ensures { result ≡ self.now.applied }
     {
         self.applied

@@ -209,7 +209,8 @@ impl KnownLog {
 
     /// Whether the replica `r` saw an entry at position `i` of its own region.
     pub fn has_seen(&self, i: usize) -> bool
-        ensures { Tells StandsForKnownLog self.now (λ c r mine. has (entry_seen r r i) mine) result }
+        ensures { Tells StandsForKnownLog self.now
+            (λ c r mine. has (entry_seen r r i) mine) result }
     {
         match self.seen.get(i) {
             None => false,

@@ -15,7 +15,7 @@ mod row_words;
 mod tables;
 
 pub use commit::{Commit, Commits, Log};
-pub use filled_log::{FilledLog, fuo_in, raised};
+pub use filled_log::{FilledLog, fuo_in, greater_of};
 pub use held_rows::{HeldRows, LAST_WORD};
 pub use known_log::{KnownLog, first_values};
 pub use row_words::RowWords;

@@ -3,7 +3,7 @@ ghost use Rattle.std.specs.Prelude.{IfOk, IsTrue, ◌↔◌};
 ghost use Rattle.mu_model.specs.Contents.{IsConfig};
 ghost use Rattle.mu_model.specs.Legal.{IsLegal};
 
-use mu_check::{Verdict, at_most_one_verdict, check};
+use mu_judge::{Verdict, at_most_one_verdict, check};
 use mu_model::{Config, Event, NoMemory};
 use std::alloc::Global;
 

@@ -21,7 +21,9 @@ impl Lead {
             → TellsFailed self.now.config self.now.id mine failed
             → p < self.now.config.replicas → result ≡ is_astray self.now.id mine p }
     {
-        !self.leading.is_member(p) && !has_bit(failed, p) && self.leading.foreign(p) >= LONG_ROW
+        !self.leading.is_member(p)
+            && !has_bit(failed, p)
+            && self.leading.foreign_count(p) >= LONG_ROW
     }
 
     /// The first region that has gone astray.
@@ -89,7 +91,7 @@ impl Lead {
             → TellsAstray self.now.config self.now.id mine result }
     {
         match self.first_astray(self.failed) {
-            Some(p) => match self.leading.seen(p) {
+            Some(p) => match self.leading.seen_fence(p) {
                 Some(fence) => Note::Astray { replica: p, fence },
                 None => Note::Working,
             },

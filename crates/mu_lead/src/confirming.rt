@@ -52,7 +52,7 @@ impl Lead {
             → result ≡ is_confirmed_by self.now.config self.now.id now }
     {
         let n = self.config.replicas;
-        self.leading.noted(self.id).is_some() && majority(n) <= count_noted(&self.leading, n)
+        self.leading.noted_grant(self.id).is_some() && majority(n) <= count_noted(&self.leading, n)
     }
 
     /// The place after a round of fences.

@@ -31,7 +31,7 @@ impl Lead {
             → result ≡ (if is_some (noted_grant r p now) then SomePlace.LateMin p
             else late_from c r now self.now.heads (p + 1))) }
     {
-        if self.leading.noted(p).is_some() {
+        if self.leading.noted_grant(p).is_some() {
             Place::LateMin(p)
         } else {
             self.late_from(p.saturating_add(1), known, log)

@@ -92,7 +92,7 @@ impl Lead {
         ensures idle { IfOk result (λ lead. lead.under_way ≡ false) }
     {
         Ok(Lead {
-            config: config.shared()?,
+            config: config.try_clone()?,
             id,
             named: false,
             failed: 0,

@@ -41,7 +41,7 @@ pub(crate) fn next_noted(leading: &Leadership, from: u8, n: u8) -> Option<u8>
     ensures { FindsRegion leading.now (λ r mine p. is_some (noted_grant r p mine)) from n result }
 {
     for p in from..n {
-        if leading.noted(p).is_some() {
+        if leading.noted_grant(p).is_some() {
             return Some(p);
         }
     }
@@ -55,7 +55,7 @@ pub(crate) fn count_noted(leading: &Leadership, n: u8) -> u8
 {
     let mut count: u8 = 0;
     for p in 0..n {
-        if leading.noted(p).is_some() {
+        if leading.noted_grant(p).is_some() {
             count += 1;
         }
     }
@@ -69,7 +69,11 @@ fn bit_of(leading: &Leadership, p: u8) -> u8
         → result ≡ bit (is_some (noted_grant r p mine)) }
     ensures low { result ≤ 1 }
 {
-    if leading.noted(p).is_some() { 1 } else { 0 }
+    if leading.noted_grant(p).is_some() {
+        1
+    } else {
+        0
+    }
 }
 
 /// The regions whose grants are noted, bit p for region p.

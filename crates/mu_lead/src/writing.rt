@@ -27,7 +27,7 @@ use mu_model::{Config, PAYLOADS, Verb, row_rest, stands_for_batch};
 impl Lead {
     /// The word of an own row that a leader writes ahead, if it leads and there is one: the next of
     /// the batch after the one that is offered, or after the last known one.
-    pub fn ahead(&self, known: &[u16]) -> Option<Verb>
+    pub fn word_ahead(&self, known: &[u16]) -> Option<Verb>
         ensures { length known.now < 65536
             → result ≡ ahead_at self.now.config self.now.id known.now self.now.written.items
             self.now.place }

@@ -6,6 +6,7 @@ use mu_model::Verb;
 
 /// Whether the verb is one of a leader's. Beats, rows, heads and what a host does change nothing of
 /// its leadership.
+#[inline(always)]
 pub fn is_leader_verb(verb: &Verb) -> bool
     ensures { result ≡ is_leader_verb verb.now }
 {

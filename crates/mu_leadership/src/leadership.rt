@@ -227,7 +227,7 @@ impl Leadership {
     }
 
     /// The region that was asked last.
-    pub fn asked(&self) -> Option<u8>
+    pub fn asked_region(&self) -> Option<u8>
         ensures { Tells self.now last_asked result }
     {
         self.asked
@@ -266,35 +266,35 @@ impl Leadership {
     }
 
     /// The grant of `p` that was noted.
-    pub fn noted(&self, p: u8) -> Option<u32>
+    pub fn noted_grant(&self, p: u8) -> Option<u32>
         ensures { TellsOf self.now noted_grant p result }
     {
         self.notes_of(p).noted
     }
 
     /// The fence of `p` that was seen last.
-    pub fn seen(&self, p: u8) -> Option<Fence>
+    pub fn seen_fence(&self, p: u8) -> Option<Fence>
         ensures { TellsOf self.now last_seen p result }
     {
         self.notes_of(p).seen
     }
 
     /// How many times in a row, up to `LONG_ROW`, `p` was seen open to another under the number.
-    pub fn foreign(&self, p: u8) -> u8
+    pub fn foreign_count(&self, p: u8) -> u8
         ensures { TellsOf self.now foreign_row p result }
     {
         self.notes_of(p).foreign
     }
 
     /// The target that `p` was entered with last.
-    pub fn opened(&self, p: u8) -> Option<Target>
+    pub fn opened_target(&self, p: u8) -> Option<Target>
         ensures { TellsOf self.now last_opened p result }
     {
         self.notes_of(p).opened
     }
 
     /// The target that `p` is entered with in the leadership.
-    pub fn entered(&self, p: u8) -> Option<Target>
+    pub fn entered_target(&self, p: u8) -> Option<Target>
         ensures { TellsOf self.now open_target p result }
     {
         self.notes_of(p).entered
@@ -380,7 +380,7 @@ impl Leadership {
             → StandsForLeadership r mine self.now
             → (IsTrue result ↔ IsMet c r mine (Reason.NotReadable p)) }
     {
-        p == self.replica || self.noted(p).is_some()
+        p == self.replica || self.noted_grant(p).is_some()
     }
 
     /// Whether it may put the number.

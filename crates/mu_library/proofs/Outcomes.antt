@@ -5,8 +5,8 @@ use Rattle.mu_picture.specs.declared.pictures.Extent.{Extent}
 use Rattle.mu_drawing.specs.declared.drawing.Output.{Output}
 use Rattle.mu_input.specs.declared.job.InputEnd.{InputEnd}
 use Rattle.mu_handle.specs.declared.holding.Held.{Held}
-use Rattle.mu_judging.specs.LineJudges.{said_by, HasTaken, IsEndOfJob, Opens}
-use Rattle.mu_judging.specs.declared.line_judge.LineJudge.{LineJudge}
+use Rattle.mu_verdict.specs.LineJudges.{said_by, HasTaken, IsEndOfJob, Opens}
+use Rattle.mu_verdict.specs.declared.line_judge.LineJudge.{LineJudge}
 use Rattle.mu_library.specs.Calls.{Answers, CanTake, Draws, EndsJob, HasNew, OpensJudge, PutsSaid, PutsTold, SaysSoFar}
 use Rattle.mu_model.specs.Contents.{IsConfig}
 use Rattle.mu_model.specs.declared.config.Config.{Config}

@@ -10,9 +10,9 @@ use Rattle.mu_events.specs.Events.{event_of}
 use Rattle.mu_input.specs.Grammar.{job}
 use Rattle.mu_input.specs.Readings.{Leaves}
 use Rattle.mu_input.specs.declared.TheConstants.{MOST_COMMANDS}
-use Rattle.mu_judging.specs.LineJudges.{event_in, said_by, status_with, HasTaken, Opens}
+use Rattle.mu_verdict.specs.LineJudges.{event_in, said_by, status_with, HasTaken, Opens}
 use Rattle.mu_handle.specs.declared.holding.Held.{Held}
-use Rattle.mu_judging.specs.declared.line_judge.LineJudge.{LineJudge}
+use Rattle.mu_verdict.specs.declared.line_judge.LineJudge.{LineJudge}
 use Rattle.mu_library.specs.Front.{Puts}
 use Rattle.mu_library.specs.declared.tasks.Work.{Work}
 use Rattle.mu_model.specs.Contents.{IsConfig}

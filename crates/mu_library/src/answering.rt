@@ -10,7 +10,7 @@ use crate::tasks::{Work, asked_after, asked_of};
 use mu_model::NoMemory;
 use mu_outcome::Status;
 use mu_report::{Said, status_for};
-use mu_top::{told_alone, told_of_bulk};
+use mu_top::{answer_alone, answer_of_bulk};
 use std::alloc::Global;
 
 /// How a call ended.
@@ -51,8 +51,8 @@ fn said_of(alloc: Global, asked: Work, input: &[u8]) -> Said
 {
     match asked {
         Work::Nothing => Said::Usage,
-        Work::Bulk(count) => told_of_bulk(alloc, count),
-        Work::Input(task) => told_alone(alloc, task, input),
+        Work::Bulk(count) => answer_of_bulk(alloc, count),
+        Work::Input(task) => answer_alone(alloc, task, input),
     }
 }
 

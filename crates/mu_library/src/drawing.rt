@@ -8,7 +8,7 @@ ghost use Rattle.mu_report.specs.declared.said.Said.TheVariants.{NoMemory as NoM
 
 use crate::answering::{Answered, no_memory};
 use crate::front::{put_bytes, put_said};
-use mu_drawing::{Output, USAGE, asked_between, status_of, told_in_memory};
+use mu_drawing::{Output, USAGE, extent_between, output_in_memory, status_of};
 use std::alloc::Global;
 
 /// What `mu_draw FIRST LAST` says if these are the bytes of its input, and the status that it
@@ -19,7 +19,7 @@ pub fn draw(alloc: Global, first: u32, last: u32, input: &[u8], out: &mut [u8]) 
 {
     tell(
         alloc,
-        told_in_memory(alloc, asked_between(first, last), input),
+        output_in_memory(alloc, extent_between(first, last), input),
         out,
     )
 }

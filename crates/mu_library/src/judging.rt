@@ -7,11 +7,11 @@ ghost use Rattle.mu_report.specs.declared.said.Said.TheVariants.{NoMemory as NoM
 use crate::answering::{Answered, no_memory, nothing, say};
 use crate::handles::{let_go, taken_out};
 use mu_handle::{Handle, Held};
-use mu_judging::LineJudge;
 use mu_model::NoMemory;
 use mu_outcome::Status;
 use mu_report::Said;
 use mu_top::INPUT_LIMIT;
+use mu_verdict::LineJudge;
 use std::alloc::Global;
 
 /// Makes a judge of the job that the bytes spell. With status 0 the handle has it, and nothing is
@@ -80,7 +80,7 @@ fn taken_by(held: &mut Held, line: &[u8]) -> u8
 
 /// What is said of the lines so far, and its status, which is 1 if there is no judge. What is held
 /// stays as it is.
-pub fn told_by(alloc: Global, handle: &mut Handle, out: &mut [u8]) -> Answered
+pub fn judge_answer(alloc: Global, handle: &mut Handle, out: &mut [u8]) -> Answered
     ensures says { SaysOfJudge handle.old.held out.old out.new result.status result.taken }
     ensures kept { handle.new.held ≡ handle.old.held }
 {
@@ -98,7 +98,7 @@ fn told_of(alloc: Global, held: &Held, out: &mut [u8]) -> Answered
     ensures { SaysOfHeld held.now out.old out.new result.status result.taken }
 {
     match held {
-        Held::Judge(judge) => say(alloc, judge.said(), out),
+        Held::Judge(judge) => say(alloc, judge.answer_so_far(), out),
         Held::Engine(_) => nothing(Status::Usage.code()),
     }
 }

@@ -21,6 +21,6 @@ pub use answering::{Answered, answer, show};
 pub use drawing::draw;
 pub use engines::{Submitted, open_engine, pause_replica, play_round, stop_replica, submit_line};
 pub use handles::let_go;
-pub use judging::{open_judge, take_line, told_by};
+pub use judging::{judge_answer, open_judge, take_line};
 pub use replies::Replied;
-pub use telling::{reply_told, trace_told};
+pub use telling::{row_reply, trace_so_far};

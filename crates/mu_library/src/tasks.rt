@@ -3,7 +3,7 @@ ghost use Rattle.std.specs.Prelude.{◌≡◌};
 ghost use Rattle.mu_library.specs.Calls.{asked_after as asked_after_these, asked_as, asked_at, HasRoom};
 
 use mu_input::MOST_COMMANDS;
-use mu_text::limited;
+use mu_text::number_within;
 use mu_top::{Alone, MOST_SHOWN};
 
 /// What is to be done.
@@ -28,7 +28,7 @@ pub(crate) fn asked_of(task: u32, input: &[u8]) -> Work
         3 => Work::Input(Alone::Check),
         4 => Work::Input(Alone::Why),
         5 => Work::Input(Alone::Book),
-        6 => match limited(input, 0, MOST_COMMANDS as u32) {
+        6 => match number_within(input, 0, MOST_COMMANDS as u32) {
             Some(count) => Work::Bulk(count as u16),
             None => Work::Nothing,
         },

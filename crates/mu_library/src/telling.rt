@@ -12,7 +12,7 @@ use mu_outcome::Status;
 use std::alloc::Global;
 
 /// The reply to the command of a row, as soon as some replica has handed the row on to its store.
-pub fn reply_told(alloc: Global, handle: &mut Handle, row: u32, out: &mut [u8]) -> Replied
+pub fn row_reply(alloc: Global, handle: &mut Handle, row: u32, out: &mut [u8]) -> Replied
     ensures { OfHandle (IsUntold result.reply out.old out.new result.taken)
         (Asks (Replies row result.reply out.old out.new result.taken))
         handle.old.held handle.new.held result.status }
@@ -54,7 +54,7 @@ fn reply_of(engine: &Engine, row: u32, out: &mut [u8]) -> Replied
 
 /// The job and the events so far, as a trace. The status is 11 if a job's text has its commands in
 /// another order, and then nothing is told. Want of memory can come in place of a trace.
-pub fn trace_told(alloc: Global, handle: &mut Handle, out: &mut [u8]) -> Answered
+pub fn trace_so_far(alloc: Global, handle: &mut Handle, out: &mut [u8]) -> Answered
     ensures { OfHandle ((result.taken ≡ 0) × (out.new ≡ out.old))
         (Asks (Traces out.old out.new result.taken)) handle.old.held handle.new.held
         result.status }

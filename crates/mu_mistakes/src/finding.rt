@@ -7,7 +7,7 @@ ghost use Rattle.mu_text.specs.Lines.{is_first, lines};
 ghost use Rattle.mu_mistakes.specs.Expected.{begins_with, clients_before, one_client, replicas_in};
 
 use mu_input::MOST_REPLICAS;
-use mu_text::{LineReader, Words, is_first, limited, two_words};
+use mu_text::{LineReader, Words, is_first, number_within, two_words};
 
 /// The line of this number, counted from 1, if there is one.
 pub(crate) fn line_at(bytes: &[u8], number: u32) -> Option<&[u8]>
@@ -61,5 +61,5 @@ pub(crate) fn replicas_in(bytes: &[u8]) -> Option<u32>
     ensures { result ≡ replicas_in bytes.now }
 {
     let (_, value) = two_words(line_at(bytes, 2)?)?;
-    limited(value, 1, u32::from(MOST_REPLICAS))
+    number_within(value, 1, u32::from(MOST_REPLICAS))
 }

@@ -9,7 +9,7 @@ mod flaw;
 mod misread;
 mod shown;
 
-pub use misread::{Misread, refused_at};
+pub use misread::{Misread, misread_at};
 
 /// How many bytes of a line are shown.
 pub const SHOWN_BYTES: usize = 64;

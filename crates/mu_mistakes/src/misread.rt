@@ -26,7 +26,7 @@ pub struct Misread {
 
 /// Why the bytes leave the grammar in this line, for this cause. Takes no memory, and the time of a
 /// few walks over the lines before it.
-pub fn refused_at(bytes: &[u8], line: u32, cause: u8) -> Misread
+pub fn misread_at(bytes: &[u8], line: u32, cause: u8) -> Misread
     requires { length bytes.now ≤ TRACE_LIMIT }
     ensures line { result.line ≡ line }
     ensures cause { result.cause ≡ cause }

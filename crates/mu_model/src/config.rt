@@ -59,7 +59,7 @@ impl Config {
     /// # Errors
     ///
     /// `AllocError` if they are shared more often than a word can count.
-    pub fn shared(&self) -> Result<Config, AllocError>
+    pub fn try_clone(&self) -> Result<Config, AllocError>
         ensures { IfOk result (λ c. c ≡ self.now) }
     {
         Ok(Config {
@@ -68,7 +68,7 @@ impl Config {
             replicas: self.replicas,
             ring: self.ring,
             budget: self.budget,
-            rows: self.rows.shared()?,
+            rows: self.rows.try_clone()?,
         })
     }
 }

@@ -42,7 +42,7 @@ impl Rows {
     /// # Errors
     ///
     /// `AllocError` if they are shared more often than a word can count.
-    pub fn shared(&self) -> Result<Rows, AllocError>
+    pub fn try_clone(&self) -> Result<Rows, AllocError>
         ensures { IfOk result (λ same. same ≡ self.now) }
     {
         Ok(Rows {

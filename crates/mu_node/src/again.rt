@@ -43,7 +43,7 @@ impl Node {
             ≡ (is_named self.now.follow.config self.now.id mine
             && asks_again self.now.follow.config self.now.id mine) }
     {
-        let asks = self.lead.asks_again(self.watch.failed());
+        let asks = self.lead.asks_again(self.watch.failed_replicas());
         self.watch.leader() == self.id && asks
     }
 

@@ -130,7 +130,7 @@ pub(crate) fn end_of_outrun(follow: &Follow) -> Option<End>
     ensures none { (c : Config) → (r : ℕ) → (mine : List Event)
         → StandsForFollow c r mine follow.now → result ≡ None → outrun c r mine ≡ None }
 {
-    match follow.outrun() {
+    match follow.outrun_place() {
         Some((replica, position)) => Some(End::Outrun { replica, position }),
         None => None,
     }
@@ -148,7 +148,7 @@ pub(crate) fn end_of_going(follow: &Follow, watch: &Watch, r: u8, n: u8) -> Opti
         → StandsForFollow c r mine follow.now → result ≡ None
         → (outrun c r mine ≡ None) × (is_finished_of c r mine ≡ false) }
 {
-    match follow.outrun() {
+    match follow.outrun_place() {
         Some((replica, position)) => Some(End::Outrun { replica, position }),
         None => {
             if is_finished(follow, watch, r, n) {

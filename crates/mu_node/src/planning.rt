@@ -168,7 +168,7 @@ impl Node {
                 if leading || self.lead.named {
                     None
                 } else {
-                    self.follow.catching_up()
+                    self.follow.catching_up_read()
                 }
             }
         }
@@ -205,7 +205,7 @@ impl Node {
             Some(verb) => Some(verb),
             None => match self.zeal {
                 Zeal::Plain => None,
-                Zeal::Eager => self.lead.ahead(self.follow.known()),
+                Zeal::Eager => self.lead.word_ahead(self.follow.known()),
             },
         }
     }
@@ -229,7 +229,7 @@ impl Node {
         ensures told { HasTold self.old.follow.config self.old.id mine self.old.lead self.new.lead }
     {
         let leader = self.watch.leader();
-        let failed = self.watch.failed();
+        let failed = self.watch.failed_replicas();
         self.lead.heed(leader, failed)
     }
 }

@@ -21,11 +21,11 @@ use mu_model::{Config, PAYLOADS};
 
 impl Node {
     /// The entries that it has handed on to its store so far, in order.
-    pub fn handed_on(&self) -> &[u16]
+    pub fn entries_handed_on(&self) -> &[u16]
         ensures { Tells LivesForNode self.now
             (λ c r mine. take (handed_before c r mine) (applied c r mine)) result.now }
     {
-        self.follow.handed_on()
+        self.follow.entries_handed_on()
     }
 
     /// The replies so far: those of its store to the commands of these entries, in order.
@@ -52,10 +52,10 @@ impl Node {
         if !self.follow.has_applied(row) {
             return None;
         }
-        if is_among(self.follow.config(), self.follow.to_hand_on(), row) {
+        if is_among(self.follow.config(), self.follow.entries_to_hand_on(), row) {
             return None;
         }
-        match place_in(self.follow.config(), self.handed_on(), row) {
+        match place_in(self.follow.config(), self.entries_handed_on(), row) {
             Some(at) => self.answers.reply(at),
             None => None,
         }

@@ -108,7 +108,7 @@ impl Watch {
     }
 
     /// Which replicas they hold to be failed: bit q for replica q.
-    pub fn failed(&self) -> u8
+    pub fn failed_replicas(&self) -> u8
         ensures { (c : Config) → (r : ℕ) → (mine : List SomeEvent)
             → StandsForWatch c r mine self.now
             → TellsFailed c r mine result }

@@ -12,7 +12,7 @@ use crate::hosting::{
     has_drained, has_looked, has_to_drain, is_closing, is_next_to_serve, nobody_waits,
 };
 use crate::knowledge::{are_filled, known_length};
-use crate::leadership::{grant_noted, has_asked, has_ended};
+use crate::leadership::{has_asked, has_ended, noted_grant};
 use crate::placing::{has_reached, may_put_slot};
 use crate::walks::newest_of;
 use mu_model::{Config, Event, Fence, PAYLOADS, Verb, count_of_rows, reserve_of, row_word};
@@ -46,12 +46,12 @@ fn meets_needs(config: &Config, r: u8, part: &[Event], verb: &Verb) -> bool
         Verb::Ask(p) => p < n
             && (p == 0 || (has_asked(r, part) && asked_last(r, part) == Some(p - 1))),
         Verb::Fence(p) => p < n && has_asked(r, part),
-        Verb::Min(p) => p < n && grant_noted(r, p, part).is_some() && !has_ended(r, part),
+        Verb::Min(p) => p < n && noted_grant(r, p, part).is_some() && !has_ended(r, part),
         Verb::Enter(p, t) => p < n && may_enter(config, r, part, p, t),
         Verb::PutMin(p, b) => may_put_min(config, r, part, p, b),
         Verb::Look(p, i) => p < n
             && is_position(config, i)
-            && (p == r || grant_noted(r, p, part).is_some()),
+            && (p == r || noted_grant(r, p, part).is_some()),
         Verb::PutSlot(p, i, b, v) => p < n
             && is_position(config, i)
             && may_put_slot(config, r, part, p, i, b, v),

@@ -5,8 +5,8 @@ ghost use Rattle.mu_model.specs.Answers.{answer_of, drained};
 ghost use Rattle.mu_model.specs.Histories.{history};
 ghost use Rattle.mu_model.specs.Regions.{asks, beats, fence, fence_grant, region_fuo, region_head, region_log, region_min, row_word};
 
-use crate::hosting::{drains, is_closing, is_granting, owner_of};
-use crate::leadership::grant_noted;
+use crate::hosting::{is_closing, is_drain, is_granting, owner_of};
+use crate::leadership::noted_grant;
 use crate::placing::is_entering;
 use crate::walks::{count_of, events_since, greatest_of, newest_of, some_event};
 use mu_model::{Answer, Config, Event, Fence, PAYLOADS, Target, Verb};
@@ -148,7 +148,7 @@ fn is_drained(r: u8, p: u8, events: &[Event]) -> bool
 {
     some_event(
         events_since(events, |e| is_entering(r, p, e)),
-        |e| drains(p, e),
+        |e| is_drain(p, e),
     )
 }
 
@@ -163,7 +163,7 @@ pub fn answers(config: &Config, events: &[Event], by: u8, verb: &Verb) -> Answer
         Verb::Min(p) => Answer::Number(u64::from(minimum_of(p, events))),
         Verb::Enter(p, _) => {
             let fence = fence_of(p, events);
-            match grant_noted(by, p, events) {
+            match noted_grant(by, p, events) {
                 Some(g) if !fence.closing && fence.grant == g => Answer::Entered,
                 _ => Answer::Lost(fence),
             }

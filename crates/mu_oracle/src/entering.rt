@@ -7,7 +7,7 @@ ghost use Rattle.mu_model.specs.Leaderships.{leadership, number_put, proposal_nu
 ghost use Rattle.mu_model.specs.Points.{AreMet, enters};
 ghost use Rattle.mu_model.specs.declared.event.Verb.{Verb as SomeVerb};
 
-use crate::leadership::{grant_noted, has_ended, is_in, leadership_of, proposal_of};
+use crate::leadership::{has_ended, is_in, leadership_of, noted_grant, proposal_of};
 use crate::walks::{count_under, greatest_of, newest_of};
 use mu_model::{Answer, Config, Event, Fence, Target, Verb, majority};
 
@@ -39,7 +39,7 @@ fn has_read_under(r: u8, p: u8, g: u32, part: &[Event]) -> bool
 fn has_read_minimum(r: u8, p: u8, part: &[Event]) -> bool
     ensures { result ≡ has_read_min r p (history part.now) }
 {
-    match grant_noted(r, p, part) {
+    match noted_grant(r, p, part) {
         None => false,
         Some(g) => has_read_under(r, p, g, part),
     }
@@ -67,7 +67,7 @@ pub fn may_enter(config: &Config, r: u8, part: &[Event], p: u8, target: Target) 
     match target {
         Target::None => false,
         Target::Min => {
-            grant_noted(r, p, part).is_some()
+            noted_grant(r, p, part).is_some()
                 && !has_ended(r, part)
                 && has_read_minimum(r, p, part)
                 && (proposal_of(r, part).is_some() || has_majority(config, r, part))

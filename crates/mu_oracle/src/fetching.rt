@@ -3,7 +3,7 @@ ghost use Rattle.std.specs.Prelude.{List, [], length, ℕ, ◌%◌, ◌&&◌, �
 ghost use Rattle.mu_model.specs.Histories.{all_below, has, history};
 ghost use Rattle.mu_model.specs.Knowledge.{applied, fetched_prefix, front, has_entry, has_row, has_word, is_read, wrote, wrote_batch};
 
-use crate::knowledge::learnt;
+use crate::knowledge::learnt_value;
 use crate::walks::{all_under, all_up_to, some_event};
 use mu_model::{Config, Event, PAYLOADS, Verb, row_rest, stands_for_batch};
 
@@ -96,7 +96,7 @@ pub fn applied_length(config: &Config, r: u8, part: &[Event]) -> u64
     let mut count: u64 = 0;
     let mut front: u64 = 0;
     for (i, e) in part.iter().enumerate() {
-        if let Some(v) = learnt(config, r, &part[..i], count, e, &part[..i + 1]) {
+        if let Some(v) = learnt_value(config, r, &part[..i], count, e, &part[..i + 1]) {
             front = front_added(config, r, part, front, count, v);
             count += 1;
         }

@@ -32,7 +32,7 @@ fn closes(r: u8, e: &Event) -> bool
 }
 
 /// Whether the event is a `Drain` of `r`.
-pub fn drains(r: u8, e: &Event) -> bool
+pub fn is_drain(r: u8, e: &Event) -> bool
     ensures { result ≡ is_drain_of r e.now }
 {
     matches!(e.verb, Verb::Drain if e.by == r)
@@ -151,7 +151,7 @@ pub fn has_looked(r: u8, part: &[Event]) -> bool
 pub fn has_drained(r: u8, part: &[Event]) -> bool
     ensures { result ≡ drained_since_close r (history part.now) }
 {
-    some_event(since_close(r, part), |e| drains(r, e))
+    some_event(since_close(r, part), |e| is_drain(r, e))
 }
 
 /// Whether `w` is the least that waits.

@@ -77,7 +77,7 @@ fn trusts(r: u8, part: &[Event], p: u8, i: u16) -> bool
 }
 
 /// The value that the step teaches; `part` came before it, and `now` is with it.
-pub fn learnt(
+pub fn learnt_value(
     config: &Config,
     r: u8,
     part: &[Event],
@@ -115,7 +115,7 @@ pub fn known_length(config: &Config, r: u8, part: &[Event]) -> u64
 {
     let mut count: u64 = 0;
     for (i, e) in part.iter().enumerate() {
-        if learnt(config, r, &part[..i], count, e, &part[..i + 1]).is_some() {
+        if learnt_value(config, r, &part[..i], count, e, &part[..i + 1]).is_some() {
             count += 1;
         }
     }
@@ -136,13 +136,13 @@ fn value_added(value: Option<u16>, count: u64, i: u16, v: u16) -> Option<u16>
 }
 
 /// What `r` knows at `i`.
-pub fn known_at(config: &Config, r: u8, part: &[Event], i: u16) -> Option<u16>
+pub fn known_value_at(config: &Config, r: u8, part: &[Event], i: u16) -> Option<u16>
     ensures { result ≡ slice_get (known config.now r (history part.now)) i }
 {
     let mut count: u64 = 0;
     let mut value: Option<u16> = None;
     for (k, e) in part.iter().enumerate() {
-        if let Some(v) = learnt(config, r, &part[..k], count, e, &part[..k + 1]) {
+        if let Some(v) = learnt_value(config, r, &part[..k], count, e, &part[..k + 1]) {
             value = value_added(value, count, i, v);
             count += 1;
         }
@@ -168,7 +168,7 @@ fn step_fills(
         (Verb::Fuo(q), Answer::Number(x)) => e.by == r && q == p && u64::from(j) < x,
         (Verb::PutSlot(q, i, b, v), Answer::Done) => {
             e.by == r
-                && ((q == p && i == j && known_at(config, r, part, j) == Some(v))
+                && ((q == p && i == j && known_value_at(config, r, part, j) == Some(v))
                     || (known_length(config, r, part) == u64::from(j)
                         && known_length(config, r, now) == u64::from(j) + 1
                         && has_put(r, p, j, b, v, now)))
@@ -219,7 +219,7 @@ pub fn knows_mark(config: &Config, q: u8, r: u8, part: &[Event]) -> bool
     let mut count: u64 = 0;
     let mut found = false;
     for (i, e) in part.iter().enumerate() {
-        if let Some(v) = learnt(config, r, &part[..i], count, e, &part[..i + 1]) {
+        if let Some(v) = learnt_value(config, r, &part[..i], count, e, &part[..i + 1]) {
             found = mark_added(config, q, found, v);
             count += 1;
         }
@@ -248,7 +248,7 @@ pub fn commands_known(config: &Config, client: u64, r: u8, part: &[Event]) -> u6
     let mut count: u64 = 0;
     let mut taken: u64 = 0;
     for (i, e) in part.iter().enumerate() {
-        if let Some(v) = learnt(config, r, &part[..i], count, e, &part[..i + 1]) {
+        if let Some(v) = learnt_value(config, r, &part[..i], count, e, &part[..i + 1]) {
             taken = taken_added(config, client, taken, v);
             count += 1;
         }

@@ -31,7 +31,7 @@ fn named_grant(r: u8, seen: Option<Fence>) -> Option<u32>
 }
 
 /// The grant of `p` that `r` has noted.
-pub fn grant_noted(r: u8, p: u8, part: &[Event]) -> Option<u32>
+pub fn noted_grant(r: u8, p: u8, part: &[Event]) -> Option<u32>
     ensures { result ≡ noted_grant r p (history part.now) }
 {
     let seen = newest_of(leadership_of(r, part), |e| match (e.verb, e.answer) {
@@ -67,7 +67,7 @@ fn joined(r: u8, p: u8, part: &[Event]) -> Option<Option<u32>>
         if starts_leadership(r, e) {
             joined = None;
         } else if joined.is_none() && minimum_landed(r, p, e) {
-            joined = Some(grant_noted(r, p, &part[..i]));
+            joined = Some(noted_grant(r, p, &part[..i]));
         }
     }
     joined

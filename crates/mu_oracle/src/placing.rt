@@ -11,7 +11,7 @@ ghost use Rattle.mu_model.specs.Points.{AreMet, each_below, puts, values};
 ghost use Rattle.mu_model.specs.declared.reason.Reason.{Reason};
 
 use crate::entering::opening;
-use crate::knowledge::{fuo_read_by, known_at};
+use crate::knowledge::{fuo_read_by, known_value_at};
 use crate::leadership::{
     has_ended, is_carried, is_in, leadership_of, proposal_of, starts_leadership,
 };
@@ -141,7 +141,7 @@ fn is_caught_up_with(config: &Config, r: u8, p: u8, part: &[Event], j: u16) -> b
     ensures { result ≡ is_caught_up_at config.now r p (history part.now) j }
 {
     u64::from(j) < fuo_read_by(r, p, leadership_of(r, part))
-        || has_put_known(r, p, j, known_at(config, r, part, j), part)
+        || has_put_known(r, p, j, known_value_at(config, r, part, j), part)
 }
 
 /// Whether `p` has all that is known below `i`.
@@ -165,7 +165,7 @@ fn is_value_for(config: &Config, r: u8, part: &[Event], i: u16, v: u16) -> bool
     ensures { IsTrue result
         ↔ AreMet config.now r (history part.now) (values config.now r (history part.now) i v) }
 {
-    known_at(config, r, part, i) == Some(v) || may_begin(config, r, part, i, v)
+    known_value_at(config, r, part, i) == Some(v) || may_begin(config, r, part, i, v)
 }
 
 /// Whether `r` may write position `i` of `p` under the number `b`.

@@ -6,7 +6,7 @@ ghost use Rattle.mu_picture.specs.Marks.{lowest};
 ghost use Rattle.mu_picture.specs.Xml.{IsDocument};
 
 use crate::heading::push_head;
-use crate::lanes::{paused, push_lane as push_lane_line, push_region};
+use crate::lanes::{pause_shape, push_lane as push_lane_line, push_region};
 use crate::layout::{Cursor, TOP, lane, top_of};
 use crate::marks::Mark;
 use crate::openings::Opening;
@@ -15,7 +15,7 @@ use crate::rows::{push_axis, push_event, push_fold, push_rows, push_step, push_t
 use crate::shapes::{Look, Part, Shape, Way, push_parts, push_shape, push_text};
 use crate::sheet::Sheet;
 use crate::standings::Standing;
-use crate::words::{note, numbered};
+use crate::words::{note, numbered_line};
 use mu_events::event_line;
 use mu_input::Job;
 use mu_model::{Event, NoMemory};
@@ -42,7 +42,7 @@ fn push_standing(sheet: &mut Sheet, r: u8, opening: &Opening) -> Result<(), NoMe
         Standing::Going => push_lane_line(sheet, r, TOP, opening.leads, opening.named),
         Standing::Paused => {
             push_lane_line(sheet, r, TOP, opening.leads, opening.named)?;
-            push_shape(sheet, paused(r, TOP))
+            push_shape(sheet, pause_shape(r, TOP))
         }
         Standing::Ended => Ok(()),
     }
@@ -75,7 +75,7 @@ fn push_goes_on(sheet: &mut Sheet, end: u32, y: u64) -> Result<(), NoMemory>
     requires { y < 2 ^ 60 }
     ensures { OnOk result (sheet.new ≡ sheet.old ++ goes_on_pieces end y) }
 {
-    let line = numbered(b"with step ", u64::from(end));
+    let line = numbered_line(b"with step ", u64::from(end));
     push_axis(sheet, y + 12, b"goes on")?;
     push_text(sheet, Look::Label, 62, y + 12, line.as_slice())
 }
@@ -377,7 +377,7 @@ fn push_document(
 /// # Errors
 ///
 /// Only want of memory.
-pub fn drawn(
+pub fn drawing_of(
     alloc: Global,
     job: &Job,
     line: u32,

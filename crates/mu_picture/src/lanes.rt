@@ -95,7 +95,7 @@ fn line(r: u8, y: u64) -> Shape
 }
 
 /// A pause of `r` from `y` on.
-pub fn paused(r: u8, y: u64) -> Shape
+pub fn pause_shape(r: u8, y: u64) -> Shape
     ensures { result ≡ paused_shape r y }
 {
     Shape::Bar {
@@ -264,7 +264,7 @@ pub fn push_halt(sheet: &mut Sheet, r: u8, y: u64, halt: Option<Halt>) -> Result
         Some(Halt::Stop) => push_ended(sheet, r, y),
         Some(Halt::Spent) => push_ended(sheet, r, y),
         Some(Halt::Finish) => push_finished(sheet, r, y),
-        Some(Halt::Pause(_)) => push_shape(sheet, paused(r, y + 6)),
+        Some(Halt::Pause(_)) => push_shape(sheet, pause_shape(r, y + 6)),
     }
 }
 

@@ -21,7 +21,7 @@ mod standings;
 mod trail;
 mod words;
 
-pub use drawing::{Breach, drawn};
+pub use drawing::{Breach, drawing_of};
 pub use endings::ends_are_drawn;
 pub use pages::{pictures_are_one, pictures_go_on};
 pub use pictures::{Extent, Picture, picture_of};

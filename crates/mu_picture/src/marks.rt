@@ -24,7 +24,7 @@ pub struct Mark {
 }
 
 /// The mark of these parts, if one of the three is there.
-pub fn made_of(
+pub fn mark_of(
     step: u32,
     event: &Event,
     resumed: Option<Resumed>,
@@ -72,7 +72,7 @@ fn is_kept(brief: bool, mark: &Mark) -> bool
 }
 
 /// A mark, if it is kept.
-pub fn kept(brief: bool, mark: Option<Mark>) -> Option<Mark>
+pub fn kept_mark(brief: bool, mark: Option<Mark>) -> Option<Mark>
     ensures { result ≡ kept_mark brief mark }
 {
     match mark {

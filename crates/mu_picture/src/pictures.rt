@@ -7,7 +7,7 @@ ghost use Rattle.mu_picture.specs.Marks.{hidden_from, lowest, marks_of, EndsInPl
 ghost use Rattle.mu_picture.specs.Rows.{HoldsRows};
 
 use crate::layout::{Cursor, top_of};
-use crate::marks::{Mark, kept};
+use crate::marks::{Mark, kept_mark};
 use crate::openings::{Opening, openings_after};
 use crate::trail::Trail;
 use mu_model::{Config, Event, NoMemory, Script};
@@ -123,7 +123,7 @@ fn rows_of(
     for index in 0..asked {
         let event = events[index as usize];
         let mark = trail.take(config, script, index, &event);
-        if rows.push(index, kept(brief, mark))? {
+        if rows.push(index, kept_mark(brief, mark))? {
             return Ok((rows, index));
         }
     }

@@ -42,7 +42,7 @@ pub fn standing_with(deed: Option<Deed>, halt: Option<Halt>) -> Standing
 }
 
 /// What holds of a replica whose lane stands so, if it goes on after a pause or an end.
-pub fn resumed_at(standing: Standing, leads: bool, named: u8) -> Option<Resumed>
+pub fn resumption_at(standing: Standing, leads: bool, named: u8) -> Option<Resumed>
     ensures { result ≡ resumed_with standing leads named }
 {
     match standing {

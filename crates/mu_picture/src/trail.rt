@@ -14,9 +14,9 @@ ghost use Rattle.mu_picture.specs.Openings.{opening_of};
 ghost use Rattle.mu_picture.specs.Trails.{StandsForTrail, TellsNoted};
 
 use crate::deeds::{Heard, deed_of};
-use crate::marks::{Mark, made_of};
+use crate::marks::{Mark, mark_of};
 use crate::openings::{Opening, opening_with};
-use crate::standings::{Standings, resumed_at, standing_with};
+use crate::standings::{Standings, resumption_at, standing_with};
 use mu_course::{Turn, Walk, halt_after};
 use mu_model::{Config, Event, NoMemory, Script, Verb};
 use std::alloc::Global;
@@ -70,7 +70,7 @@ impl Trail {
         let fence = self.walk.fence(r);
         let standing = self.standings.of(r);
         let leads = self.walk.leads(r);
-        let named = self.walk.named(r);
+        let named = self.walk.named_leader(r);
         opening_with(fence, standing, leads, named)
     }
 
@@ -92,7 +92,7 @@ impl Trail {
         let heard = Heard {
             was,
             now: fails(&self.walk, event.by, q),
-            named: self.walk.named(event.by),
+            named: self.walk.named_leader(event.by),
         };
         Some((turn, heard))
     }
@@ -114,12 +114,16 @@ impl Trail {
             → result ≡ mark_of config.now script.now past event.now }
     {
         let r = event.by;
-        let granted = self.walk.granted(r);
-        let resumed = resumed_at(self.standings.of(r), self.walk.leads(r), self.walk.named(r));
+        let granted = self.walk.grant_count(r);
+        let resumed = resumption_at(
+            self.standings.of(r),
+            self.walk.leads(r),
+            self.walk.named_leader(r),
+        );
         let (turn, heard) = self.note(config, event)?;
         let deed = deed_of(event, &turn.told, turn.resigns, turn.named, heard, granted);
         let halt = halt_after(config, script, r, turn.told.steps, turn.finishes);
         self.standings.take(r, standing_with(deed, halt));
-        made_of(step, event, resumed, deed, halt)
+        mark_of(step, event, resumed, deed, halt)
     }
 }

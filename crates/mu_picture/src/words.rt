@@ -229,7 +229,7 @@ pub fn note(alloc: Global, job: &Job, mark: &Mark) -> Result<Sheet, NoMemory>
 }
 
 /// A word and a number.
-pub fn numbered(words: &[u8], number: u64) -> Line
+pub fn numbered_line(words: &[u8], number: u64) -> Line
     requires { length words.now < 100 }
     ensures { result ≡ words.now ++ decimal number }
 {
@@ -280,11 +280,11 @@ pub fn label_of(deed: Option<Deed>) -> Line
         Some(Deed::Close) => plain(b"close"),
         Some(Deed::Drain) => plain(b"drain"),
         Some(Deed::Grant(to, granted)) => grant_label(to, granted),
-        Some(Deed::PutMin(_, b, _)) => numbered(b"number ", u64::from(b)),
-        Some(Deed::Put(_, i, _)) => numbered(b"put ", u64::from(i)),
-        Some(Deed::Commit(_, i, _)) => numbered(b"commit ", u64::from(i)),
-        Some(Deed::Learn(_, i, _)) => numbered(b"learns ", u64::from(i)),
-        Some(Deed::Head(h)) => numbered(b"applied to ", u64::from(h)),
+        Some(Deed::PutMin(_, b, _)) => numbered_line(b"number ", u64::from(b)),
+        Some(Deed::Put(_, i, _)) => numbered_line(b"put ", u64::from(i)),
+        Some(Deed::Commit(_, i, _)) => numbered_line(b"commit ", u64::from(i)),
+        Some(Deed::Learn(_, i, _)) => numbered_line(b"learns ", u64::from(i)),
+        Some(Deed::Head(h)) => numbered_line(b"applied to ", u64::from(h)),
         Some(Deed::Fails(q, _)) => counted(q, b" failed"),
         Some(Deed::Trusts(q, _)) => counted(q, b" alive"),
         _ => Line::new(),

@@ -17,7 +17,7 @@ ghost use Rattle.mu_placing.specs.LandedPuts.{StandsForLandedPuts};
 
 use crate::landed_puts::LandedPuts;
 use crate::naming::region_of_step;
-use mu_knowledge::{FilledLog, fuo_in, raised};
+use mu_knowledge::{FilledLog, fuo_in, greater_of};
 use mu_leadership::{begins, is_leader_verb};
 use mu_model::{Answer, Config, Event, NoMemory, Verb};
 use std::alloc::Global;
@@ -173,7 +173,7 @@ impl Coverage {
         let read = fuo_in(r, p, event);
         let spot = spot_filled(r, p, known_before, known_after, landings, event);
         self.log.take(read, spot);
-        let from = raised(read, kept(self.caught_to, r, event));
+        let from = greater_of(read, kept(self.caught_to, r, event));
         self.caught_to = first_behind(p, from, known_after, landings);
     }
 

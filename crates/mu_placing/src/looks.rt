@@ -318,7 +318,7 @@ impl Looks {
     }
 
     /// Whether a region joined since the first put at position `i` in the leadership.
-    pub fn joined_since(&self, i: u16) -> bool
+    pub fn has_joined_since(&self, i: u16) -> bool
         ensures { TellsAt self.now joined_since_first_put i result }
     {
         let first = self.first(i);

@@ -108,7 +108,7 @@ impl Replica {
         requires { IsConfig config.now }
         ensures { FindsFor config.now self.now (SomeVerb.Ask p) found result }
     {
-        let asked = self.leadership.asked();
+        let asked = self.leadership.asked_region();
         self.why_no_region(config, p, found).needs(
             self.leadership.is_next_to_ask(p),
             Reason::OutOfTurn { region: p, asked },
@@ -123,7 +123,10 @@ impl Replica {
     {
         let leading = &self.leadership;
         self.why_no_region(config, p, found)
-            .needs(leading.noted(p).is_some(), Reason::NotGranted { region: p })
+            .needs(
+                leading.noted_grant(p).is_some(),
+                Reason::NotGranted { region: p },
+            )
             .needs(!leading.is_over(), Reason::Over)
     }
 
@@ -138,7 +141,10 @@ impl Replica {
         match target {
             Target::None => found.needs(false, Reason::NoTarget),
             Target::Min => found
-                .needs(leading.noted(p).is_some(), Reason::NotGranted { region: p })
+                .needs(
+                    leading.noted_grant(p).is_some(),
+                    Reason::NotGranted { region: p },
+                )
                 .needs(!leading.is_over(), Reason::Over)
                 .needs(leading.has_read(p), Reason::MinimumUnread { region: p })
                 .needs(self.is_confirmed(config), Reason::Unconfirmed),
@@ -156,7 +162,7 @@ impl Replica {
         ensures { FindsFor config.now self.now (SomeVerb.PutMin p b) found result }
     {
         let leading = &self.leadership;
-        let entered = leading.entered(p);
+        let entered = leading.entered_target(p);
         let minimum = leading.minimum(p);
         let own = leading.number();
         let read = leading.greatest_minimum();

@@ -221,7 +221,7 @@ impl Replica {
                     },
                 )
                 .needs(
-                    !self.looks.joined_since(i),
+                    !self.looks.has_joined_since(i),
                     Reason::JoinedSince { position: i },
                 ),
             None => {
@@ -321,7 +321,7 @@ impl Replica {
         let leading = &self.leadership;
         let place = i % config.ring;
         let own = leading.number();
-        let entered = leading.opened(p);
+        let entered = leading.opened_target(p);
         let reach = self.is_in_reach(config, p, i);
         let numbered = is_number(own, b);
         let open = is_entered_for(entered, Target::Place(place));

@@ -6,7 +6,7 @@ ghost use Rattle.mu_serve.specs.Closing.{ClosesLive, ComesTo, stops_so_far as st
 ghost use Rattle.mu_serve.specs.Sessions.{IsAfter};
 ghost use Rattle.mu_serve.specs.declared.closing.TheConstants.{CLOSING_ROUNDS as LAST_ROUNDS};
 
-use mu_course::walked;
+use mu_course::walk_of;
 use mu_engine::Engine;
 use mu_input::Job;
 use mu_model::{Event, NoMemory, Script, Sequence, Stop};
@@ -61,7 +61,7 @@ fn account_of_engine(alloc: Global, engine: Engine) -> Result<Account, NoMemory>
             pauses: Sequence::from_vec(Vec::new(alloc)),
         },
     };
-    let (walk, _) = walked(alloc, &job.config, events.as_slice())?;
+    let (walk, _) = walk_of(alloc, &job.config, events.as_slice())?;
     account_of(alloc, job, &walk)
 }
 

@@ -9,7 +9,7 @@ ghost use Rattle.mu_serve.specs.declared.session_lines.SessionLine.TheVariants a
 ghost use Rattle.mu_text.specs.declared.line_text.TheConstants.{LINE_BYTES as MOST_KEPT};
 
 use crate::closing::account_at_end;
-use crate::session_lines::{SessionLine, said_of_line};
+use crate::session_lines::{SessionLine, session_line};
 use crate::waiting::{Sorted, Waiting, sorted_by_reply};
 use kv_store::{Command, Op, Reply};
 use mu_engine::{Engine, Refusal, Shape};
@@ -92,7 +92,7 @@ impl Session {
         ensures { IfOk result (λ responses. (line : List ℕ) → front.now ≡ take MOST_KEPT line
             → Answers self.old line responses.items self.new) }
     {
-        match said_of_line(self.engine.config().replicas, front) {
+        match session_line(self.engine.config().replicas, front) {
             Ok(SessionLine::Client(client)) => self.turn_to(client),
             Ok(SessionLine::Operation(op)) => self.ask(op),
             Ok(SessionLine::Stop(replica)) => self.stop(replica),

@@ -10,7 +10,7 @@ ghost use Rattle.mu_text.specs.declared.line_text.TheConstants.{LINE_BYTES as MO
 use kv_store::Op;
 use mu_input::cause::{CLIENT, LINE_LENGTH, SCRIPT, TOO_MANY};
 use mu_input::{MOST_CLIENTS, MOST_ROUNDS, operation, replica_of};
-use mu_text::{LINE_BYTES, Line, Words, is_first, limited, number};
+use mu_text::{LINE_BYTES, Line, Words, is_first, number, number_within};
 
 /// What a line of a session says.
 #[derive(Clone, Copy)]
@@ -32,7 +32,7 @@ pub enum SessionLine {
 /// The cause: 5 a `client` line without a number, 9 with one above 15, 10 a line `stop` or `pause`
 /// that is none of a replica of the session, 17 a line of 192 bytes or more, and of any other line
 /// the cause that it has in a job where a command is expected: 6, 7 or 8.
-pub fn said_of_line(replicas: u8, front: &Line) -> Result<SessionLine, u8>
+pub fn session_line(replicas: u8, front: &Line) -> Result<SessionLine, u8>
     ensures reading { (line : List ℕ) → front.now ≡ take MOST_KEPT line
         → Tells result (said_of replicas line) }
     ensures reach { IfOk result (IsInReach replicas) }
@@ -126,7 +126,7 @@ fn pause_for(replica: Option<u8>, words: &[&[u8]]) -> Result<SessionLine, u8>
         → IfOk result (IsInReach replicas) }
 {
     match words {
-        [word] => pause(replica, limited(word, 1, MOST_ROUNDS)),
+        [word] => pause(replica, number_within(word, 1, MOST_ROUNDS)),
         _ => Err(SCRIPT),
     }
 }

@@ -49,7 +49,7 @@ pub(crate) fn logs_of(alloc: Global, walk: &Walk, n: u8) -> Result<Logs, NoMemor
 {
     let mut logs = Vec::new(alloc);
     for r in 0..n {
-        let log = copy_of(alloc, walk.applied(r))?;
+        let log = copy_of(alloc, walk.applied_values(r))?;
         logs.push(log)?;
     }
     Ok(Sequence::from_vec(logs))

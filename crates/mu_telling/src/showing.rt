@@ -166,8 +166,8 @@ fn reached_by(course: &Course, replica: u8) -> Fact
         replica,
         steps: course.steps(),
         known: course.known().len(),
-        applied: course.applied().len(),
-        named: course.named(),
+        applied: course.applied_values().len(),
+        named: course.named_leader(),
     }
 }
 

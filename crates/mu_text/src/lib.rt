@@ -13,7 +13,7 @@ pub use line_reader::LineReader;
 pub use line_text::{LINE_BYTES, Line};
 pub use line_words::{Words, is_alone, is_first, is_word, split_words};
 pub use lines::{split_word, two_words};
-pub use numbers::{limited, number, of_8, of_16, of_32, of_64};
+pub use numbers::{number, number_within, of_8, of_16, of_32, of_64};
 
 /// The byte that ends a line.
 pub const LINE_FEED: u8 = b'\n';

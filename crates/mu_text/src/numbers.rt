@@ -58,7 +58,7 @@ pub fn number(word: &[u8]) -> Option<u32>
 }
 
 /// The number that a word spells, if it is from `low` to `high`.
-pub fn limited(word: &[u8], low: u32, high: u32) -> Option<u32>
+pub fn number_within(word: &[u8], low: u32, high: u32) -> Option<u32>
     ensures exact { result ≡ within low high (number_of word.now) }
     ensures low { IfSome result (λ number. low ≤ number) }
     ensures high { IfSome result (λ number. number ≤ high) }

@@ -3,7 +3,7 @@ use Rattle.std.specs.Prelude.{ℕ, ◌≡◌, ◌<◌, ◌≤◌, ◌⊎◌, Lis
 use Rattle.std.specs.declared.option.Option.{Option}
 use Rattle.mu_io.specs.Faults.{Rose}
 use Rattle.mu_io.specs.Whole.{TakesAtMost}
-use Rattle.mu_judging.specs.Judged.{AttestsOf, NotesOf, SaysOf, ShowsOf, TellsOf as TellsOfTrace}
+use Rattle.mu_verdict.specs.Judged.{AttestsOf, NotesOf, SaysOf, ShowsOf, TellsOf as TellsOfTrace}
 use Rattle.mu_outcome.specs.declared.status.Status.{Status}
 use Rattle.mu_report.specs.declared.said.Said.{Said}
 use Rattle.mu_report.specs.Said.{text}

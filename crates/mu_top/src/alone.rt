@@ -11,8 +11,8 @@ use crate::booking::told_of_book;
 use crate::replaying::told_of_replay;
 use crate::tracing::told_of_trace;
 use mu_input::TRACE_LIMIT;
-use mu_judging::{attest_trace, explain_trace, judge, show_trace, tell_trace};
 use mu_report::Said;
+use mu_verdict::{attest_trace, explain_trace, judge, show_trace, tell_trace};
 use std::alloc::Global;
 
 /// A task that takes no second thread and waits for none.
@@ -55,7 +55,7 @@ impl Alone {
 }
 
 /// What the program says if it is asked this, and these are the bytes of its input.
-pub fn told_alone(alloc: Global, task: Alone, bytes: &[u8]) -> Said
+pub fn answer_alone(alloc: Global, task: Alone, bytes: &[u8]) -> Said
     ensures said { TellsOf (task_alone task) (Some bytes.now) (Some bytes.now) 0 0 result }
     ensures short { IsShort result }
 {

@@ -5,7 +5,7 @@ ghost use Rattle.snap_reads.specs.declared.TheConstants.{MOST_READERS};
 ghost use Rattle.mu_top.specs.Words.{task_named, asked_of as asked_of_words, asked_of_two, limit_of, session_of, session_of_two, HasReplicas, IsInReach};
 
 use mu_input::{MOST_COMMANDS, MOST_REPLICAS, TRACE_LIMIT};
-use mu_text::limited;
+use mu_text::number_within;
 use snap_reads::MOST_READERS;
 
 /// The most bytes that the input of a job may have.
@@ -90,7 +90,7 @@ impl Task {
 }
 
 /// The number of replicas, if the words ask for a session: `serve` and a number from 1 to 7.
-pub fn session_asked(words: &[String]) -> Option<u8>
+pub fn session_request(words: &[String]) -> Option<u8>
     ensures exact { result ≡ session_of words.now }
     ensures reach { IfSome result HasReplicas }
 {
@@ -106,7 +106,7 @@ fn replicas_asked(word: &[u8], other: &[u8]) -> Option<u8>
     ensures reach { IfSome result HasReplicas }
 {
     if word == b"serve".as_slice() {
-        match limited(other, 1, u32::from(MOST_REPLICAS)) {
+        match number_within(other, 1, u32::from(MOST_REPLICAS)) {
             Some(replicas) => Some(replicas as u8),
             None => None,
         }
@@ -117,7 +117,7 @@ fn replicas_asked(word: &[u8], other: &[u8]) -> Option<u8>
 
 /// What the words ask for, if they ask for anything: one word that names a task, `bulk`, `live` or
 /// `show` and a number, or `eager trace`.
-pub fn asked_of(words: &[String]) -> Option<Asked>
+pub fn request_of(words: &[String]) -> Option<Asked>
     ensures exact { result ≡ asked_of_words words.now }
     ensures reach { IfSome result IsInReach }
 {
@@ -137,17 +137,17 @@ fn asked_with(word: &[u8], other: &[u8]) -> Option<Asked>
     ensures reach { IfSome result IsInReach }
 {
     if word == b"bulk".as_slice() {
-        match limited(other, 0, MOST_COMMANDS as u32) {
+        match number_within(other, 0, MOST_COMMANDS as u32) {
             Some(count) => Some(Asked::Bulk(count as u16)),
             None => None,
         }
     } else if word == b"live".as_slice() {
-        match limited(other, 1, u32::from(MOST_READERS)) {
+        match number_within(other, 1, u32::from(MOST_READERS)) {
             Some(readers) => Some(Asked::Input(Task::Live(readers as u8))),
             None => None,
         }
     } else if word == b"show".as_slice() {
-        match limited(other, 0, MOST_SHOWN) {
+        match number_within(other, 0, MOST_SHOWN) {
             Some(count) => Some(Asked::Input(Task::Show(count))),
             None => None,
         }

@@ -16,8 +16,8 @@ mod summing;
 mod top;
 mod tracing;
 
-pub use alone::{Alone, told_alone};
+pub use alone::{Alone, answer_alone};
 pub use asking::{Asked, INPUT_LIMIT, MOST_SHOWN, Task, limits_are_stated};
 pub use starting::mu_from_words;
-pub use summing::told_of_bulk;
+pub use summing::answer_of_bulk;
 pub use top::mu;

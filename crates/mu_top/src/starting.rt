@@ -7,7 +7,7 @@ ghost use Rattle.mu_outcome.specs.Statuses.{code_of};
 ghost use Rattle.mu_top.specs.Answers.{Ends, EndsAs, WritesUsage};
 ghost use Rattle.mu_top.specs.Words.{asked_of as asked_of_words, session_of};
 
-use crate::asking::session_asked;
+use crate::asking::session_request;
 use crate::top::{answer, mu};
 use mu_cluster::Gate;
 use mu_io::{Sink, Source};
@@ -67,7 +67,7 @@ fn end_of_words<R: Threads + Wait + Clock + Sync, S: Source, K: Sink, G: Gate + 
         (K.written sink.old) (K.written sink.new) (K.faults sink.old) (K.faults sink.new)
         (exit_status result) }
 {
-    match session_asked(words) {
+    match session_request(words) {
         Some(replicas) => ExitCode::from(serve(alloc, replicas, source, sink)),
         None => mu(rt, alloc, words, source, sink, gate).into_exit_code(),
     }

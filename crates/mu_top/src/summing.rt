@@ -13,7 +13,7 @@ use mu_report::Said;
 use std::alloc::Global;
 
 /// What is said of a replay of the stated job of this many commands.
-pub fn told_of_bulk(alloc: Global, count: u16) -> Said
+pub fn answer_of_bulk(alloc: Global, count: u16) -> Said
     requires { count ≤ MOST_COMMANDS }
     ensures said { Sums count result }
     ensures short { IsShort result }

@@ -7,7 +7,7 @@ ghost use Rattle.mu_shell.specs.Written.{Wrote};
 ghost use Rattle.mu_top.specs.Answers.{Does, Tells, TellsOf};
 ghost use Rattle.mu_top.specs.Words.{asked_of as asked_of_words, limit_of, HasReaders, IsInReach};
 
-use crate::asking::{Asked, Task, asked_of};
+use crate::asking::{Asked, Task, request_of};
 use crate::booking::told_of_book;
 use crate::eager::{told_of_eager, told_of_eager_trace};
 use crate::living::told_of_live;
@@ -15,14 +15,14 @@ use crate::promising::told_of_enough;
 use crate::replaying::told_of_replay;
 use crate::running::told_of_run;
 use crate::serving::told_of_desk;
-use crate::summing::told_of_bulk;
+use crate::summing::answer_of_bulk;
 use crate::tracing::told_of_trace;
 use mu_cluster::Gate;
 use mu_io::{Sink, Source, WriteFault, read_all};
-use mu_judging::{attest_trace, explain_trace, judge, show_trace, tell_trace};
 use mu_outcome::Status;
 use mu_report::{Said, print_counted, status_for};
 use mu_shell::Answered;
+use mu_verdict::{attest_trace, explain_trace, judge, show_trace, tell_trace};
 use std::alloc::Global;
 use std::sync::Wait;
 use std::thread::Threads;
@@ -51,7 +51,7 @@ pub fn mu<R: Threads + Wait + Clock + Sync, S: Source, K: Sink, G: Gate + Sync>(
         (K.faults sink.old) (K.faults sink.new)
         (text result.said) (status_for_said result.said) result.status result.taken }
 {
-    answer(sink, told(rt, alloc, asked_of(words), source, gate))
+    answer(sink, told(rt, alloc, request_of(words), source, gate))
 }
 
 /// Writes what is said, and answers how that went.
@@ -91,7 +91,7 @@ fn told<R: Threads + Wait + Clock + Sync, S: Source, G: Gate + Sync>(
 {
     match asked {
         None => Said::Usage,
-        Some(Asked::Bulk(count)) => told_of_bulk(alloc, count),
+        Some(Asked::Bulk(count)) => answer_of_bulk(alloc, count),
         Some(Asked::Input(task)) => told_of_input(rt, alloc, task, source, gate),
     }
 }

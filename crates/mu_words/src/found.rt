@@ -117,7 +117,7 @@ impl Found {
 
     /// The word that the next step of the replica `id` expects: 0 if it is no exchange.
     #[inline(always)]
-    pub fn expected(&self, id: u8, verb: &Verb) -> u64
+    pub fn expected_word(&self, id: u8, verb: &Verb) -> u64
         ensures { (c : Config) (mine : List Event) (seen : List (Event × ℕ))
             → FoundIs c id self.now mine seen → IsPrepared c mine verb.now
             → result ≡ expected c id mine seen verb.now }

@@ -51,7 +51,7 @@ impl Shared {
         ensures config { IfOk result (λ s. s.config ≡ config.now) }
         ensures fresh { IfOk result (λ s. IsFresh s) }
     {
-        let copy = config.shared()?;
+        let copy = config.try_clone()?;
         let (words, root) = Words::start(alloc, config)?;
         Ok(Shared {
             words: Arc::new(alloc, words)?,

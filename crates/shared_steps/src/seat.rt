@@ -48,7 +48,7 @@ impl PortSeat {
         ensures possible { IsPossible words.now.key self.new.id self.new.part }
     {
         let place = word_place(&words.layout, &self.found, self.id, &verb);
-        let expected = self.found.expected(self.id, &verb);
+        let expected = self.found.expected_word(self.id, &verb);
         let grant = self.found.close_grant();
         let step = words.layout.move_of(grant, &verb, expected);
         let word = make::<Brand>(&words.table.shared, &mut self.seat, place, step, verb);

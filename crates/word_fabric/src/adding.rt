@@ -31,7 +31,7 @@ impl WordFabric {
         let room = usize::from(config.replicas) * config.budget as usize;
         let layout = Layout::with_rows(config, rows);
         Ok(WordFabric {
-            config: config.shared()?,
+            config: config.try_clone()?,
             kept: Journal::with_room(alloc, room)?,
             layout,
             words: first_words(alloc, config, &layout)?,

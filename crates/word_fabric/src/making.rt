@@ -62,7 +62,7 @@ pub(crate) fn make_step(
     ensures { IsMade layout.now by verb.now words.old found.old result words.new found.new }
 {
     let place = layout.place_of(layout.name_of(by, found.close_target(), verb));
-    let expected = found.expected(by, verb);
+    let expected = found.expected_word(by, verb);
     let word = words[place];
     let answer = layout.answer_from(verb, expected, word);
     words[place] = layout.word_after(verb, expected, word);

@@ -2,8 +2,8 @@
 
 use mu_handle::Handle;
 use mu_library::{
-    let_go, open_engine, pause_replica, play_round, reply_told, stop_replica, submit_line,
-    take_line, told_by, trace_told,
+    judge_answer, let_go, open_engine, pause_replica, play_round, row_reply, stop_replica,
+    submit_line, take_line, trace_so_far,
 };
 use std::alloc::Global;
 use std::test::Fail;
@@ -15,7 +15,7 @@ const ROUNDS: u32 = 2_000;
 fn reply_in_time(alloc: Global, handle: &mut Handle, row: u32, text: &str) -> u8 {
     let mut out = [0; 8];
     for _ in 0..ROUNDS {
-        let replied = reply_told(alloc, handle, row, &mut out);
+        let replied = row_reply(alloc, handle, row, &mut out);
         if replied.status == 0 {
             let is_it = replied.taken == text.len() && out.starts_with(text.as_bytes());
             return if is_it { replied.reply } else { 0 };
@@ -53,7 +53,7 @@ fn one_more(alloc: Global, handle: &mut Handle) -> u8 {
 /// The status of a trace, if there is room for its first line.
 fn traced(alloc: Global, handle: &mut Handle) -> u8 {
     let mut out = [0; 5];
-    let told = trace_told(alloc, handle, &mut out);
+    let told = trace_so_far(alloc, handle, &mut out);
     if &out == b"mu 2\n" { told.status } else { 99 }
 }
 
@@ -80,14 +80,14 @@ fn an_engine_replies_after_its_leader_stopped(rt: HostRuntime) -> Result<(), Fai
 fn judged_by_none(alloc: Global) -> (u8, u8) {
     let mut handle = Handle::none(alloc);
     let taken = take_line(alloc, &mut handle, b"0 beat = done");
-    (taken, told_by(alloc, &mut handle, &mut []).status)
+    (taken, judge_answer(alloc, &mut handle, &mut []).status)
 }
 
 /// The same of a handle that has an engine.
 fn judged_by_engine(alloc: Global) -> (u8, u8) {
     let mut handle = Handle::none(alloc);
     opened(alloc, &mut handle);
-    let told = told_by(alloc, &mut handle, &mut []).status;
+    let told = judge_answer(alloc, &mut handle, &mut []).status;
     let_go(alloc, &mut handle);
     (told, one_more(alloc, &mut handle))
 }

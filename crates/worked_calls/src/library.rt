@@ -2,7 +2,7 @@
 ghost use Rattle.mu_library.specs.Calls.{CanTake};
 
 use mu_handle::Handle;
-use mu_library::{Answered, answer, draw, let_go, open_judge, show, take_line, told_by};
+use mu_library::{Answered, answer, draw, judge_answer, let_go, open_judge, show, take_line};
 use std::alloc::{AllocError, Global};
 use std::test::Fail;
 
@@ -178,7 +178,7 @@ fn is_judged(alloc: Global, lines: &[(&str, u8)], text: &str) -> Result<bool, Al
         return Ok(false);
     }
     let is_right = takes(alloc, &mut handle, lines);
-    let Answered { status: _, taken } = told_by(alloc, &mut handle, out.as_mut_slice());
+    let Answered { status: _, taken } = judge_answer(alloc, &mut handle, out.as_mut_slice());
     let_go(alloc, &mut handle);
     let told = taken >= text.len() && out.as_slice().starts_with(text.as_bytes());
     Ok(is_right && told && opened.taken == 0)

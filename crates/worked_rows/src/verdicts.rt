@@ -2,7 +2,7 @@
 ghost use Rattle.mu_model.specs.Contents.{IsConfig};
 
 use crate::event_scripts::{JOB, Step, config, events_of};
-use mu_check::{Verdict, Wrong, check};
+use mu_judge::{Verdict, Wrong, check};
 use mu_model::{Answer, Config, Event, NoMemory, Verb};
 use std::alloc::Global;
 use std::test::Fail;

@@ -1,8 +1,8 @@
 //! The calls of a live engine, without their contracts.
 use crate::store::{Ask, operation};
 use kv_store::Reply;
-use mu_check::check;
 use mu_engine::{Engine, Shape};
+use mu_judge::check;
 use mu_outcome::Verdict;
 use std::alloc::Global;
 use std::test::Fail;

@@ -17,8 +17,8 @@ some_of false x y is = absurd (none_some y is)
 pub returns-then-full-from : goal.returns-then-full-from
 returns-then-full-from c k mine few scores heads held =
     let r = c.args.r in
-    let some = some_of (is_full k r mine) (full_length k r mine) c.in-Some.full (sym (c.full.ensures k (applied k r mine) held) ∙ c.in-Some.is) in
-    let own = c.own.ensures r mine heads in
+    let some = some_of (is_full k r mine) (full_length k r mine) c.in-Some.full (sym (c.full_count.ensures k (applied k r mine) held) ∙ c.in-Some.is) in
+    let own = c.own_head.ensures r mine heads in
     let low : nat_le (full_length k r mine) (region_head r mine) ≡ true = le-leb (full_length k r mine) (region_head r mine) (omega (arith, own, some.1, c.from.ensures, c.if-full-from.true)) in
     c.are_done.ensures k mine few scores heads
     ∙ (ap (λ n. all_below n (λ q. (q == r) || (is_at_least c.in-Some.full (head_heard r q mine) || is_failed r q mine))) few

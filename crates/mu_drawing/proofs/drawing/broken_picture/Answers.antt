@@ -17,7 +17,7 @@ returns c =
     let before = take broken.index events in
     let is = subst (λ l. IsPictureOf job.config job.script l asked.brief asked.first asked.last picture) c.front-before.ensures.is c.in_ok-picture.ensures.picture in
     if_ok (λ (sheet : List ℕ). sheet ≡ svg_of job c.args.line picture (Some c.breach_of.result)) IsDocument
-    (IsBrokenDrawingOf job c.args.line events broken asked) c.drawn.result c.drawn.ensures.drawing c.drawn.ensures.document
+    (IsBrokenDrawingOf job c.args.line events broken asked) c.drawing_of.result c.drawing_of.ensures.drawing c.drawing_of.ensures.document
     (λ sheet drawn document. record {
       breaks = c.requires.breaks;
       picture = picture;

@@ -11,7 +11,7 @@ returns c =
     let job = c.args.job.now in
     let events = c.args.events.now in
     let picture = c.in_ok-picture.picture in
-    if_ok (λ (sheet : List ℕ). sheet ≡ svg_of job c.args.line picture None) IsDocument (IsDrawingOf job c.args.line events c.args.asked) c.drawn.result c.drawn.ensures.drawing c.drawn.ensures.document
+    if_ok (λ (sheet : List ℕ). sheet ≡ svg_of job c.args.line picture None) IsDocument (IsDrawingOf job c.args.line events c.args.asked) c.drawing_of.result c.drawing_of.ensures.drawing c.drawing_of.ensures.document
     (λ sheet is document. record {
       legal = c.requires.legal;
       picture = picture;

@@ -6,4 +6,4 @@ use Rattle.mu_library.proofs.drawing.draw.Goals as goal
 pub returns : goal.returns
 returns c =
     let input = c.args.input.now in
-    drawn _ c.told_in_memory.result input _ _ _ _ (subst (λ asked. TellsOfCall asked (Some input) (Some input) 0 0 c.told_in_memory.result) c.asked_between.ensures c.told_in_memory.ensures.told) c.tell.ensures
+    drawn _ c.output_in_memory.result input _ _ _ _ (subst (λ asked. TellsOfCall asked (Some input) (Some input) 0 0 c.output_in_memory.result) c.extent_between.ensures c.output_in_memory.ensures.told) c.tell.ensures

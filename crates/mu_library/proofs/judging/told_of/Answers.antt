@@ -6,4 +6,4 @@ use Rattle.mu_library.proofs.judging.told_of.Goals as goal
 pub returns-in-Judge : goal.returns-in-Judge
 returns-in-Judge c =
     subst (λ held. SaysOfHeld held c.args.out.now c.say.new.out c.say.result.status c.say.result.taken) (sym c.in-Judge.is)
-    (says_so_far _ c.said.result _ _ _ _ c.said.ensures.says c.say.ensures)
+    (says_so_far _ c.answer_so_far.result _ _ _ _ c.answer_so_far.ensures.says c.say.ensures)

@@ -15,6 +15,6 @@ returns c =
     let p2 = text_piece Look.Label (lane_of 0 - 10) (y + 12) (codes "with step " ++ decimal c.args.end) in
     let s1 = c.push_axis.new.sheet in
     let s2 = c.push_text.new.sheet in
-    let words = c.as_slice.ensures ∙ (c.numbered-line.ensures ∙ ap (λ n. codes "with step " ++ decimal n) c.from.ensures) in
+    let words = c.as_slice.ensures ∙ (c.numbered_line-line.ensures ∙ ap (λ n. codes "with step " ++ decimal n) c.from.ensures) in
     on_ok c.push_text.result c.push_text.ensures
     (λ done. joined c.args.sheet.now s1 s2 p1 p2 c.in_ok-push_axis.ensures (done ∙ ap (λ w. s1 ++ text_piece Look.Label (lane_of 0 - 10) (y + 12) w) words))

@@ -29,8 +29,8 @@ loop-index-preserved c =
       rows = c.in_ok-push.ensures.rows i held.rows;
       first = c.in_ok-push.ensures.first ∙ held.first;
       marks = c.in_ok-push.ensures.next c.if-branch.false
-          ∙ (ap (λ f. if nat_le f i then with_mark items c.kept.result else items) held.first
-          ∙ (marks_next config script brief first i past _ items c.kept.result (c.kept.ensures ∙ ap (kept brief) (c.take-mark.ensures.mark past legal held.trail place)) place held.marks
+          ∙ (ap (λ f. if nat_le f i then with_mark items c.kept_mark.result else items) held.first
+          ∙ (marks_next config script brief first i past _ items c.kept_mark.result (c.kept_mark.ensures ∙ ap (kept brief) (c.take-mark.ensures.mark past legal held.trail place)) place held.marks
           ∙ ap (marks_of config script brief first) more));
     }
 
@@ -48,5 +48,5 @@ returns-then-branch-clause-ends c =
     let is = c.take-mark.ensures.mark past legal c.loop-index.invariant.trail place in
     inr (
       subst (λ (rows : Rows). 32500 < rows.cursor.y) (sym full.0) full.1,
-      marked_at config script events c.args.brief i _ c.kept.result low (c.kept.ensures ∙ ap (kept c.args.brief) is) full.3,
+      marked_at config script events c.args.brief i _ c.kept_mark.result low (c.kept_mark.ensures ∙ ap (kept c.args.brief) is) full.3,
     )

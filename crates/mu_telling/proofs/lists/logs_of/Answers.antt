@@ -12,7 +12,7 @@ loop-r-preserved c = λ past s is held.
     let low : r < s.replicas = omega (arith, c.loop-r-test.true, is) in
     c.in_ok-push.ensures.items
     ∙ (ap (λ l. l ++ c.in_ok-log.log ∷ []) (c.loop-r.invariant past s is held)
-    ∙ (ap (λ o. each_below r of ++ o ∷ []) (c.in_ok-log.ensures ∙ c.applied.ensures past s low held) ∙ ap (λ n. each_below n of) next))
+    ∙ (ap (λ o. each_below r of ++ o ∷ []) (c.in_ok-log.ensures ∙ c.applied_values.ensures past s low held) ∙ ap (λ n. each_below n of) next))
 
 pub returns : goal.returns
 returns c = λ past s is held.

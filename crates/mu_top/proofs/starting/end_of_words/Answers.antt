@@ -34,7 +34,7 @@ as_asked session asked left left_now read read_now written written_now wrote wro
     })
 
 pub returns-in-Some : goal.returns-in-Some
-returns-in-Some g c = as_session _ _ _ _ _ _ _ _ _ _ _ _ _ (sym c.session_asked.ensures.exact ∙ c.in-Some.is) c.from.ensures c.serve.ensures
+returns-in-Some g c = as_session _ _ _ _ _ _ _ _ _ _ _ _ _ (sym c.session_request.ensures.exact ∙ c.in-Some.is) c.from.ensures c.serve.ensures
 
 pub returns-in-None : goal.returns-in-None
-returns-in-None g c = as_asked _ _ _ _ _ _ _ _ _ _ _ _ _ _ (sym c.session_asked.ensures.exact ∙ c.in-None.is) c.into_exit_code.ensures c.mu.ensures.said c.mu.ensures.wrote
+returns-in-None g c = as_asked _ _ _ _ _ _ _ _ _ _ _ _ _ _ (sym c.session_request.ensures.exact ∙ c.in-None.is) c.into_exit_code.ensures c.mu.ensures.said c.mu.ensures.wrote

@@ -15,9 +15,9 @@ returns c =
     let place : c.place_of-place.result ≡ place_at l c.args.by found v =
     c.place_of-place.ensures ∙ (ap (place_of l) c.name_of.ensures ∙ ap (λ t. place_of l (name_at l.ring c.args.by t v)) c.close_target.ensures) in
     record {
-      answered = λ k mine seen was ready. c.answer_from-answer.ensures ∙ ap (λ x. answer_from l.ring v x (slice_index words c.place_of-place.result)) (c.expected-expected.ensures k mine seen was ready)
+      answered = λ k mine seen was ready. c.answer_from-answer.ensures ∙ ap (λ x. answer_from l.ring v x (slice_index words c.place_of-place.result)) (c.expected_word-expected.ensures k mine seen was ready)
           ∙ ap (λ i. answer_from l.ring v (expected k c.args.by mine seen v) (slice_index words i)) place;
-      written = λ k mine seen was ready. ap (slice_set words c.place_of-place.result) (c.word_after.ensures ∙ ap (λ x. word_after l.ring v x (slice_index words c.place_of-place.result)) (c.expected-expected.ensures k mine seen was ready))
+      written = λ k mine seen was ready. ap (slice_set words c.place_of-place.result) (c.word_after.ensures ∙ ap (λ x. word_after l.ring v x (slice_index words c.place_of-place.result)) (c.expected_word-expected.ensures k mine seen was ready))
           ∙ ap (λ i. slice_set words i (word_after l.ring v (expected k c.args.by mine seen v) (slice_index words i))) place;
       noted = subst (λ i. Notes c.args.by v c.answer_from-answer.result (slice_index words i) found c.note.new.self) place c.note.ensures;
     }

@@ -17,7 +17,7 @@ returns c k r p e mine possible reads shows held =
     let marked = subst (λ (l : List Bool). (j : ℕ) → j < length l → is_set (slice_get marks j) ≡ (is_at c.args.spot j || is_set (slice_get l j))) same c.mark.ensures in
     let view = c.deref.ensures.value ∙ back in
     let to = c.first_unmarked-self.result in
-    let moved = subst (λ (l : List Bool). (j : ℕ) → (nat_lt j to || is_set (slice_get l j)) ≡ (nat_lt j c.raised.result || is_set (slice_get l j))) view c.first_unmarked-self.ensures.same in
-    let moved_from = subst (λ n. (j : ℕ) → (nat_lt j to || is_set (slice_get marks j)) ≡ (nat_lt j n || is_set (slice_get marks j))) c.raised.ensures moved in
+    let moved = subst (λ (l : List Bool). (j : ℕ) → (nat_lt j to || is_set (slice_get l j)) ≡ (nat_lt j c.greater_of.result || is_set (slice_get l j))) view c.first_unmarked-self.ensures.same in
+    let moved_from = subst (λ n. (j : ℕ) → (nat_lt j to || is_set (slice_get marks j)) ≡ (nat_lt j n || is_set (slice_get marks j))) c.greater_of.ensures moved in
     let next = subst (λ (l : List Bool). is_set (slice_get l to) ≡ false) view c.first_unmarked-self.ensures.next in
     log_step k r p e mine self _ marks c.args.read c.args.spot possible held back (long ∙ ap length same) reads shows marked moved_from next

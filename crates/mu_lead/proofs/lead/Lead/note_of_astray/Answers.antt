@@ -9,7 +9,7 @@ returns-in-None-seen c mine stands heeded asks =
     let inside = first.1 in
     let few = stands.config.replicas.1 in
     let low : c.in-Some.p < 7 = omega (arith, inside, few) in
-    absurd (never_unseen l.id c.in-Some.p mine first.2 (sym (c.in-None-seen.ensures l.id mine low stands.leading)))
+    absurd (never_unseen l.id c.in-Some.p mine first.2 (sym (c.in-None-seen_fence.ensures l.id mine low stands.leading)))
 
 pub returns-in-None : goal.returns-in-None
 returns-in-None c mine stands heeded asks =

@@ -44,8 +44,8 @@ pub returns-clause-heeded : goal.returns-clause-heeded
 returns-clause-heeded g c =
     let node = c.args.self.now in
     let held = c.requires in
-    c.heed.ensures.heeded (to_own {mine = g.mine} (λ k r l. TellsFailed k r l c.failed-failed.result) held.lead.config held.lead.id refl
-    (c.failed-failed.ensures node.follow.config node.id g.mine held.beside.watch))
+    c.heed.ensures.heeded (to_own {mine = g.mine} (λ k r l. TellsFailed k r l c.failed_replicas-failed.result) held.lead.config held.lead.id refl
+    (c.failed_replicas-failed.ensures node.follow.config node.id g.mine held.beside.watch))
 
 pub returns-clause-due : goal.returns-clause-due
 returns-clause-due g c =

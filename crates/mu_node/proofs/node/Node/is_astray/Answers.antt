@@ -8,5 +8,5 @@ asks_again-asks-requires g c =
     let node = c.args.self.now in
     let held = c.requires in (
       held.lead.stands,
-      to_own {mine = g.mine} (λ k r l. TellsFailed k r l c.failed.result) held.lead.config held.lead.id refl (c.failed.ensures node.follow.config node.id g.mine held.beside.watch),
+      to_own {mine = g.mine} (λ k r l. TellsFailed k r l c.failed_replicas.result) held.lead.config held.lead.id refl (c.failed_replicas.ensures node.follow.config node.id g.mine held.beside.watch),
     )

@@ -11,6 +11,6 @@ returns-in-Eager c k r mine good possible held =
     let lead = node.lead in
     let values = c.known.ensures k r mine (length mine) held.beside.follow in
     let few = known_few k r mine good possible in
-    c.ahead.ensures (subst (λ l. length l < 65536) (sym values) few)
+    c.word_ahead.ensures (subst (λ l. length l < 65536) (sym values) few)
     ∙ (ap (λ l. ahead_at lead.config lead.id l lead.written.items lead.place) values
     ∙ (ap (λ z. held_write_due z k r mine lead) (sym c.in-Eager.is) ∙ ap (λ d. or_else d (held_write_due node.zeal k r mine lead)) (sym c.in-None.is)))

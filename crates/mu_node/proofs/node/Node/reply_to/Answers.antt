@@ -23,9 +23,9 @@ returns-then-is_among c k r mine commands good possible are held =
     let log = applied k r mine in
     let row = c.args.row in
     let told = replies (groups_of k commands (take n log)) in
-    let entries = c.to_hand_on.ensures k r mine held.beside.follow ∙ ap (λ m. drop m log) held.handed in
+    let entries = c.entries_to_hand_on.ensures k r mine held.beside.follow ∙ ap (λ m. drop m log) held.handed in
     let config = c.config.ensures ∙ held.beside.follow.config in
-    let there : includes row (rows_in k (drop n log)) ≡ true = sym (ap (λ l. includes row (rows_in k l)) entries) ∙ (sym (ap (λ z. includes row (rows_in z c.to_hand_on.result.now)) config) ∙ (sym c.is_among.ensures ∙ c.if-is_among.true)) in
+    let there : includes row (rows_in k (drop n log)) ≡ true = sym (ap (λ l. includes row (rows_in k l)) entries) ∙ (sym (ap (λ z. includes row (rows_in z c.entries_to_hand_on.result.now)) config) ∙ (sym c.is_among.ensures ∙ c.if-is_among.true)) in
     sym (beside_none row (rows_in k (take n log)) told (first_lack k r n row mine good possible there))
 
 pub returns-in-Some : goal.returns-in-Some
@@ -33,7 +33,7 @@ returns-in-Some c k r mine commands good possible are held =
     let entries = take (handed_before k r mine) (applied k r mine) in
     let told = replies (groups_of k commands entries) in
     let few = few_rows_first k r (handed_before k r mine) mine good possible in
-    let place = told_of k c.config-2.result.now c.args.row entries c.handed_on.result.now c.place_in.result (c.config-2.ensures ∙ held.beside.follow.config) (c.handed_on.ensures k r mine held) (omega (arith, few, good.few)) c.place_in.ensures in
+    let place = told_of k c.config-2.result.now c.args.row entries c.entries_handed_on.result.now c.place_in.result (c.config-2.ensures ∙ held.beside.follow.config) (c.entries_handed_on.ensures k r mine held) (omega (arith, few, good.few)) c.place_in.ensures in
     let first = subst (λ o. TellsPlace c.args.row (rows_in k entries) o) c.in-Some.is place in
     c.reply.ensures ∙ (ap (λ l. slice_get l c.in-Some.at) (held.answers commands are).replies ∙ sym (beside_place c.args.row (rows_in k entries) told c.in-Some.at first))
 
@@ -42,5 +42,5 @@ returns-in-None c k r mine commands good possible are held =
     let entries = take (handed_before k r mine) (applied k r mine) in
     let told = replies (groups_of k commands entries) in
     let few = few_rows_first k r (handed_before k r mine) mine good possible in
-    let place = told_of k c.config-2.result.now c.args.row entries c.handed_on.result.now c.place_in.result (c.config-2.ensures ∙ held.beside.follow.config) (c.handed_on.ensures k r mine held) (omega (arith, few, good.few)) c.place_in.ensures in
+    let place = told_of k c.config-2.result.now c.args.row entries c.entries_handed_on.result.now c.place_in.result (c.config-2.ensures ∙ held.beside.follow.config) (c.entries_handed_on.ensures k r mine held) (omega (arith, few, good.few)) c.place_in.ensures in
     sym (beside_none c.args.row (rows_in k entries) told (subst (λ o. TellsPlace c.args.row (rows_in k entries) o) c.in-None.is place))

@@ -21,6 +21,6 @@ returns-clause-tells c = λ past legal held.
           record {
             was = c.fails-was.ensures past config q heard range.replica near held;
             now = c.fails.ensures (e ∷ past) config q heard range.replica near after ∙ ap (λ l. is_failed e.by q l) mine;
-            named = c.named.ensures (e ∷ past) config range.replica after ∙ ap (λ l. leader config e.by l) mine;
+            named = c.named_leader.ensures (e ∷ past) config range.replica after ∙ ap (λ l. leader config e.by l) mine;
           };
     }

@@ -11,10 +11,10 @@ returns c = λ past k script low held.
     let r = c.args.r in
     let standing = c.of-standing.result in
     let leads = c.leads-leads.result in
-    let named = c.named-named.result in
+    let named = c.named_leader-named.result in
     let saw = Some (fence r past) in
     c.opening_with.ensures
     ∙ (ap (λ f. opening_with f standing leads named) (c.fence-fence.ensures past k low held.walk)
     ∙ (ap (λ s. opening_with saw s leads named) (c.of-standing.ensures k script past low held.standings)
     ∙ (ap (λ l. opening_with saw (standing_of k script r past) l named) (c.leads-leads.ensures past k low held.walk)
-    ∙ ap (λ n. opening_with saw (standing_of k script r past) (is_leading k r (part r past)) n) (c.named-named.ensures past k low held.walk))))
+    ∙ ap (λ n. opening_with saw (standing_of k script r past) (is_leading k r (part r past)) n) (c.named_leader-named.ensures past k low held.walk))))

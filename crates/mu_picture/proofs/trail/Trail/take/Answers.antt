@@ -18,7 +18,7 @@ returns-clause-stands c = λ past legal held.
     let low = (in_range config _ _ _ legal.1.allowed).replica in
     let noted = c.in_ok-turn.ensures.tells past legal held.walk in
     let deed = c.deed_of-deed.ensures config mine noted.told.told noted.told.resigns noted.told.named noted.hears
-    ∙ ap (λ g. deed_of config mine g e) (c.granted-granted.ensures past config low held.walk) in
+    ∙ ap (λ g. deed_of config mine g e) (c.grant_count-granted.ensures past config low held.walk) in
     let halt = c.halt_after-halt.ensures
     ∙ (ap (λ k. halt_after config script e.by k c.in_ok-turn.turn.finishes) noted.told.told.steps
     ∙ ap (λ f. halt_after config script e.by (length mine + 1) f) noted.told.finishes) in
@@ -38,17 +38,17 @@ returns-clause-mark c = λ past legal held here.
     let mine = part e.by past in
     let low = (in_range config _ _ _ legal.1.allowed).replica in
     let noted = c.in_ok-turn.ensures.tells past legal held.walk in
-    let resumed = c.resumed_at-resumed.ensures
-    ∙ (ap (λ s. resumed_with s c.leads.result c.named.result) (c.of.ensures config script past low held.standings)
-    ∙ (ap (λ l. resumed_with (standing_of config script e.by past) l c.named.result) (c.leads.ensures past config low held.walk)
-    ∙ ap (λ n. resumed_with (standing_of config script e.by past) (is_leading config e.by mine) n) (c.named.ensures past config low held.walk))) in
+    let resumed = c.resumption_at-resumed.ensures
+    ∙ (ap (λ s. resumed_with s c.leads.result c.named_leader.result) (c.of.ensures config script past low held.standings)
+    ∙ (ap (λ l. resumed_with (standing_of config script e.by past) l c.named_leader.result) (c.leads.ensures past config low held.walk)
+    ∙ ap (λ n. resumed_with (standing_of config script e.by past) (is_leading config e.by mine) n) (c.named_leader.ensures past config low held.walk))) in
     let deed = c.deed_of-deed.ensures config mine noted.told.told noted.told.resigns noted.told.named noted.hears
-    ∙ ap (λ g. deed_of config mine g e) (c.granted-granted.ensures past config low held.walk) in
+    ∙ ap (λ g. deed_of config mine g e) (c.grant_count-granted.ensures past config low held.walk) in
     let halt = c.halt_after-halt.ensures
     ∙ (ap (λ k. halt_after config script e.by k c.in_ok-turn.turn.finishes) noted.told.told.steps
     ∙ ap (λ f. halt_after config script e.by (length mine + 1) f) noted.told.finishes) in
-    c.made_of.ensures
-    ∙ (ap (λ k. made_of k e c.resumed_at-resumed.result c.deed_of-deed.result c.halt_after-halt.result) here
+    c.mark_of.ensures
+    ∙ (ap (λ k. made_of k e c.resumption_at-resumed.result c.deed_of-deed.result c.halt_after-halt.result) here
     ∙ (ap (λ r. made_of (length past) e r c.deed_of-deed.result c.halt_after-halt.result) resumed
     ∙ (ap (λ d. made_of (length past) e (resumed_by config script past e) d c.halt_after-halt.result) deed
     ∙ ap (λ h. made_of (length past) e (resumed_by config script past e) (deed_after config past e) h) halt)))

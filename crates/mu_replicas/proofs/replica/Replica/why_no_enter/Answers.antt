@@ -22,7 +22,7 @@ returns-in-Min c r mine held start =
     let p = c.args.p in
     let few = c.requires.replicas.1 in
     let one = c.why_no_region-found.ensures r mine held start in
-    let two = c.needs-in-Min.ensures k r mine (bounds r mine ++ Reason.NoRegion p ∷ []) one (λ m. tells _ _ (c.is_some.ensures ∙ ap is_some (c.noted.ensures r mine (low _ _ m.1.1.0 few) held.leadership))) in
+    let two = c.needs-in-Min.ensures k r mine (bounds r mine ++ Reason.NoRegion p ∷ []) one (λ m. tells _ _ (c.is_some.ensures ∙ ap is_some (c.noted_grant.ensures r mine (low _ _ m.1.1.0 few) held.leadership))) in
     let three = c.needs-in-Min-2.ensures k r mine (bounds r mine ++ Reason.NoRegion p ∷ Reason.NotGranted p ∷ []) two (λ m. denies _ _ (c.is_over.ensures r mine held.leadership)) in
     let four = c.needs-in-Min-3.ensures k r mine (bounds r mine ++ Reason.NoRegion p ∷ Reason.NotGranted p ∷ Reason.Over ∷ []) three (λ m. tells _ _ (c.has_read.ensures r mine (low _ _ m.1.1.0 few) held.leadership)) in
     subst (λ t. Finds k r mine (points k r mine (Verb.Enter p t)) c.needs-in-Min-4.result.reason) (sym c.in-Min.is)

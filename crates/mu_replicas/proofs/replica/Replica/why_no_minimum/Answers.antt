@@ -10,5 +10,5 @@ returns c r mine held start =
     let k = c.args.config.now in
     let few = c.requires.replicas.1 in
     let one = c.why_no_region.ensures r mine held start in
-    let two = c.needs.ensures k r mine ((bounds r mine) ++ Reason.NoRegion c.args.p ∷ []) one (λ m. tells _ _ (c.is_some.ensures ∙ ap is_some (c.noted.ensures r mine (low _ _ m.1.1.0 few) held.leadership))) in
+    let two = c.needs.ensures k r mine ((bounds r mine) ++ Reason.NoRegion c.args.p ∷ []) one (λ m. tells _ _ (c.is_some.ensures ∙ ap is_some (c.noted_grant.ensures r mine (low _ _ m.1.1.0 few) held.leadership))) in
     c.needs-2.ensures k r mine (((bounds r mine) ++ Reason.NoRegion c.args.p ∷ []) ++ Reason.NotGranted c.args.p ∷ []) two (λ m. denies _ _ (c.is_over.ensures r mine held.leadership))

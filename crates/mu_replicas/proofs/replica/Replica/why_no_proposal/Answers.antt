@@ -13,7 +13,7 @@ returns-in-Some c r mine reasons near held start =
     let v = c.args.v in
     let first = c.first_value.ensures k r mine near held.looks in
     let one = c.needs.ensures k r mine reasons start (λ m. equal _ _) in
-    let two = c.needs-in-Some.ensures k r mine (reasons ++ Reason.OtherFirst i v c.in-Some.first ∷ []) one (λ m. denies _ _ (c.joined_since.ensures k r mine near held.looks)) in
+    let two = c.needs-in-Some.ensures k r mine (reasons ++ Reason.OtherFirst i v c.in-Some.first ∷ []) one (λ m. denies _ _ (c.has_joined_since.ensures k r mine near held.looks)) in
     subst (λ o. Finds k r mine (reasons ++ proposals k r mine i v o) c.needs-in-Some.result.reason) (sym c.in-Some.is ∙ first)
     (apart k r mine reasons (Reason.OtherFirst i v c.in-Some.first ∷ []) (Reason.JoinedSince i ∷ []) _ two)
 

@@ -20,15 +20,15 @@ returns c r mine held start =
     let own = c.number-own.ensures r mine held.leadership in
     let five = c.needs-5.ensures k r mine (front ++ Reason.OutOfReach p i ∷ Reason.Over ∷ Reason.NoQuorum ∷ Reason.NotMember p ∷ []) four (λ m. (λ t. sym own ∙ c.is_number-numbered.ensures.0 t, λ h. c.is_number-numbered.ensures.1 (own ∙ h))) in
     let six = c.needs-6.ensures k r mine (front ++ Reason.OutOfReach p i ∷ Reason.Over ∷ Reason.NoQuorum ∷ Reason.NotMember p ∷ Reason.OtherNumber b c.number-own.result ∷ []) five (λ m.
-    let here = c.opened-entered.ensures r mine (low _ _ m.1.1.0 few) held.leadership in
+    let here = c.opened_target-entered.ensures r mine (low _ _ m.1.1.0 few) held.leadership in
     (λ t. sym here ∙ c.is_entered_for-open.ensures.0 t, λ h. c.is_entered_for-open.ensures.1 (here ∙ h))) in
-    let seven = c.needs-7.ensures k r mine (front ++ Reason.OutOfReach p i ∷ Reason.Over ∷ Reason.NoQuorum ∷ Reason.NotMember p ∷ Reason.OtherNumber b c.number-own.result ∷ Reason.NotEntered p (i % k.ring) c.opened-entered.result ∷ []) six (λ m.
+    let seven = c.needs-7.ensures k r mine (front ++ Reason.OutOfReach p i ∷ Reason.Over ∷ Reason.NoQuorum ∷ Reason.NotMember p ∷ Reason.OtherNumber b c.number-own.result ∷ Reason.NotEntered p (i % k.ring) c.opened_target-entered.result ∷ []) six (λ m.
     tells _ _ (c.has_looked-looked.ensures k r (i % k.ring) mine (low _ _ m.1.1.0 few) c.requires m.1.1.1.0 held.looks m.1.1.1.1.1.1.1.1.1.0)) in
     elim (cases_lt p k.replicas) [
       | inl below ↦
           rw (sym own)
-          (rw (sym (c.opened-entered.ensures r mine (low _ _ below few) held.leadership)) seven)
+          (rw (sym (c.opened_target-entered.ensures r mine (low _ _ below few) held.leadership)) seven)
       | inr high ↦ elsewhere k r mine front
-          (Reason.OutOfReach p i ∷ Reason.Over ∷ Reason.NoQuorum ∷ Reason.NotMember p ∷ Reason.OtherNumber b c.number-own.result ∷ Reason.NotEntered p (i % k.ring) c.opened-entered.result ∷ Reason.NotLooked p i ∷ [])
+          (Reason.OutOfReach p i ∷ Reason.Over ∷ Reason.NoQuorum ∷ Reason.NotMember p ∷ Reason.OtherNumber b c.number-own.result ∷ Reason.NotEntered p (i % k.ring) c.opened_target-entered.result ∷ Reason.NotLooked p i ∷ [])
           (puts k r mine p i b) _ (λ m. let l = m.1.1.0 in absurd (omega (arith, l, high))) seven
     ]

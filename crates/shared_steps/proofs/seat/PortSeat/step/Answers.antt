@@ -15,18 +15,18 @@ make-word-requires-clause-inside c = place_is_inside _ _ _ _ (seat_is_ready _ _ 
 
 pub make-word-requires-clause-rule : goal.make-word-requires-clause-rule
 make-word-requires-clause-rule c =
-    allows_move _ _ _ _ c.expected-expected.result c.move_of-step.result (seat_is_ready _ _ _ _ _ c.words.view_is c.self.view_is c.words.invariant c.self.invariant c.requires.of c.requires.allowed) c.word_place-place.ensures c.expected-expected.ensures
-    (subst (λ g. IsMove c.words.inside.layout.ring g c.args.verb c.expected-expected.result c.move_of-step.result) c.close_grant-grant.ensures c.move_of-step.ensures)
+    allows_move _ _ _ _ c.expected_word-expected.result c.move_of-step.result (seat_is_ready _ _ _ _ _ c.words.view_is c.self.view_is c.words.invariant c.self.invariant c.requires.of c.requires.allowed) c.word_place-place.ensures c.expected_word-expected.ensures
+    (subst (λ g. IsMove c.words.inside.layout.ring g c.args.verb c.expected_word-expected.result c.move_of-step.result) c.close_grant-grant.ensures c.move_of-step.ensures)
 
 can : (c : goal.After-note) → Ready c.words.inside c.self.inside c.args.verb
 can c = seat_is_ready _ _ _ _ _ c.words.view_is c.self.view_is c.words.invariant c.self.invariant c.requires.of c.requires.allowed
 
-made : (c : goal.After-note) → Made c.words.inside c.self.inside c.args.verb (can c) record { seat = c.make-word.new.seat; id = c.self.inside.id; found = c.note.new.found } c.make-word.result c.expected-expected.result c.note.result
+made : (c : goal.After-note) → Made c.words.inside c.self.inside c.args.verb (can c) record { seat = c.make-word.new.seat; id = c.self.inside.id; found = c.note.new.found } c.make-word.result c.expected_word-expected.result c.note.result
 made c = record {
   table = c.make-word.ensures.same.0;
   id = refl;
   told = c.make-word.ensures.grown;
-  expects = expects_kept _ _ _ (can c) _ c.expected-expected.ensures;
+  expects = expects_kept _ _ _ (can c) _ c.expected_word-expected.ensures;
   answer = c.note.ensures.answer;
   found = c.note.ensures.found;
 }
