@@ -19,7 +19,7 @@ use Rattle.mu_agree.proofs.Legal.{legal_induction, event_after}
 use Rattle.mu_agree.proofs.Possible.{answered, at_event}
 use Rattle.mu_model.proofs.Lists.{item_below}
 use Rattle.mu_agree.proofs.Readings.{log_grows}
-use Rattle.mu_agree.specs.Possible.{PartsStayFilled}
+use Rattle.mu_agree.specs.Possible.{PartLooksStayFilled}
 
 -- if a look showed an entry the log reaches beyond it
 abbrev Shown : ℕ → ℕ → ℕ → List Event → Type 0
@@ -70,8 +70,8 @@ is_empty true o x k h = cc
 is_empty false None x k h = cc
 is_empty false (Some y) x k h = cc
 
-pub parts_stay_filled_law : PartsStayFilled
-parts_stay_filled_law c r p i j mine e poss seen l v none =
+pub part_looks_stay_filled_law : PartLooksStayFilled
+part_looks_stay_filled_law c r p i j mine e poss seen l v none =
     let s = at_event c r mine e poss in
     let long : j < length (region_log p s.older) = entries_shown c r p j s.older s.legal (subst (λ z. has (entry_seen r p j) z ≡ true) (sym s.part_is) seen) in
     let there = item_below (region_log p s.older) i (omega arith) in

@@ -23,7 +23,7 @@ use Rattle.mu_agree.proofs.Access.{entered_facts, last_close, must_drain-part, n
 use Rattle.mu_agree.proofs.Entering.{slot_entered}
 use Rattle.mu_agree.proofs.Legal.{event_after, legal_induction, legal_older}
 use Rattle.mu_agree.specs.Laws.{IsShutOut, MissesShutOut}
-use Rattle.mu_agree.specs.Possible.{PartsShowMisses, entered_under}
+use Rattle.mu_agree.specs.Possible.{PartFencesShowMisses, entered_under}
 use Rattle.mu_agree.proofs.Possible.{answered, at_event, earlier, same_fence}
 use Rattle.mu_model.proofs.Putting.{put_facts, min_facts}
 
@@ -138,8 +138,8 @@ missed_drained c r p (Verb.PutSlot q i b w) past m = go (drained r q past) refl 
     go false d k = absurd (true≢false (sym k))
 missed_drained c r p v past m = absurd (true≢false (sym m))
 
-pub parts_show_misses_law : PartsShowMisses
-parts_show_misses_law c r p g mine between e f x poss m u v a =
+pub part_fences_show_misses_law : PartFencesShowMisses
+part_fences_show_misses_law c r p g mine between e f x poss m u v a =
     let s = at_event c r (between ++ e ∷ mine) f poss in
     let t = earlier c r s.older between mine e s.legal s.part_is in
     let missed : is_missed_at_verb p e.verb (answer_of c r t.older e.verb) ≡ true = subst (λ z. is_missed_at_verb p e.verb z ≡ true) (t.follows.answer ∙ ap (λ z. answer_of c z t.older e.verb) t.own) m in

@@ -9,7 +9,7 @@ use Rattle.std.proofs.lemmas.Bool.{and_parts, or_cases, eq-eqb, ltb-true, false_
 use Rattle.std.proofs.Math.Dec.{eqb}
 use Rattle.mu_model.specs.declared.config.Config.{Config}
 use Rattle.mu_model.specs.declared.event.Event.{Event}
-use Rattle.mu_agree.specs.Possible.{PartsFit}
+use Rattle.mu_agree.specs.Possible.{PartPositionsSuffice}
 use Rattle.mu_model.specs.Chosen.{IsChosen}
 use Rattle.mu_model.specs.Contents.{IsConfig, client_of, counted, holds_all, includes, is_batch, is_mark, number_of, numbers_in, rest_of, row_count, rows_from, rows_in, rows_of, session}
 use Rattle.mu_model.specs.Histories.{part}
@@ -194,7 +194,7 @@ fits_one_more c past xs g h k m =
     ]) in
     let same = keys_short (key c) xs in omega arith
 
-pub parts_fit_law : PartsFit
-parts_fit_law c r mine g p m =
+pub part_positions_suffice_law : PartPositionsSuffice
+part_positions_suffice_law c r mine g p m =
     subst (λ z. length (known c r z) < row_count c + reserve c) p.is
     (fits_one_more c p.past (known c r (part r p.past)) g p.legal (known_are_chosen c r p.past p.legal) (subst (λ z. holds_all c (known c r z) ≡ false) (sym p.is) m))

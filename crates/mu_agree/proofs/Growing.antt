@@ -33,7 +33,7 @@ use Rattle.mu_agree.proofs.Knowing.{known_stays}
 use Rattle.mu_agree.proofs.Prefixes.{known_agree}
 use Rattle.mu_agree.proofs.Landings.{has_of_part}
 use Rattle.mu_agree.proofs.Offers.{first_is}
-use Rattle.mu_agree.proofs.Possible.{parts_stand_law}
+use Rattle.mu_agree.proofs.Possible.{part_entries_stand_law}
 use Rattle.mu_agree.proofs.Sessions.{batch_within, fits_stands, mark_no_batch, row_within}
 use Rattle.mu_agree.proofs.Sound.{all_sound, offered_tried, put_sound, some_fails}
 
@@ -360,7 +360,7 @@ legal_kept c more (e ∷ past) g h legal =
           budget = a.budget;
           replica = a.replica;
           may = needs_kept c more e.by (part e.by past) e.verb g h
-              (λ i v k. parts_stand_law c e.by i v (part e.by past) (part_is_possible c e.by past legal.0) k)
+              (λ i v k. part_entries_stand_law c e.by i v (part e.by past) (part_is_possible c e.by past legal.0) k)
               (puts_entry c e.by past e.verb legal.0 a.may) a.may;
         };
         answer = legal.1.answer ∙ sym (answer_kept c more e.by past e.verb);
@@ -380,7 +380,7 @@ pub legal_stays_law : LegalStays
 legal_stays_law c more events g h legal = legal_kept c more (history events) g h legal
 
 pub applied_stays_law : AppliedStays
-applied_stays_law c more r mine g h p = applied_kept c more r mine g h (λ i v k. parts_stand_law c r i v mine p k)
+applied_stays_law c more r mine g h p = applied_kept c more r mine g h (λ i v k. part_entries_stand_law c r i v mine p k)
 
 -- a new value, if no look showed an entry, stands for an entry also before it may be put
 free_stands : (c : Config) (r v : ℕ) (mine : List Event) → (is_offer c r mine v || is_mark_offer c r mine v) ≡ true → StandsForEntry c v
@@ -481,7 +481,7 @@ later_rows_follow_law c more older newer r s i k v w g h legal now at there batc
         let here : slice_get (known (with_more c more) r (part r (history (older ++ newer)))) k ≡ Some item.0 =
         ap (λ l. slice_get (known (with_more c more) r l) k) whole ∙ (ap (λ l. slice_get l k) stays.1 ∙ get_front (known (with_more c more) r mine) stays.0 k item.0 was) in
         let same : item.0 ≡ w = known_agree (with_more c more) r s (history (older ++ newer)) now k item.0 w here there in
-        elim (subst (StandsForEntry c) same (parts_stand_law c r k item.0 mine (part_is_possible c r (history older) legal) item.1)) [
+        elim (subst (StandsForEntry c) same (part_entries_stand_law c r k item.0 mine (part_is_possible c r (history older) legal) item.1)) [
           | inl own ↦ (let low = row_within c w own in omega (arith, low, new))
           | inr mark ↦ mark_no_batch (with_more c more) mark.0 w h mark.1 batch
         ]

@@ -10,7 +10,7 @@ use Rattle.mu_model.specs.declared.event.Event.{Event}
 use Rattle.mu_model.specs.declared.event.Verb.{Verb}
 use Rattle.mu_model.specs.declared.event.Answer.{Answer}
 use Rattle.mu_agree.specs.Agreement.{end_put, fuo_under, kept_if, lesser_or, put_end}
-use Rattle.mu_agree.specs.Possible.{PartsFind, PartsInSession, PartsKeep, PartsMarkOnce, PartsMove, PartsReadRight, PartsShorten, PartsStand, PartsTrustSelf}
+use Rattle.mu_agree.specs.Possible.{PartLooksFind, PartsInSession, PartLooksAreKept, PartsMarkOnce, PartGrantsMove, PartRowsReadRight, PartsShorten, PartEntriesStand, PartsTrustSelf}
 use Rattle.mu_model.specs.Allowed.{Allowed, Needs}
 use Rattle.mu_model.specs.Answers.{answer_of, shown}
 use Rattle.mu_model.specs.Contents.{IsInSession}
@@ -101,8 +101,8 @@ parts_in_session_law c r mine g p = subst (λ z. IsInSession c (known c r z)) p.
 known_of : (c : Config) (r i v : ℕ) (mine : List Event) (p : IsPossible c r mine) → slice_get (known c r mine) i ≡ Some v → slice_get (known c r (part r p.past)) i ≡ Some v
 known_of c r i v mine p k = subst (λ z. slice_get (known c r z) i ≡ Some v) (sym p.is) k
 
-pub parts_stand_law : PartsStand
-parts_stand_law c r i v mine p k =
+pub part_entries_stand_law : PartEntriesStand
+part_entries_stand_law c r i v mine p k =
     let s = chosen_sound c i v p.past p.legal (known_are_chosen c r p.past p.legal i v (known_of c r i v mine p k)) in
     fits_stands c v s.values p.past s.fits
 
@@ -110,8 +110,8 @@ pub parts_mark_once_law : PartsMarkOnce
 parts_mark_once_law c r q i j v w mine g p a b m n =
     marked_once c q i j v w p.past g p.legal (known_are_chosen c r p.past p.legal i v (known_of c r i v mine p a)) (known_are_chosen c r p.past p.legal j w (known_of c r j w mine p b)) m n
 
-pub parts_read_right_law : PartsReadRight
-parts_read_right_law c r i v t k mine e g p kn b l m ev =
+pub part_rows_read_right_law : PartRowsReadRight
+part_rows_read_right_law c r i v t k mine e g p kn b l m ev =
     let s = at_event c r mine e p in
     rows_read c r i v t k e s.newer s.older p.past s.is g p.legal (subst (λ z. slice_get (known c r z) i ≡ Some v) (sym s.part_is) kn) b l m ev
 
@@ -126,16 +126,16 @@ not_empty ring i log l e = go (nat_lt (i + ring) (length log)) (item_below log i
         no_entry : (x : ℕ × ℕ) → shown (Some x) ≡ Answer.Empty → ⊥
         no_entry x e = cc
 
-pub parts_find_law : PartsFind
-parts_find_law c r p i mine e poss ev l none =
+pub part_looks_find_law : PartLooksFind
+part_looks_find_law c r p i mine e poss ev l none =
     let s = at_event c r mine e poss in
     let g = no_gaps c p s.older s.legal in
     let read : greatest_fuo_read r p mine ≤ region_fuo p s.older = subst (λ z. greatest_fuo_read r p z ≤ region_fuo p s.older) s.part_is (g.read r) in
     let low = g.fuo in
     not_empty c.ring i (region_log p s.older) (omega arith) (ap (λ z. answer_of c e.by s.older z) (sym ev) ∙ sym s.follows.answer ∙ none)
 
-pub parts_keep_law : PartsKeep
-parts_keep_law c r p i mine e poss ev l a =
+pub part_looks_are_kept_law : PartLooksAreKept
+part_looks_are_kept_law c r p i mine e poss ev l a =
     let s = at_event c r mine e poss in
     let m = look_kept c p i e s.older s.legal s.follows ev a (inr (subst (λ z. length (known c z (part z s.older)) ≤ i) (sym s.own) (subst (λ z. length (known c r z) ≤ i) (sym s.part_is) l))) in
     mark_version c e.by m.value m.mark
@@ -194,8 +194,8 @@ grant_lost c r p j g u past h l n f ul pl a =
           let long = past_long c.ring j (region_log p past) (nat_lt (j + c.ring) (length (region_log p past))) refl a in omega arith)
     ]
 
-pub parts_move_law : PartsMove
-parts_move_law c r p j g u mine between e f x poss l ev ea n fu ul pl fv fa same =
+pub part_grants_move_law : PartGrantsMove
+part_grants_move_law c r p j g u mine between e f x poss l ev ea n fu ul pl fv fa same =
     let s = at_event c r (between ++ e ∷ mine) f poss in
     let t = earlier c r s.older between mine e s.legal s.part_is in
     let past_look : answer_of c r t.older (Verb.Look p j) ≡ Answer.Past = ap (λ z. answer_of c z t.older (Verb.Look p j)) (sym t.own) ∙ ap (λ z. answer_of c e.by t.older z) (sym ev) ∙ sym t.follows.answer ∙ ea in

@@ -22,7 +22,7 @@ use Rattle.mu_model.specs.Picks.{is_past, is_past_look, look_answer}
 use Rattle.mu_model.specs.Regions.{fence, fence_grant, log_with, min_landed, region_fuo, region_head, region_log, region_min}
 use Rattle.mu_model.specs.Room.{head_read, last_head, reserve}
 use Rattle.mu_model.proofs.Owned.{noted-part}
-use Rattle.mu_agree.specs.Possible.{PartsClimb, PartsCount, PartsHold, PartsReach, PartsStayPast}
+use Rattle.mu_agree.specs.Possible.{PartHeadsClimb, PartNumbersLeaveRoom, PartFencesNameOwner, PartFuosAreWithin, PartLooksStayPast}
 use Rattle.mu_agree.proofs.Access.{noted_grant_is_owned}
 use Rattle.mu_agree.proofs.Landings.{at_part, greatest_since}
 use Rattle.mu_agree.proofs.Legal.{legal_induction, event_after}
@@ -61,8 +61,8 @@ heads_low c r q = legal_induction c (HeadLow r q) (omega arith) (λ past by v h 
 pub number_is : (x y : ℕ) → Answer.Number x ≡ Answer.Number y → x ≡ y
 number_is x y e = cc
 
-pub parts_climb_law : PartsClimb
-parts_climb_law c r q h mine e possible verb answer =
+pub part_heads_climb_law : PartHeadsClimb
+part_heads_climb_law c r q h mine e possible verb answer =
     let s = at_event c r mine e possible in
     let is : h ≡ region_head q s.older = number_is h (region_head q s.older) (sym answer ∙ s.follows.answer ∙ ap (answer_of c e.by s.older) verb) in
     subst (λ x. last_head r q mine ≤ x) (sym is) (subst (λ J. last_head r q J ≤ region_head q s.older) s.part_is (heads_low c r q s.older s.legal))
@@ -104,14 +104,14 @@ fuo_step c p by v past legal may h = h
 fuos_within : (c : Config) (p : ℕ) (past : List Event) → IsLegalHistory c past → FuoWithin c p past
 fuos_within c p = legal_induction c (FuoWithin c p) (omega arith) (λ past by v h may n. fuo_step c p by v past h may.may n)
 
-pub parts_reach_law : PartsReach
-parts_reach_law c r p u mine e possible verb answer =
+pub part_fuos_are_within_law : PartFuosAreWithin
+part_fuos_are_within_law c r p u mine e possible verb answer =
     let s = at_event c r mine e possible in
     let is : u ≡ region_fuo p s.older = number_is u (region_fuo p s.older) (sym answer ∙ s.follows.answer ∙ ap (answer_of c e.by s.older) verb) in
     subst (λ x. x ≤ row_count c + reserve c + 1) (sym is) (fuos_within c p s.older s.legal)
 
-pub parts_hold_law : PartsHold
-parts_hold_law c r p g f mine e possible noted verb answer same =
+pub part_fences_name_owner_law : PartFencesNameOwner
+part_fences_name_owner_law c r p g f mine e possible noted verb answer same =
     let s = at_event c r mine e possible in
     let is : f ≡ fence p s.older = same_fence f (fence p s.older) (sym answer ∙ s.follows.answer ∙ ap (answer_of c e.by s.older) verb) in
     let note = noted_grant_is_owned c r p s.older s.legal g (sym (noted-part r p s.older) ∙ subst (λ J. noted_grant r p J ≡ Some g) (sym s.part_is) noted) in
@@ -248,8 +248,8 @@ history_short c past config legal =
     let most = few_events c c.replicas past few config.budget.1 legal in
     omega (arith, all, few, most)
 
-pub parts_count_law : PartsCount
-parts_count_law c r mine config possible =
+pub part_numbers_leave_room_law : PartNumbersLeaveRoom
+part_numbers_leave_room_law c r mine config possible =
     let past = possible.past in
     let legal = possible.legal in
     let few = config.replicas.1 in
@@ -316,8 +316,8 @@ past_step c r p i by v past old = at_part (λ J. has (λ e. is_past_look (look_a
 past_stands : (c : Config) (r p i : ℕ) (past : List Event) → IsLegalHistory c past → PastStands c r p i past
 past_stands c r p i = legal_induction c (PastStands c r p i) (λ is. absurd (true≢false (sym is))) (λ past by v h may n. past_step c r p i by v past n)
 
-pub parts_stay_past_law : PartsStayPast
-parts_stay_past_law c r p i mine e possible verb seen =
+pub part_looks_stay_past_law : PartLooksStayPast
+part_looks_stay_past_law c r p i mine e possible verb seen =
     let s = at_event c r mine e possible in
     let long = past_stands c r p i s.older s.legal (subst (λ J. has (λ f. is_past_look (look_answer r p i f.by f.verb f.answer)) J ≡ true) (sym s.part_is) seen) in
     let answer : e.answer ≡ answer_of c e.by s.older (Verb.Look p i) = s.follows.answer ∙ ap (answer_of c e.by s.older) verb in

@@ -14,7 +14,7 @@ use Rattle.mu_model.specs.declared.event.Verb.{Verb}
 use Rattle.mu_model.specs.declared.event.Answer.{Answer}
 use Rattle.mu_agree.specs.Agreement.{IsMarked}
 use Rattle.mu_agree.specs.Reserve.{BatchesLeaveRoom, KnownLeavesRoom}
-use Rattle.mu_agree.specs.Possible.{PartsLeaveRoom}
+use Rattle.mu_agree.specs.Possible.{PartHeadsLeaveRoom}
 use Rattle.mu_model.specs.Allowed.{Needs}
 use Rattle.mu_model.specs.Answers.{drained, put_answer}
 use Rattle.mu_model.specs.Chosen.{IsChosen}
@@ -224,8 +224,8 @@ pub known_leaves_room_law : KnownLeavesRoom
 known_leaves_room_law c events q r g h = known_leaves c q r (history events) g h
 
 -- so does a head that was read
-pub parts_leave_room_law : PartsLeaveRoom
-parts_leave_room_law c r q h mine e g poss two v a unmarked =
+pub part_heads_leave_room_law : PartHeadsLeaveRoom
+part_heads_leave_room_law c r q h mine e g poss two v a unmarked =
     let s = at_event c r mine e poss in
     let is : h ≡ region_head q s.older = number_is h (region_head q s.older) (sym a ∙ answered c r mine e (Verb.Head q) poss v) in
     let low : q < c.replicas = (subst (λ z. Needs c e.by (part e.by s.older) z) v s.follows.allowed.may).0 in

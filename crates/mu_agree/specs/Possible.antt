@@ -40,8 +40,8 @@ PartsInSession =
     → IsInSession c (known c r mine)
 
 -- each entry that a possible part knows stands for a batch or a mark
-abbrev pub PartsStand : Type 0
-PartsStand =
+abbrev pub PartEntriesStand : Type 0
+PartEntriesStand =
     (c : Config) (r i v : ℕ) (mine : List Event) → IsPossible c r mine
     → slice_get (known c r mine) i ≡ Some v → StandsForEntry c v
 
@@ -53,28 +53,28 @@ PartsMarkOnce =
     → is_mark c q v ≡ true → is_mark c q w ≡ true → i ≡ j
 
 -- a row of a known entry reads as the configuration has it
-abbrev pub PartsReadRight : Type 0
-PartsReadRight =
+abbrev pub PartRowsReadRight : Type 0
+PartRowsReadRight =
     (c : Config) (r i v t k : ℕ) (mine : List Event) (e : Event) → IsConfig c
     → IsPossible c r (e ∷ mine) → slice_get (known c r mine) i ≡ Some v → is_batch c v ≡ true
     → t ≤ rest_of c (v % 4096) → k < 12 → e.verb ≡ Verb.ReadRow (v + t) k
     → e.answer ≡ Answer.Number (config_word c (v % 4096 + t) k)
 
 -- a look below a FUO that was read finds an entry, or places that are used again
-abbrev pub PartsFind : Type 0
-PartsFind =
+abbrev pub PartLooksFind : Type 0
+PartLooksFind =
     (c : Config) (r p i : ℕ) (mine : List Event) (e : Event) → IsPossible c r (e ∷ mine)
     → e.verb ≡ Verb.Look p i → i < greatest_fuo_read r p mine → e.answer ≢ Answer.Empty
 
 -- in version 2 only, a look at what isn't known is `Past`
-abbrev pub PartsKeep : Type 0
-PartsKeep =
+abbrev pub PartLooksAreKept : Type 0
+PartLooksAreKept =
     (c : Config) (r p i : ℕ) (mine : List Event) (e : Event) → IsPossible c r (e ∷ mine)
     → e.verb ≡ Verb.Look p i → length (known c r mine) ≤ i → e.answer ≡ Answer.Past → c.version ≡ 2
 
 -- after a `Past` look at what r still has to bring to p, each fence of p shows another grant
-abbrev pub PartsMove : Type 0
-PartsMove =
+abbrev pub PartGrantsMove : Type 0
+PartGrantsMove =
     (c : Config) (r p j g u : ℕ) (mine between : List Event) (e f : Event) (x : Fence)
     → IsPossible c r (f ∷ (between ++ e ∷ mine)) → p < c.replicas → e.verb ≡ Verb.Look p j
     → e.answer ≡ Answer.Past
@@ -83,21 +83,21 @@ PartsMove =
     → f.verb ≡ Verb.Fence p → f.answer ≡ Answer.Seen x → x.grant ≢ g
 
 -- while some command isn't known, there is a position for it
-abbrev pub PartsFit : Type 0
-PartsFit =
+abbrev pub PartPositionsSuffice : Type 0
+PartPositionsSuffice =
     (c : Config) (r : ℕ) (mine : List Event) → IsConfig c → IsPossible c r mine
     → holds_all c (known c r mine) ≡ false → length (known c r mine) < row_count c + reserve c
 
 -- a head that a possible part reads is not below the one that it read last
-abbrev pub PartsClimb : Type 0
-PartsClimb =
+abbrev pub PartHeadsClimb : Type 0
+PartHeadsClimb =
     (c : Config) (r q h : ℕ) (mine : List Event) (e : Event) → IsPossible c r (e ∷ mine)
     → e.verb ≡ Verb.Head q → e.answer ≡ Answer.Number h → last_head r q mine ≤ h
 
 -- in version 2 a head that a possible part reads, and the ring, leave a place above what is known,
 -- if no mark of its replica is
-abbrev pub PartsLeaveRoom : Type 0
-PartsLeaveRoom =
+abbrev pub PartHeadsLeaveRoom : Type 0
+PartHeadsLeaveRoom =
     (c : Config) (r q h : ℕ) (mine : List Event) (e : Event) → IsConfig c
     → IsPossible c r (e ∷ mine) → c.version ≡ 2 → e.verb ≡ Verb.Head q
     → e.answer ≡ Answer.Number h → marked c q (known c r mine) ≡ false
@@ -109,29 +109,29 @@ PartsTrustSelf =
     (c : Config) (r : ℕ) (mine : List Event) → IsPossible c r mine → is_failed r r mine ≡ false
 
 -- a FUO that a possible part reads is at most the number of positions
-abbrev pub PartsReach : Type 0
-PartsReach =
+abbrev pub PartFuosAreWithin : Type 0
+PartFuosAreWithin =
     (c : Config) (r p u : ℕ) (mine : List Event) (e : Event) → IsPossible c r (e ∷ mine)
     → e.verb ≡ Verb.Fuo p → e.answer ≡ Answer.Number u → u ≤ row_count c + reserve c + 1
 
 -- a fence that is read with the noted grant names the replica
-abbrev pub PartsHold : Type 0
-PartsHold =
+abbrev pub PartFencesNameOwner : Type 0
+PartFencesNameOwner =
     (c : Config) (r p g : ℕ) (f : Fence) (mine : List Event) (e : Event) → IsPossible c r (e ∷ mine)
     → noted_grant r p mine ≡ Some g → e.verb ≡ Verb.Fence p → e.answer ≡ Answer.Seen f
     → f.grant ≡ g → f.owner ≡ Some r
 
 -- the minima that a possible part reads in its leadership, and the numbers that it puts, leave room
 -- for a next number
-abbrev pub PartsCount : Type 0
-PartsCount =
+abbrev pub PartNumbersLeaveRoom : Type 0
+PartNumbersLeaveRoom =
     (c : Config) (r : ℕ) (mine : List Event) → IsConfig c → IsPossible c r mine
     → (greatest (λ e. any_min_read r e.by e.verb e.answer) (leadership r mine) < 8000000)
     × (greatest (λ e. number_put r e.by e.verb) mine < 8000000)
 
 -- a look that a possible part saw past is past again
-abbrev pub PartsStayPast : Type 0
-PartsStayPast =
+abbrev pub PartLooksStayPast : Type 0
+PartLooksStayPast =
     (c : Config) (r p i : ℕ) (mine : List Event) (e : Event) → IsPossible c r (e ∷ mine)
     → e.verb ≡ Verb.Look p i
     → has (λ f. is_past_look (look_answer r p i f.by f.verb f.answer)) mine ≡ true
@@ -145,16 +145,16 @@ entered_under r p (e ∷ past) =
 
 -- after a put that missed, each fence of the region is closing, or shows a later grant than the one
 -- under which r entered
-abbrev pub PartsShowMisses : Type 0
-PartsShowMisses =
+abbrev pub PartFencesShowMisses : Type 0
+PartFencesShowMisses =
     (c : Config) (r p g : ℕ) (mine between : List Event) (e f : Event) (x : Fence)
     → IsPossible c r (f ∷ (between ++ e ∷ mine)) → is_missed_at p e ≡ true
     → entered_under r p mine ≡ Some g
     → f.verb ≡ Verb.Fence p → f.answer ≡ Answer.Seen x → (x.closing ≡ true) ⊎ (g < x.grant)
 
 -- at and below a position that showed an entry, no look of a possible part is empty
-abbrev pub PartsStayFilled : Type 0
-PartsStayFilled =
+abbrev pub PartLooksStayFilled : Type 0
+PartLooksStayFilled =
     (c : Config) (r p i j : ℕ) (mine : List Event) (e : Event) → IsPossible c r (e ∷ mine)
     → has (entry_seen r p j) mine ≡ true → i ≤ j → e.verb ≡ Verb.Look p i → e.answer ≢ Answer.Empty
 

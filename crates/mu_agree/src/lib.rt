@@ -7,7 +7,7 @@ ghost use Rattle.mu_agree.specs.Growing.{AnswersStay, AppliedStays, CommitsStay,
 ghost use Rattle.mu_agree.specs.Journals.{BeginningsAreDiligent, ObeysOnce};
 ghost use Rattle.mu_agree.specs.Laws.{MinimumRises, MissesShutOut, NumbersDiffer, OnlyOwnersPut, SlotNumbersRise};
 ghost use Rattle.mu_agree.specs.Paces.{RecentAsksAreInTime, RecentReadsAreInTime};
-ghost use Rattle.mu_agree.specs.Possible.{PartsClimb, PartsCount, PartsFind, PartsFit, PartsHaveNext, PartsHold, PartsInSession, PartsKeep, PartsLeaveRoom, PartsMarkOnce, PartsMove, PartsReach, PartsReadRight, PartsShorten, PartsShowMisses, PartsStand, PartsStayFilled, PartsStayPast, PartsTrustSelf};
+ghost use Rattle.mu_agree.specs.Possible.{PartHeadsClimb, PartNumbersLeaveRoom, PartLooksFind, PartPositionsSuffice, PartsHaveNext, PartFencesNameOwner, PartsInSession, PartLooksAreKept, PartHeadsLeaveRoom, PartsMarkOnce, PartGrantsMove, PartFuosAreWithin, PartRowsReadRight, PartsShorten, PartFencesShowMisses, PartEntriesStand, PartLooksStayFilled, PartLooksStayPast, PartsTrustSelf};
 ghost use Rattle.mu_agree.specs.Reserve.{BatchesLeaveRoom, KnownLeavesRoom};
 ghost use Rattle.mu_agree.specs.Sessions.{KnownInSession, KnownMarkedOnce, KnownStands, MarkedOnce, RowsComeFirst, RowsReadRight};
 
@@ -133,8 +133,8 @@ pub fn parts_in_session()
 {}
 
 /// What a possible part knows stands for batches and marks.
-pub fn parts_stand()
-    ensures { PartsStand }
+pub fn part_entries_stand()
+    ensures { PartEntriesStand }
 {}
 
 /// A possible part knows at most one mark of each replica.
@@ -143,18 +143,18 @@ pub fn parts_mark_once()
 {}
 
 /// A possible part reads the rows of what it knows correctly.
-pub fn parts_read_right()
-    ensures { PartsReadRight }
+pub fn part_rows_read_right()
+    ensures { PartRowsReadRight }
 {}
 
 /// A possible part finds entries below the FUOs that it read.
-pub fn parts_find()
-    ensures { PartsFind }
+pub fn part_looks_find()
+    ensures { PartLooksFind }
 {}
 
 /// A possible part of version 1 finds no place used again that it still has to read.
-pub fn parts_keep()
-    ensures { PartsKeep }
+pub fn part_looks_are_kept()
+    ensures { PartLooksAreKept }
 {}
 
 /// A log is never longer than the FUO of its region and the ring.
@@ -169,18 +169,18 @@ pub fn log_within_reach()
 {}
 
 /// A fence read after a past look at what a leader still has to bring shows another grant.
-pub fn parts_move()
-    ensures { PartsMove }
+pub fn part_grants_move()
+    ensures { PartGrantsMove }
 {}
 
 /// While a possible part doesn't know some command, there is a position for it.
-pub fn parts_fit()
-    ensures { PartsFit }
+pub fn part_positions_suffice()
+    ensures { PartPositionsSuffice }
 {}
 
 /// A head that a possible part reads leaves a place, if no mark of its replica is known.
-pub fn parts_leave_room()
-    ensures { PartsLeaveRoom }
+pub fn part_heads_leave_room()
+    ensures { PartHeadsLeaveRoom }
 {}
 
 /// No possible part holds its own replica to be failed.
@@ -189,33 +189,33 @@ pub fn parts_trust_self()
 {}
 
 /// Heads that a possible part reads never fall.
-pub fn parts_climb()
-    ensures { PartsClimb }
+pub fn part_heads_climb()
+    ensures { PartHeadsClimb }
 {}
 
 /// The FUOs that a possible part reads are within the positions.
-pub fn parts_reach()
-    ensures { PartsReach }
+pub fn part_fuos_are_within()
+    ensures { PartFuosAreWithin }
 {}
 
 /// A fence that a possible part reads with a grant that it noted names it.
-pub fn parts_hold()
-    ensures { PartsHold }
+pub fn part_fences_name_owner()
+    ensures { PartFencesNameOwner }
 {}
 
 /// The numbers that a possible part reads and puts leave room for a next one.
-pub fn parts_count()
-    ensures { PartsCount }
+pub fn part_numbers_leave_room()
+    ensures { PartNumbersLeaveRoom }
 {}
 
 /// What a possible part saw past stays past.
-pub fn parts_stay_past()
-    ensures { PartsStayPast }
+pub fn part_looks_stay_past()
+    ensures { PartLooksStayPast }
 {}
 
 /// If a possible part saw an entry, it sees no empty place at or below its position again.
-pub fn parts_stay_filled()
-    ensures { PartsStayFilled }
+pub fn part_looks_stay_filled()
+    ensures { PartLooksStayFilled }
 {}
 
 /// While a possible part doesn't know some command, some client has a next batch.
@@ -224,8 +224,8 @@ pub fn parts_have_next()
 {}
 
 /// After a put that missed, each fence of its region shows that it closed or was granted on.
-pub fn parts_show_misses()
-    ensures { PartsShowMisses }
+pub fn part_fences_show_misses()
+    ensures { PartFencesShowMisses }
 {}
 
 /// Each beginning of a diligent journal is diligent.

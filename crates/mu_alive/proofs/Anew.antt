@@ -18,7 +18,7 @@ use Rattle.mu_pace.specs.Collecting.{LeaderKeepsBy}
 use Rattle.mu_pace.specs.Counters.{AtEachMoment, AtEachStep}
 use Rattle.mu_pace.proofs.Counting.{last_moment, moments_before, steps_before}
 use Rattle.mu_pace.proofs.Pasts.{cut, Cut}
-use Rattle.mu_agree.proofs.Fitting.{parts_fit_law}
+use Rattle.mu_agree.proofs.Fitting.{part_positions_suffice_law}
 use Rattle.mu_pace.proofs.Positions.{known_fits}
 use Rattle.mu_alive.specs.Enough.{HasLargeRing, asking_steps}
 use Rattle.mu_alive.specs.Calm.{calm_steps}
@@ -258,7 +258,7 @@ calm_back c a start (e ∷ window) base good large k none on named =
     let turn = turns (is_replication past e) (is_named c a past) (begins_leadership a e) first.0 named in
     let here = last_moment (λ now. knows_all c a now ≡ false) past before.lacks in
     let possible = last_moment (IsPossible c a) past before.possible in
-    let fits = parts_fit_law c a past good possible here in (
+    let fits = part_positions_suffice_law c a past good possible here in (
       calm_back c a start window base good large before first.1 (over_before a (e ∷ []) past (ap (λ t. cond t true false) first.0) on) turn.1,
       record {
         same = first.0;

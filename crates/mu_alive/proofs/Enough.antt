@@ -22,7 +22,7 @@ use Rattle.mu_model.specs.Stretches.{is_replication}
 use Rattle.mu_model.proofs.Basics.{none_some}
 use Rattle.mu_model.proofs.Parts.{part_is_possible, filter-append}
 use Rattle.mu_model.proofs.Scans.{all_at, each_all, rows_in-append}
-use Rattle.mu_agree.proofs.Fitting.{parts_fit_law}
+use Rattle.mu_agree.proofs.Fitting.{part_positions_suffice_law}
 use Rattle.mu_agree.proofs.Knowing.{known_stays}
 use Rattle.mu_agree.proofs.Possible.{parts_shorten_law}
 use Rattle.mu_pace.specs.Collecting.{LeaderKeeps, LeaderKeepsBy}
@@ -190,7 +190,7 @@ calm_on c a (e ∷ newer) base good large fine kept is =
     let past = newer ++ base in
     let here = last_moment (IsFine c a) past fine.0 in
     let same = kept.1.same ih.1 in
-    let fits = parts_fit_law c a past good here.possible here.lacks in (
+    let fits = part_positions_suffice_law c a past good here.possible here.lacks in (
       (
         ih.0,
         record {

@@ -18,7 +18,7 @@ use Rattle.mu_model.specs.Room.{reserve}
 use Rattle.mu_model.specs.Steps.{has_min, knows_all}
 use Rattle.mu_model.proofs.Owned.{greatest-part}
 use Rattle.mu_model.proofs.Parts.{filter-append, part_is_possible}
-use Rattle.mu_agree.proofs.Fitting.{parts_fit_law}
+use Rattle.mu_agree.proofs.Fitting.{part_positions_suffice_law}
 use Rattle.mu_agree.proofs.Prefixes.{greatest_along}
 use Rattle.mu_pace.specs.Counters.{AtEachMoment, AtEachStep, IsInTime}
 use Rattle.mu_pace.specs.Watches.{raising}
@@ -90,7 +90,7 @@ on_of c live a past l = (last_leads c a 0 past l.last.turns l.last.named, fine_m
 
 -- so fewer entries are known than there are positions
 pub few_known : (c : Config) (live : ℕ → Bool) (a : ℕ) (past : List Event) → Lacking c live a past → length (known c a (part a past)) < row_count c + reserve c
-few_known c live a past l = let few = parts_fit_law c a (part a past) l.good (part_is_possible c a past l.last.legal) l.lacks in omega (arith, few)
+few_known c live a past l = let few = part_positions_suffice_law c a (part a past) l.good (part_is_possible c a past l.last.legal) l.lacks in omega (arith, few)
 
 steady_of : (c : Config) (live : ℕ → Bool) (a : ℕ) (past : List Event) → Lacking c live a past → AtEachStep (Steady c a) (part a past)
 steady_of c live a past l = let on = leads_on c live a 0 past l.good l.last in steady_steps c a (part a past) on.possible on.on on.named

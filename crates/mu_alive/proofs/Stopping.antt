@@ -14,7 +14,7 @@ use Rattle.mu_model.specs.Placing.{fuo_read_or_raised}
 use Rattle.mu_model.specs.Room.{reserve}
 use Rattle.mu_model.specs.Steps.{has_min, knows_all}
 use Rattle.mu_model.proofs.Parts.{filter-append, part_is_possible}
-use Rattle.mu_agree.proofs.Fitting.{parts_fit_law}
+use Rattle.mu_agree.proofs.Fitting.{part_positions_suffice_law}
 use Rattle.mu_agree.proofs.Prefixes.{greatest_along}
 use Rattle.mu_pace.specs.Collecting.{LeaderKeeps}
 use Rattle.mu_pace.specs.Counters.{AtEachMoment, AtEachStep}
@@ -167,7 +167,7 @@ rises c live a start k left m gains at n base newer older s next = go (knows_all
 goes : (c : Config) (live : ℕ → Bool) (a start k left : ℕ) (base : List Event) → Next c live a start k left base
 goes c live a start k zero base m gains at n newer older s =
     let there = waits_before c live a start newer older s.waits in
-    let few = parts_fit_law c a (part a older) there.good (part_is_possible c a older there.last.legal) s.stands.lacks in
+    let few = part_positions_suffice_law c a (part a older) there.good (part_is_possible c a older there.last.legal) s.stands.lacks in
     let entries = s.entries in
     let knew = s.knew in
     absurd (omega (arith, few, entries, knew))

@@ -20,7 +20,7 @@ use Rattle.mu_node.specs.declared.turn.Turn.{Turn}
 use Rattle.mu_node.specs.Node.{StandsForNode}
 use Rattle.mu_node.specs.Turns.{IsTurn}
 use Rattle.shared_fabric.specs.Gathering.{AreOfOneList, Collected, IsSamePort, PortValue}
-use Rattle.mu_cluster.specs.Branches.{Drives, Goes, HasEnd, IsFreshPort}
+use Rattle.mu_cluster.specs.Branches.{Drives, NodeGoesOn, HasEnd, IsFreshPort}
 use Rattle.mu_cluster.specs.Rounds.{EndsNowhereBefore, part_of}
 use Rattle.mu_cluster.proofs.Seats.{next_before}
 
@@ -66,8 +66,8 @@ same_same p q s a b = record { table = b.table ∙ a.table; config = b.config �
 pub first_drives : (c : Config) (script : Script) (r : ℕ) (p : PortValue) (node : Node) → IsConfig c → IsFreshPort c r p → StandsForNode c p.id [] node → node.stops.items ≡ script.stops → node.zeal ≡ Zeal.Eager → Drives script node p
 first_drives c script r p node good fresh stands stops zeal = record {
   config = subst (λ k. IsConfig k) (sym fresh.config) good;
-  goes = subst (λ k. Goes k script p.id p.part node) (sym fresh.config)
-      (subst (λ l. Goes c script p.id l node) (sym fresh.empty) (record { stands = stands; stops = stops; zeal = zeal; before = none_before c script p.id }));
+  goes = subst (λ k. NodeGoesOn k script p.id p.part node) (sym fresh.config)
+      (subst (λ l. NodeGoesOn c script p.id l node) (sym fresh.empty) (record { stands = stands; stops = stops; zeal = zeal; before = none_before c script p.id }));
 }
 
 -- a part in true order is the part of its list

@@ -14,7 +14,7 @@ use Rattle.mu_node.specs.declared.node.Node.{Node}
 use Rattle.shared_fabric.specs.Gathering.{ArePorts, PortValue, fresh_port, fresh_ports}
 use Rattle.shared_fabric.proofs.Gathers.{length_fresh, length_of_map, some_at}
 use Rattle.mu_cluster.specs.declared.branch.Branch.{Branch}
-use Rattle.mu_cluster.specs.Branches.{AreLeft, Goes, HasEnd, IsDriven, IsFreshPort}
+use Rattle.mu_cluster.specs.Branches.{AreLeft, NodeGoesOn, HasEnd, IsDriven, IsFreshPort}
 use Rattle.mu_cluster.proofs.Filling.{get_map}
 
 abbrev pub port_of : Branch → PortValue
@@ -89,7 +89,7 @@ module _ (table : TableId) (c : Config) (script : Script) (xs ys : List Branch) 
         let id : y.port.id ≡ r = drove.same.id ∙ ap (λ (h : PortValue). h.id) (sym p.1.0) in (
           y.port.part,
           ap (λ l. slice_get l r) is ∙ get_map (λ (h : PortValue). reverse h.part) (map port_of ys) r y.port (get_map port_of ys r y found.1),
-          subst (λ n. Goes c script r y.port.part n) same_node (subst (λ i. Goes c script i y.port.part y.node) id (subst (λ k. Goes k script y.port.id y.port.part y.node) config drove.drives.goes)),
+          subst (λ n. NodeGoesOn c script r y.port.part n) same_node (subst (λ i. NodeGoesOn c script i y.port.part y.node) id (subst (λ k. NodeGoesOn k script y.port.id y.port.part y.node) config drove.drives.goes)),
           subst (λ i. HasEnd c script i y.port.part) id (subst (λ k. HasEnd k script y.port.id y.port.part) config drove.ends),
         );
   }

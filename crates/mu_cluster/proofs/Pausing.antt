@@ -33,7 +33,7 @@ use Rattle.mu_cluster.specs.Rounds.{id_of, part_of, Played}
 use Rattle.mu_cluster.proofs.InStep.{map_reverse}
 use Rattle.mu_cluster.proofs.Onward.{AreNodes, journal_part}
 use Rattle.mu_cluster.proofs.Paused.{Alternate, Split, count_after, count_due, count_idle, count_of, count_part, count_reverse, due_in, due_then, even_in, few_rounds, from_split, idle_then, ids_from, ids_split, split_ids, take_turns}
-use Rattle.mu_agree.proofs.Possible.{parts_keep_law}
+use Rattle.mu_agree.proofs.Possible.{part_looks_are_kept_law}
 use Rattle.mu_cluster.proofs.Living.{none_of}
 use Rattle.mu_cluster.proofs.Outrunning.{none_earlier, outrun_end, past_look, stands_last}
 use Rattle.mu_cluster.specs.Fair.{IsFairStretch}
@@ -114,7 +114,7 @@ none_outrun_large c events q p i good large legal low made = go (part_of q event
     go [] is made some = cc
     go (e ∷ mine) is made some =
         let look = past_look q p i (length (known c q mine)) e.by e.verb e.answer (sym (none_earlier (outrun_by q (length (known c q mine)) e.by e.verb e.answer)) ∙ (sym (ap (λ o. earlier_or (outrun_by q (length (known c q mine)) e.by e.verb e.answer) o) made.1.going) ∙ some)) in
-        let second = parts_keep_law c q p i mine e (subst (IsPossible c q) is (part_is_possible c q (history events) legal)) look.looks look.unread look.past in
+        let second = part_looks_are_kept_law c q p i mine e (subst (IsPossible c q) is (part_is_possible c q (history events) legal)) look.looks look.unread look.past in
         let at = stands_last q (history events) e mine is in
         let here : IsLegalHistory c (e ∷ at.older) = legal_older c at.newer (e ∷ at.older) (subst (IsLegalHistory c) at.is legal) in
         used e.verb e.answer at.older look.looks look.past here.1.answer here.0 second

@@ -16,7 +16,7 @@ use Rattle.mu_cluster.specs.declared.branch.Branch.{Branch}
 use Rattle.mu_cluster.specs.Rounds.{EndsNowhereBefore}
 
 -- the node stands for these events of r, whose end is nowhere before
-pub record Goes (c : Config) (script : Script) (r : ℕ) (mine : List Event)
+pub record NodeGoesOn (c : Config) (script : Script) (r : ℕ) (mine : List Event)
     (node : Node) : Type 0 where
   pub stands : StandsForNode c r mine node
   pub stops : node.stops.items ≡ script.stops
@@ -30,7 +30,7 @@ HasEnd c script r mine = (end : End) × EndsBy c script r mine end
 -- the node stands for the part of its port
 pub record Drives (script : Script) (node : Node) (port : PortValue) : Type 0 where
   pub config : IsConfig port.config
-  pub goes : Goes port.config script port.id port.part node
+  pub goes : NodeGoesOn port.config script port.id port.part node
 
 -- the same, before any step
 pub record Starts (script : Script) (b : Branch) : Type 0 where
@@ -56,5 +56,5 @@ pub record AreLeft (c : Config) (script : Script) (parts : List (List Event))
   pub count : length nodes ≡ c.replicas
   pub each :
       (r : ℕ) (node : Node) → slice_get nodes r ≡ Some node
-      → (mine : List Event) × (slice_get parts r ≡ Some (reverse mine)) × Goes c script r mine node
-      × HasEnd c script r mine
+      → (mine : List Event) × (slice_get parts r ≡ Some (reverse mine))
+      × NodeGoesOn c script r mine node × HasEnd c script r mine

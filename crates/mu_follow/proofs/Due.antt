@@ -20,7 +20,7 @@ use Rattle.mu_model.specs.Scores.{least_below}
 use Rattle.mu_model.proofs.Basics.{none_some, same_some}
 use Rattle.mu_model.proofs.Scans.{each_all, least_below_fits}
 use Rattle.mu_agree.proofs.Possible.{parts_shorten_law}
-use Rattle.mu_agree.proofs.Readings.{parts_reach_law}
+use Rattle.mu_agree.proofs.Readings.{part_fuos_are_within_law}
 use Rattle.mu_model.proofs.Least.{least_found, least_next}
 use Rattle.mu_knowledge.specs.FilledLog.{IsFilledTo}
 use Rattle.mu_knowledge.proofs.Fetched.{batch_there}
@@ -119,7 +119,7 @@ own_read_fits c r (e ∷ mine) possible = let s = parts_shorten_law c r mine e p
     go (Verb.Fuo q) verb (Answer.Number x) answer old = told (e.by == r) (q == r)
       where
         most : x ≤ row_count c + reserve c + 1
-        most = parts_reach_law c r q x mine e possible verb answer
+        most = part_fuos_are_within_law c r q x mine e possible verb answer
 
         told : (t u : Bool) → max_with (cond (t && u) (Some x) None) (greatest_fuo_read r r mine) ≤ row_count c + reserve c + 1
         told true true = omega (arith, most, old)

@@ -16,7 +16,7 @@ use Rattle.mu_model.specs.Scores.{least_below}
 use Rattle.mu_model.proofs.Lists.{get_front, get_push_here}
 use Rattle.mu_model.specs.Growing.{with_more}
 use Rattle.mu_agree.proofs.Growing.{applied_kept, commits_kept, known_kept, rows_in_kept}
-use Rattle.mu_agree.proofs.Possible.{parts_stand_law}
+use Rattle.mu_agree.proofs.Possible.{part_entries_stand_law}
 use Rattle.mu_agree.proofs.Sessions.{batch_within, row_within}
 use Rattle.mu_agree.proofs.Within.{known_few}
 use Rattle.mu_knowledge.proofs.Fetched.{front_fits}
@@ -112,7 +112,7 @@ completion_more c row values old new good more are counted marks to full held = 
 
 -- what is applied stands for entries, and is short
 pub applied_entries : (c : Config) (r : ℕ) (mine : List Event) → IsPossible c r mine → AreEntries c (applied c r mine)
-applied_entries c r mine possible = subst (AreEntries c) (applied_is c r mine) (taken_entries c (length (applied c r mine)) (known c r mine) (λ i v k. parts_stand_law c r i v mine possible k))
+applied_entries c r mine possible = subst (AreEntries c) (applied_is c r mine) (taken_entries c (length (applied c r mine)) (known c r mine) (λ i v k. part_entries_stand_law c r i v mine possible k))
 
 pub applied_short : (c : Config) (r : ℕ) (mine : List Event) → IsConfig c → IsPossible c r mine → length (applied c r mine) < 65536
 applied_short c r mine good possible = let fits = front_fits (λ v. has_entry c r v mine) (known c r mine) in let few = known_few c r mine good possible in omega (arith, fits, few)
@@ -130,7 +130,7 @@ pub follow_more : (c : Config) (row : Row) (r : ℕ) (mine : List Event) (old ne
     → StandsForRowWords (with_more c (row ∷ [])) r mine new.words → StandsForFilledLog (with_more c (row ∷ [])) r r mine new.own_log → new.heads ≡ old.heads → HoldsCompletion (with_more c (row ∷ [])) (applied c r mine) new.completion
     → new.commits ≡ old.commits → row_count c + reserve c + 1 < vec_capacity old.commits → new.outrun ≡ old.outrun → new.progress ≡ old.progress → StandsForFollow (with_more c (row ∷ [])) r mine new
 follow_more c row r mine old new good more possible held config replica steps knowing rows words own_log heads completion commits room outrun progress =
-    let same : applied (with_more c (row ∷ [])) r mine ≡ applied c r mine = applied_kept c (row ∷ []) r mine good more (λ i v k. parts_stand_law c r i v mine possible k) in
+    let same : applied (with_more c (row ∷ [])) r mine ≡ applied c r mine = applied_kept c (row ∷ []) r mine good more (λ i v k. part_entries_stand_law c r i v mine possible k) in
     record {
       config = config;
       replica = replica ∙ held.replica;

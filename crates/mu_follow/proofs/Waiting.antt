@@ -21,7 +21,7 @@ use Rattle.mu_model.specs.Scores.{least_below}
 use Rattle.mu_model.specs.Steps.{knows_more}
 use Rattle.mu_model.proofs.Basics.{or_true, same_number, same_some, true_or}
 use Rattle.mu_model.proofs.Scans.{all_at, each_all}
-use Rattle.mu_agree.proofs.Possible.{answered, at_event, parts_find_law}
+use Rattle.mu_agree.proofs.Possible.{answered, at_event, part_looks_find_law}
 use Rattle.mu_knowledge.proofs.Fetched.{read_word}
 use Rattle.mu_follow.specs.Due.{rows_had}
 
@@ -175,7 +175,7 @@ row_of_known c (suc i) v u (x ∷ xs) at batch low high = or_true (is_batch c x 
 -- a look at the next position below a FUO that was read teaches, or finds the place used again
 pub look_teaches : (c : Config) (r : ℕ) (past : List Event) (answer : Answer) → length (known c r past) < greatest_fuo_read r r past → IsPossible c r (event_by r (Verb.Look r (length (known c r past))) answer ∷ past)
     → (knows_more c r past (event_by r (Verb.Look r (length (known c r past))) answer) ≡ true) ⊎ (outrun c r (event_by r (Verb.Look r (length (known c r past))) answer ∷ past) ≡ None → ⊥)
-look_teaches c r past answer below possible = found answer (shows (nat_lt (i + c.ring) (length (region_log r older))) (slice_get (region_log r older) i) answer (answered c r past e (Verb.Look r i) possible refl)) (parts_find_law c r r i past e possible refl below)
+look_teaches c r past answer below possible = found answer (shows (nat_lt (i + c.ring) (length (region_log r older))) (slice_get (region_log r older) i) answer (answered c r past e (Verb.Look r i) possible refl)) (part_looks_find_law c r r i past e possible refl below)
   where
     i : ℕ
     i = length (known c r past)

@@ -14,7 +14,7 @@ use Rattle.mu_model.specs.Parts.{IsPossible}
 use Rattle.mu_model.specs.Room.{reserve}
 use Rattle.mu_model.specs.Growing.{with_more}
 use Rattle.mu_agree.proofs.Growing.{AllStand, candidate_kept, client_kept, filled_kept, known_kept, lacks_more, legal_kept, marked_kept, more_rows, new_more, new_stands, no_row_written, number_kept, rest_kept, row_batch_kept, session_kept}
-use Rattle.mu_agree.proofs.Possible.{parts_stand_law}
+use Rattle.mu_agree.proofs.Possible.{part_entries_stand_law}
 use Rattle.mu_agree.proofs.Sessions.{row_within}
 use Rattle.mu_lead.specs.declared.place.Place.{Place}
 use Rattle.mu_lead.specs.declared.place.Sight.{Sight}
@@ -174,19 +174,19 @@ place_more c more r b mine up reach written (Place.LateFuo p) g h possible w m =
 place_more c more r b mine up reach written (Place.LateEnter p) g h possible w m = late_enter_more c more r b mine up reach p m
 place_more c more r b mine up reach written (Place.LatePut p) g h possible w m = record { entering = late_enter_more c more r b mine up reach p m.entering; entered = m.entered; under = m.under }
 place_more c more r b mine up reach written (Place.ReadHead q o) g h possible w m =
-    let s : AllStand c (known c r mine) = λ i v k. parts_stand_law c r i v mine possible k in
+    let s : AllStand c (known c r mine) = λ i v k. part_entries_stand_law c r i v mine possible k in
     record { region = m.region; unmarked = rw (known_kept c more r mine, marked_kept c more q (known c r mine)) m.unmarked; level = level_more c more r b mine up reach m.level; roomy = roomy_more c more r mine q o g h s m.roomy }
 place_more c more r b mine up reach written (Place.Look p i o best) g h possible w m =
-    let s : AllStand c (known c r mine) = λ i v k. parts_stand_law c r i v mine possible k in
+    let s : AllStand c (known c r mine) = λ i v k. part_entries_stand_law c r i v mine possible k in
     record { region = m.region; member = m.member; position = rw (known_kept c more r mine) m.position; looking = looking_more c more r b mine up reach p o best g h s m.looking }
 place_more c more r b mine up reach written (Place.Write j last offer) g h possible w m =
-    let s : AllStand c (known c r mine) = λ i v k. parts_stand_law c r i v mine possible k in
+    let s : AllStand c (known c r mine) = λ i v k. part_entries_stand_law c r i v mine possible k in
     (record { writing = writing_more c more r b mine up reach j last offer g h s m.0.writing; inside = m.0.inside }, m.1)
 place_more c more r b mine up reach written (Place.Enter p offer) g h possible w m =
-    let s : AllStand c (known c r mine) = λ i v k. parts_stand_law c r i v mine possible k in
+    let s : AllStand c (known c r mine) = λ i v k. part_entries_stand_law c r i v mine possible k in
     (enter_more c more r b offer.value mine up reach p g h possible s m.0, rw (known_kept c more r mine) (shows_more c more r mine (end_of c r mine) offer.adopted m.1))
 place_more c more r b mine up reach written (Place.Put p offer) g h possible w m =
-    let s : AllStand c (known c r mine) = λ i v k. parts_stand_law c r i v mine possible k in (
+    let s : AllStand c (known c r mine) = λ i v k. part_entries_stand_law c r i v mine possible k in (
       record {
         entering = enter_more c more r b offer.value mine up reach p g h possible s m.0.entering;
         entered = rw (known_kept c more r mine) m.0.entered;

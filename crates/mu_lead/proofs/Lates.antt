@@ -5,7 +5,7 @@ use Rattle.std.specs.declared.option.Option.{Option}
 use Rattle.std.proofs.lemmas.Bool.{and_from, and_parts, cases_eq, le-leb, le-ltb, leb-true, ne_eqb}
 use Rattle.mu_model.specs.Parts.{IsPossible}
 use Rattle.mu_agree.specs.Agreement.{fuo_under}
-use Rattle.mu_agree.proofs.Possible.{parts_move_law}
+use Rattle.mu_agree.proofs.Possible.{part_grants_move_law}
 use Rattle.mu_model.specs.declared.config.Config.{Config}
 use Rattle.mu_model.specs.declared.event.Answer.{Answer}
 use Rattle.mu_model.specs.declared.event.Event.{Event}
@@ -265,7 +265,7 @@ fence_ends c r p i f mine possible region saw =
     let same = subst (λ z. IsPossible c r (fence_event r p f ∷ z)) saw.is possible in
     let puts = saw.puts in
     over (λ is. by_read (fuo_under r p saw.grant (leadership r saw.before)) refl saw.read
-    (λ u at low. parts_move_law c r p i saw.grant u saw.before saw.since look (fence_event r p f) f same region refl refl saw.noted at low (omega (arith, puts)) refl refl is))
+    (λ u at low. part_grants_move_law c r p i saw.grant u saw.before saw.since look (fence_event r p f) f same region refl refl saw.noted at low (omega (arith, puts)) refl refl is))
   where
     by_read : (o : Option ℕ) → fuo_under r p saw.grant (leadership r saw.before) ≡ o → is_at_most i o ≡ true → ((u : ℕ) → fuo_under r p saw.grant (leadership r saw.before) ≡ Some u → u ≤ i → ⊥) → ⊥
     by_read None at low moved = true≢false (sym low)

@@ -19,7 +19,7 @@ use Rattle.mu_model.specs.Scores.{is_failed}
 use Rattle.mu_model.proofs.Basics.{none_some, or_true, same_number, true_or}
 use Rattle.mu_model.proofs.Scans.{all_at, each_all}
 use Rattle.mu_agree.proofs.Landings.{has_since}
-use Rattle.mu_agree.proofs.Readings.{parts_stay_past_law}
+use Rattle.mu_agree.proofs.Readings.{part_looks_stay_past_law}
 use Rattle.mu_lead.specs.declared.place.Sight.{Sight}
 use Rattle.mu_lead.specs.Leading.{HoldsTables, Level, end_of}
 use Rattle.mu_lead.specs.Offering.{AtEnter, AtLook, IsCandidate, Looked, Looking, MayBeMarked, MayOffer, Roomy, entry_in, has_seen_past, leaves_room}
@@ -232,7 +232,7 @@ never_past c r p i a mine possible not_past = go (has_seen_past r p i (leadershi
     go false is = is
     go true is =
         let seen = has_since (λ e. is_past_look (look_answer r p i e.by e.verb e.answer)) (begins_leadership r) mine is in
-        let answer = parts_stay_past_law c r p i mine (look_event r p i a) possible refl seen in
+        let answer = part_looks_stay_past_law c r p i mine (look_event r p i a) possible refl seen in
         absurd (true≢false (sym (ap is_past answer) ∙ not_past))
 
 -- p was looked at as well

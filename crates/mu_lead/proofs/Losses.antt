@@ -1,5 +1,5 @@
 -- When a lost region is noted, place by place.
-use Rattle.mu_agree.proofs.Evidence.{parts_show_misses_law}
+use Rattle.mu_agree.proofs.Evidence.{part_fences_show_misses_law}
 use Rattle.mu_agree.proofs.Possible.{at_event, same_fence}
 use Rattle.mu_lead.proofs.NoteKinds.{differs_by_test, head_quiet, join_quiet, learning_quiet, look_quiet, min_quiet, put_quiet, round_quiet}
 use Rattle.mu_lead.proofs.Replies.{enters_or, sees_fence}
@@ -137,7 +137,7 @@ missed_unlike c r p f mine possible m = go (noted_grant r p mine) refl
 
     go : (o : Option ℕ) → noted_grant r p mine ≡ o → is_changed (Some o) f ≡ true
     go None is = refl
-    go (Some g) is = elim (parts_show_misses_law c r p g m.before m.since m.put (event_by r (Verb.Fence p) (Answer.Seen f)) f (subst (λ past. IsPossible c r (event_by r (Verb.Fence p) (Answer.Seen f) ∷ past)) m.is possible) m.missed (m.under ∙ is) refl refl) [
+    go (Some g) is = elim (part_fences_show_misses_law c r p g m.before m.since m.put (event_by r (Verb.Fence p) (Answer.Seen f)) f (subst (λ past. IsPossible c r (event_by r (Verb.Fence p) (Answer.Seen f) ∷ past)) m.is possible) m.missed (m.under ∙ is) refl refl) [
       | inl closing ↦ rw closing refl
       | inr later ↦ by_closing f.closing (f.grant == g) (ne_eqb f.grant g (λ same. absurd (omega (arith, same, later))))
     ]

@@ -8,7 +8,7 @@ use Rattle.mu_model.specs.Knowledge.{known}
 use Rattle.mu_model.specs.Leaderships.{is_member}
 use Rattle.mu_model.specs.Parts.{IsPossible}
 use Rattle.mu_model.specs.Room.{reserve}
-use Rattle.mu_agree.proofs.Fitting.{parts_fit_law}
+use Rattle.mu_agree.proofs.Fitting.{part_positions_suffice_law}
 use Rattle.mu_agree.proofs.NextBatch.{parts_have_next_law}
 use Rattle.mu_agree.proofs.Possible.{parts_in_session_law}
 use Rattle.mu_lead.specs.Leading.{end_of}
@@ -28,7 +28,7 @@ rests c r mine all none = record { all = all; members = λ p low. not_false (is_
 
 -- while some command isn't known there is a position for it
 pub no_end : (c : Config) (r : ℕ) (mine : List Event) → IsConfig c → IsPossible c r mine → holds_all c (known c r mine) ≡ false → row_count c + reserve c ≤ end_of c r mine → ⊥
-no_end c r mine config possible lacks high = let low = parts_fit_law c r mine config possible lacks in omega (arith, low, high)
+no_end c r mine config possible lacks high = let low = part_positions_suffice_law c r mine config possible lacks in omega (arith, low, high)
 
 -- and some client has a next batch
 pub some_next : (c : Config) (r : ℕ) (mine : List Event) → IsConfig c → IsPossible c r mine → holds_all c (known c r mine) ≡ false → ((j : ℕ) → IsNextRow c (known c r mine) j → ⊥) → ⊥

@@ -17,7 +17,7 @@ use Rattle.mu_model.specs.Steps.{is_lagging}
 use Rattle.mu_model.specs.Stretches.{is_replication}
 use Rattle.mu_model.proofs.Basics.{same_number}
 use Rattle.mu_agree.proofs.Possible.{parts_trust_self_law}
-use Rattle.mu_agree.proofs.Reserve.{parts_leave_room_law}
+use Rattle.mu_agree.proofs.Reserve.{part_heads_leave_room_law}
 use Rattle.mu_pace.specs.Asking.{far, is_far, turns}
 use Rattle.mu_pace.specs.Blocking.{can_be_marked, is_blocking}
 use Rattle.mu_pace.specs.Placed.{IsPlacedAt, is_level}
@@ -102,7 +102,7 @@ head_blocks c r q h mine is possible region unmarked low off =
     now = head_event r q h ∷ mine
 
     place : (c.version == 2) ≡ true → nat_lt (end_of c r now) (h + c.ring) ≡ true
-    place two = let k = parts_leave_room_law c r q h mine (head_event r q h) is possible (eqb-true c.version 2 two) refl refl unmarked in lt-ltb (end_of c r now) (h + c.ring) (omega (arith, k))
+    place two = let k = part_heads_leave_room_law c r q h mine (head_event r q h) is possible (eqb-true c.version 2 two) refl refl unmarked in lt-ltb (end_of c r now) (h + c.ring) (omega (arith, k))
 
     other : (t : Bool) → (q == r) ≡ t → is_failed r q now ≡ true → (c.version == 2) ≡ true → (not t && (is_failed r q now && nat_lt (end_of c r now) (h + c.ring))) ≡ false → ⊥
     other true own failed two k = true≢false (sym (subst (λ z. is_failed r z now ≡ true) (eqb-true q r own) failed) ∙ parts_trust_self_law c r now possible)

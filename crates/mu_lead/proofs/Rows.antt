@@ -1,7 +1,7 @@
 -- When each note comes, place by place.
 use Rattle.mu_agree.proofs.Landings.{greatest_since}
-use Rattle.mu_agree.proofs.Possible.{parts_find_law}
-use Rattle.mu_agree.proofs.Readings.{number_is, parts_count_law}
+use Rattle.mu_agree.proofs.Possible.{part_looks_find_law}
+use Rattle.mu_agree.proofs.Readings.{number_is, part_numbers_leave_room_law}
 use Rattle.mu_lead.proofs.Bringing.{look_event, look_known}
 use Rattle.mu_lead.proofs.NoteKinds.{AreApart, differs_by_test, enter_loses, evidence_loses, is_head, is_higher, is_joined, is_learnt, is_look, is_no_room, lost_apart, may_join, none_higher, none_joined, none_learnt, none_room, not_head, not_join, not_look, not_min, past_loses, put_apart, round_apart, says_none, says_working}
 use Rattle.mu_lead.proofs.Replies.{puts_min_or, tells_head, tells_min}
@@ -46,7 +46,7 @@ use Rattle.mu_lead.specs.Stepping.{is_done}
 
 -- a minimum that is read is small
 pub min_small : (c : Config) (r p x : ℕ) (mine : List Event) → IsConfig c → IsPossible c r (event_by r (Verb.Min p) (Answer.Number x) ∷ mine) → x < 4294967296
-min_small c r p x mine config possible = let counts = (parts_count_law c r _ config possible).0 in let low = rw (same_number r) at counts in omega (arith, low)
+min_small c r p x mine config possible = let counts = (part_numbers_leave_room_law c r _ config possible).0 in let low = rw (same_number r) at counts in omega (arith, low)
 
 same_asked : (p q : ℕ) → Verb.Min p ≡ Verb.Min q → p ≡ q
 same_asked p q is = cc
@@ -297,7 +297,7 @@ learning_taught c r p (Answer.Entry b v) mine possible caught not_past =
     subst (λ xs. nat_lt (end_of c r mine) (length xs) ≡ true) (sym (entry_taught c r p b v mine (caught_decided c r p mine caught))) (lt-ltb (end_of c r mine) (length (known c r mine ++ v ∷ [])) (let more = length-append (known c r mine) (v ∷ []) in omega (arith, more)))
 learning_taught c r p Answer.Past mine possible caught not_past = absurd (true≢false not_past)
 learning_taught c r p answer mine possible caught not_past =
-    absurd (parts_find_law c r p (end_of c r mine) mine (look_event r p (end_of c r mine) answer) possible refl (ltb-true (end_of c r mine) (greatest_fuo_read r p mine) (caught_read c r p mine caught)) (empty_is c r p (end_of c r mine) answer mine possible not_past refl))
+    absurd (part_looks_find_law c r p (end_of c r mine) mine (look_event r p (end_of c r mine) answer) possible refl (ltb-true (end_of c r mine) (greatest_fuo_read r p mine) (caught_read c r p mine caught)) (empty_is c r p (end_of c r mine) answer mine possible not_past refl))
 
 one_more : (c : Config) (r : ℕ) (mine values : List ℕ) (v : ℕ) → values ≡ mine ++ v ∷ [] → length values - 1 ≡ length mine
 one_more c r mine values v is = let long = ap length is in let more = length-append mine (v ∷ []) in omega (arith, long, more)

@@ -17,9 +17,9 @@ use Rattle.mu_model.specs.Answers.{shown}
 use Rattle.mu_model.specs.Regions.{region_log}
 use Rattle.mu_model.proofs.Basics.{none_some, same_number}
 use Rattle.mu_agree.proofs.Landings.{has_since}
-use Rattle.mu_agree.proofs.Entries.{parts_stay_filled_law}
+use Rattle.mu_agree.proofs.Entries.{part_looks_stay_filled_law}
 use Rattle.mu_agree.proofs.Possible.{answered, at_event}
-use Rattle.mu_agree.proofs.Readings.{parts_stay_past_law}
+use Rattle.mu_agree.proofs.Readings.{part_looks_stay_past_law}
 use Rattle.mu_lead.specs.declared.place.Sight.{Sight}
 use Rattle.mu_lead.specs.Leading.{end_of}
 use Rattle.mu_lead.specs.Offering.{AtOutrun, Looking, LooksShow, ShowsEntry, has_seen_past, is_entry_look, is_full_look}
@@ -75,8 +75,8 @@ all_empty c r p i a mine possible not_past none = go (has (λ e. is_full_look (l
     go : (t : Bool) → has (λ e. is_full_look (look_answer r p i e.by e.verb e.answer)) (leadership r mine) ≡ t → t ≡ false
     go false is = refl
     go true is = elim (full_shown r p i mine (has_since (λ e. is_full_look (look_answer r p i e.by e.verb e.answer)) (begins_leadership r) mine is)) [
-      | inl seen ↦ absurd (parts_stay_filled_law c r p i i mine (look_event r p i a) possible seen (omega arith) refl (empty_is c r p i a mine possible not_past none))
-      | inr seen ↦ absurd (true≢false (sym (ap is_past (parts_stay_past_law c r p i mine (look_event r p i a) possible refl seen)) ∙ not_past))
+      | inl seen ↦ absurd (part_looks_stay_filled_law c r p i i mine (look_event r p i a) possible seen (omega arith) refl (empty_is c r p i a mine possible not_past none))
+      | inr seen ↦ absurd (true≢false (sym (ap is_past (part_looks_stay_past_law c r p i mine (look_event r p i a) possible refl seen)) ∙ not_past))
     ]
 
 larger_is_none : (x y : Option (ℕ × ℕ)) → larger x y ≡ None → (x ≡ None) × (y ≡ None)

@@ -1,6 +1,6 @@
 -- The tables of a leader hold after each verb that writes one.
 use Rattle.mu_agree.proofs.Possible.{parts_shorten_law}
-use Rattle.mu_agree.proofs.Readings.{known_within, parts_reach_law}
+use Rattle.mu_agree.proofs.Readings.{known_within, part_fuos_are_within_law}
 use Rattle.mu_lead.proofs.Bringing.{brought_put, put_event}
 use Rattle.mu_lead.proofs.Due.{default_is}
 use Rattle.mu_lead.proofs.Keeping.{brought_read, fuo_event, raise_event, reached_raised, reached_read, tables_reach, tables_up}
@@ -95,7 +95,7 @@ pub fuo_tables : (c : Config) (r p u : ℕ) (mine : List Event) (t : Tables) →
 fuo_tables c r p u mine t possible low h =
     let ups = h.ups in
     tables_up c r p u (fuo_event r p u ∷ mine) t.up (set t.up p u) (fuo_in t.reach p u) t.heads t.written (left_tables c r p u mine t possible low h) (length-set t.up p u ∙ h.ups) (get_or-set_same t.up p u 0 (omega (arith, low, ups))) (up_others t.up p u)
-    (brought_read c r p u mine) (parts_reach_law c r p u mine (fuo_event r p u) possible refl refl)
+    (brought_read c r p u mine) (part_fuos_are_within_law c r p u mine (fuo_event r p u) possible refl refl)
 
 -- the FUO of p was raised
 pub raise_tables : (c : Config) (r p u : ℕ) (mine : List Event) (t : Tables) → IsPossible c r (raise_event r p u ∷ mine) → p < 7 → HoldsTables c r mine t.up t.reach t.heads t.written → HoldsTables c r (raise_event r p u ∷ mine) t.up (fuo_in t.reach p u) t.heads t.written

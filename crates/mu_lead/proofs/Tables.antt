@@ -18,7 +18,7 @@ use Rattle.mu_model.specs.Room.{head_read, last_head}
 use Rattle.mu_model.proofs.Basics.{or_true, true_or}
 use Rattle.mu_model.proofs.Lists.{get_push_other}
 use Rattle.mu_agree.proofs.Landings.{has_implied, has_more}
-use Rattle.mu_agree.proofs.Readings.{parts_climb_law}
+use Rattle.mu_agree.proofs.Readings.{part_heads_climb_law}
 use Rattle.mu_lead.specs.Leading.{Brought, HoldsTables, IsReached}
 use Rattle.mu_lead.specs.Beside.{writes_row}
 
@@ -85,7 +85,7 @@ head_kept c r q e mine possible = go e.verb e.answer refl refl
     go (Verb.Head p) (Answer.Number x) v a = by_test (e.by == r) (p == q) refl
       where
         by_test : (s t : Bool) → (p == q) ≡ t → last_head r q mine ≤ or_zero (newer_or (cond (s && t) (Some x) None) (newest (λ f. head_read r q f.by f.verb f.answer) mine))
-        by_test true true same = let low = parts_climb_law c r p x mine e possible v a in subst (λ y. last_head r y mine ≤ x) (eqb-true p q same) low
+        by_test true true same = let low = part_heads_climb_law c r p x mine e possible v a in subst (λ y. last_head r y mine ≤ x) (eqb-true p q same) low
         by_test true false same = omega arith
         by_test false t same = omega arith
     go verb answer v a = omega arith

@@ -61,8 +61,8 @@ pub record IsAt (c : Config) (r x : ℕ) (past : List Event) : Type 0 where
   pub reads : 4 * c.replicas + 15 ≤ x → x ≤ 4 * c.replicas + 36 → IsReading c r ((x - (4 * c.replicas + 13)) / 2) past
 
 -- there is room, or it is done, or r was outrun
-abbrev Goes : Config → ℕ → List Event → Type 0
-Goes c r past = IsEased c r past ⊎ (IsAt c r (length past % cycle c) past ⊎ (outrun c r past ≡ None → ⊥))
+abbrev RoundGoesOn : Config → ℕ → List Event → Type 0
+RoundGoesOn c r past = IsEased c r past ⊎ (IsAt c r (length past % cycle c) past ⊎ (outrun c r past ≡ None → ⊥))
 
 -- the next place
 abbrev pub IsAfter : Config → ℕ → ℕ → Type 0
@@ -307,13 +307,13 @@ last_whole c r past e held last old =
     last_completes c r past e held last (subst (λ n. IsReading c r n past) eleven (old.reads (omega (arith, last)) (omega (arith, last))))
 
 -- one event
-goes_on : (c : Config) (r : ℕ) (past : List Event) (e : Event) → IsConfig c → IsPossible c r (e ∷ past) → AtEachStep (WasMade c r) past → WasMade c r past e → Goes c r past → Goes c r (e ∷ past)
+goes_on : (c : Config) (r : ℕ) (past : List Event) (e : Event) → IsConfig c → IsPossible c r (e ∷ past) → AtEachStep (WasMade c r) past → WasMade c r past e → RoundGoesOn c r past → RoundGoesOn c r (e ∷ past)
 goes_on c r past e good possible made held old = go ((replaying c r).closes past e) refl old
   where
     after : IsAfter c (length past % cycle c) (length (e ∷ past) % cycle c)
     after = next_place c past e
 
-    placed : IsOpenStep c r past e → IsAt c r (length past % cycle c) past → length past % cycle c ≢ 4 * c.replicas + 36 → Goes c r (e ∷ past)
+    placed : IsOpenStep c r past e → IsAt c r (length past % cycle c) past → length past % cycle c ≢ 4 * c.replicas + 36 → RoundGoesOn c r (e ∷ past)
     placed still at other = elim (cases_eq (length past % cycle c) (4 * c.replicas + 12)) [
       | inl here ↦ elim (looks_next c r past e good made held still possible here) [
         | inl low ↦ inr (inl (at_next c r (length past % cycle c) (length (e ∷ past) % cycle c) past e held (still_open c r past e good (parts_shorten_law c r past e possible).before held still) refl after other at (λ from to. low)))
@@ -329,7 +329,7 @@ goes_on c r past e good possible made held old = go ((replaying c r).closes past
             let same = still_applied c r past e good (parts_shorten_law c r past e possible).before held still in let long = ap length (still_known c r past e still) in omega (arith, low, same, long)
         waits_on x y (inr round) away from to at = let zero = round.1 in absurd (omega (arith, from, zero))
 
-    go : (t : Bool) → (replaying c r).closes past e ≡ t → Goes c r past → Goes c r (e ∷ past)
+    go : (t : Bool) → (replaying c r).closes past e ≡ t → RoundGoesOn c r past → RoundGoesOn c r (e ∷ past)
     go true closes old = inl (closing_eases c r past e closes)
     go false none (inr (inr over)) = absurd (over held.going)
     go false none (inl eased) = elim (cases_eq (length past % cycle c) (4 * c.replicas + 36)) [ inl last ↦ inr (inl (at_rest c r (length past % cycle c) (length (e ∷ past) % cycle c) (e ∷ past) last after)) | inr other ↦ inl (room_lasts c r past e other eased) ]
@@ -338,12 +338,12 @@ goes_on c r past e good possible made held old = go ((replaying c r).closes past
         elim (cases_eq (length past % cycle c) (4 * c.replicas + 36)) [ inl last ↦ absurd (true≢false (sym (last_whole c r past e held last at) ∙ still.completes)) | inr other ↦ placed still at other ]
 
 -- throughout
-goes : (c : Config) (r : ℕ) (past : List Event) → IsConfig c → IsPossible c r past → AtEachStep (WasMade c r) past → Goes c r past
+goes : (c : Config) (r : ℕ) (past : List Event) → IsConfig c → IsPossible c r past → AtEachStep (WasMade c r) past → RoundGoesOn c r past
 goes c r [] good possible made = inr (inl (record { handed = λ side. refl; waits = λ low high. absurd (omega (arith, low)); reads = λ low high. absurd (omega (arith, low)) }))
 goes c r (e ∷ past) good possible made = goes_on c r past e good possible made.0 made.1 (goes c r past good (parts_shorten_law c r past e possible).before made.0)
 
 -- the last word closes the count, or there is room for a round more
-rows_closed : (c : Config) (r : ℕ) (past : List Event) (e : Event) → WasMade c r past e → Goes c r past → length past % cycle c ≡ 4 * c.replicas + 36 → ((replaying c r).closes past e ≡ true) ⊎ HasRoom (replaying c r) (cycle c + 1) past
+rows_closed : (c : Config) (r : ℕ) (past : List Event) (e : Event) → WasMade c r past e → RoundGoesOn c r past → length past % cycle c ≡ 4 * c.replicas + 36 → ((replaying c r).closes past e ≡ true) ⊎ HasRoom (replaying c r) (cycle c + 1) past
 rows_closed c r past e held (inl eased) last = inr (kinds_of_step.less (replaying c r) (cycle c + 1 + ahead c.replicas (length past % cycle c)) (cycle c + 1) past (omega arith) eased)
 rows_closed c r past e held (inr (inl at)) last = inl (true_or (knows_more c r past e || completes_row c r past e) (is_named_turn c r past e) (or_true (knows_more c r past e) (completes_row c r past e) (last_whole c r past e held last at)))
 rows_closed c r past e held (inr (inr over)) last = absurd (over held.going)

@@ -36,8 +36,8 @@ abbrev pub Does : Config → ℕ → List Event → List (Event × ℕ) → Verb
 Does c r mine seen v f = (past : List Event) (w : ℕ) → IsLegalHistory c past → part r past ≡ mine → w ≡ standing_word c past (name_of c r mine v) → WordFits v w → f w ≡ word_after c.ring v (expected c r mine seen v) w
 
 -- what `Allows` asks in one state
-abbrev Goes : Config → State (Unit {0}) View → ℕ → Me (Unit {0}) View → ℕ → (ℕ → ℕ) → (ℕ → Me (Unit {0}) View → Type 0) → Type 0
-Goes c s id me i f then =
+abbrev StepGoesOn : Config → State (Unit {0}) View → ℕ → Me (Unit {0}) View → ℕ → (ℕ → ℕ) → (ℕ → Me (Unit {0}) View → Type 0) → Type 0
+StepGoesOn c s id me i f then =
     (w : View) × (a : Act (Unit {0})) × Valid s.homes me.1 a × Holds c (stepped s i (f (slice_index s.words i)) id me.1 w a) × then (slice_index s.words i) (w, carried_after me.1 a)
 
 abbrev first_entry : List Entry → Entry
@@ -123,7 +123,7 @@ goes : (c : Config) (s : State (Unit {0}) View) (h : Holds c s) (id r : ℕ) (v 
     → get_elem? s.views id ≡ opt.some (single c r (part r (history h.events)) (sights c r (history h.events)))
     → Allowed c r (part r (history h.events)) v
     → Does c r (part r (history h.events)) (sights c r (history h.events)) v f
-    → Goes c s id (single c r (part r (history h.events)) (sights c r (history h.events)), []) (place_of (layout_of c) (name_of c r (part r (history h.events)) v)) f (Told v (single c r (part r (history h.events)) (sights c r (history h.events)), []))
+    → StepGoesOn c s id (single c r (part r (history h.events)) (sights c r (history h.events)), []) (place_of (layout_of c) (name_of c r (part r (history h.events)) v)) f (Told v (single c r (part r (history h.events)) (sights c r (history h.events)), []))
 goes c s h id r v f own at may does =
     let past = history h.events in
     let mine = part r past in
@@ -168,6 +168,6 @@ pub steps : (c : Config) (id r : ℕ) (mine : List Event) (seen : List (Event ×
 steps c id r mine seen v i f is_i may does s h slots at bound =
     let e = (h.fits id (single c r mine seen) at).entries r (entry r mine seen) (entry_here (entry r mine seen) [] r refl) in
     let P : List Event × List (Event × ℕ) → Type 0 = λ m.
-    get_elem? s.views id ≡ opt.some (single c r m.0 m.1) → Allowed c r m.0 v → Does c r m.0 m.1 v f → Goes c s id (single c r m.0 m.1, []) (place_of (layout_of c) (name_of c r m.0 v)) f (Told v (single c r m.0 m.1, [])) in
-    subst (λ (k : ℕ). Goes c s id (single c r mine seen, []) k f (Told v (single c r mine seen, []))) (sym is_i)
+    get_elem? s.views id ≡ opt.some (single c r m.0 m.1) → Allowed c r m.0 v → Does c r m.0 m.1 v f → StepGoesOn c s id (single c r m.0 m.1, []) (place_of (layout_of c) (name_of c r m.0 v)) f (Told v (single c r m.0 m.1, [])) in
+    subst (λ (k : ℕ). StepGoesOn c s id (single c r mine seen, []) k f (Told v (single c r mine seen, []))) (sym is_i)
     (subst P (λ j. ((sym e.is_part) j, (sym e.is_seen) j)) (goes c s h id r v f e.owned) at may does)

@@ -7,7 +7,7 @@ use Rattle.mu_model.specs.Histories.{history}
 use Rattle.mu_model.proofs.Parts.{part_is_possible}
 use Rattle.mu_node.specs.Due.{is_eager}
 use Rattle.mu_node.specs.Turns.{IsResult}
-use Rattle.mu_cluster.specs.Branches.{Goes, HasEnd}
+use Rattle.mu_cluster.specs.Branches.{NodeGoesOn, HasEnd}
 use Rattle.mu_cluster.specs.Lists.{HoldsLists}
 use Rattle.mu_cluster.specs.Rounds.{part_of}
 use Rattle.mu_cluster.proofs.Branching.{mine_part}
@@ -31,7 +31,7 @@ into_result-requires c =
     let many = c.requires.left.count in
     let left = c.requires.left.each n node found in
     let mine = mine_part k events parts n left.0 (omega (arith, within, many)) list.1.1 left.1 in
-    let goes = subst (λ l. Goes k script n l node) mine left.2 in
+    let goes = subst (λ l. NodeGoesOn k script n l node) mine left.2 in
     record { stands = (k, n, part_of n events, c.requires.good, part_is_possible k n (history events) list.1.0, goes.stands) }
 
 pub add-requires : goal.add-requires
@@ -65,7 +65,7 @@ loop-node-preserved c =
       count = let count = inv.count in omega (arith, long, shorter, count);
       holds = λ events legal has.
           let mine = mine_part k events parts n left.0 (omega (arith, within, many)) has left.1 in
-          let goes = subst (λ l. Goes k script n l node) mine left.2 in
+          let goes = subst (λ l. NodeGoesOn k script n l node) mine left.2 in
           let ends = subst (λ l. HasEnd k script n l) mine left.3 in
           let possible = part_is_possible k n (history events) legal in
           let is = c.into_result.ensures.is k n (part_of n events) c.requires.good possible goes.stands in

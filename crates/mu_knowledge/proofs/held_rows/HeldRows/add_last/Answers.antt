@@ -3,7 +3,7 @@ use Rattle.mu_model.specs.Contents.{IsConfig, row_count}
 use Rattle.mu_model.specs.Knowledge.{applied}
 use Rattle.mu_model.specs.Growing.{with_more}
 use Rattle.mu_agree.proofs.Growing.{applied_kept}
-use Rattle.mu_agree.proofs.Possible.{parts_stand_law}
+use Rattle.mu_agree.proofs.Possible.{part_entries_stand_law}
 use Rattle.mu_knowledge.specs.HeldRows.{HasWords, WroteWords}
 use Rattle.mu_knowledge.proofs.Adding.{count_more}
 use Rattle.mu_knowledge.proofs.Widening.{there_long, there_more, wrote_long, wrote_more}
@@ -27,5 +27,5 @@ returns c k row r mine good more same possible room held =
     record {
       written = subst (λ z. WroteWords z r mine c.add_marks.new.marks.items) (sym same) (subst (WroteWords (with_more k (row ∷ [])) r mine) (sym written) (wrote_more k row r mine self.written.items possible held.written));
       got = subst (λ z. HasWords z r mine c.add_marks-2.new.marks.items) (sym same) (subst (HasWords (with_more k (row ∷ [])) r mine) (sym got) (there_more k row r mine self.got.items good possible held.got));
-      applied = held.applied ∙ ap length (sym (ap (λ z. applied z r mine) same ∙ applied_kept k (row ∷ []) r mine good (subst IsConfig same more) (λ i v at. parts_stand_law k r i v mine possible at)));
+      applied = held.applied ∙ ap length (sym (ap (λ z. applied z r mine) same ∙ applied_kept k (row ∷ []) r mine good (subst IsConfig same more) (λ i v at. part_entries_stand_law k r i v mine possible at)));
     }
