@@ -27,9 +27,12 @@ PATH = re.compile(r"[\w.-]+(/[\w.-]+)+/?|[\w-]+\.(rt|antt|md|py|job|trace|svg|ta
 # Names of the toolchain and of the system, which stand in no source of ours.
 FOREIGN = {"sched_yield", "NoMemory", "BTreeMap", "BTreeMaps", "crossbeam_utils", "left_right"}
 
-# The words of a reason: its clause in the definition, the texts of that, and each value in its place.
+# The words of a reason: its clause in the definition, the text that this names, and each value in its place.
 REASON_CLAUSE = re.compile(r"^reason_words \(?Reason\.(\w+)[^=\n]*=((?: .*)?\n(?:    .*\n)*)", re.MULTILINE)
-CODES = re.compile(r'codes "([^"]*)"')
+TEXT = re.compile(r'^const (\w+): &\[u8\] =\s*b"([^"]*)";', re.MULTILINE)
+TEXT_NAME = re.compile(r"\b[A-Z][A-Z_]+\b")
+# Where a text goes on in the next line.
+NEXT_LINE = re.compile(r"\\\n\s*")
 VALUE = re.compile(r"(?:decimal|number_or_none|entered_words) (\w+)")
 # In a row of two sentences: what stands between the first and the end of the second.
 OTHER_END = "; or, if it has none, in place of the last words: "
@@ -165,8 +168,9 @@ def without_help():
 def defined_reasons():
     """The sentences of each reason of `mu why`, from their definition, each value in italics."""
     sentences = {}
+    texts = {name: NEXT_LINE.sub("", text) for name, text in TEXT.findall(contents("crates/mu_report/src/reasons.rt"))}
     for reason, body in REASON_CLAUSE.findall(contents("crates/mu_report/specs/Reasons.antt")):
-        words = "".join(CODES.findall(body)).replace("#", "*{}*")
+        words = texts[TEXT_NAME.search(body)[0]].replace("#", "*{}*")
         sentences.setdefault(reason, []).append(words.format(*VALUE.findall(body)))
     return sentences
 

@@ -1,15 +1,12 @@
 //! From the bytes of a trace to its picture.
-ghost use Rattle.std.specs.Prelude.{◌≡◌, ◌-◌, ◌≤◌, ◌<◌, ◌^◌, Some, length, take, IfOk};
+ghost use Rattle.std.specs.Prelude.{◌≡◌, ◌-◌, ◌≤◌, ◌<◌, ◌^◌, length};
 ghost use Rattle.mu_input.specs.declared.TheConstants.{TRACE_LIMIT};
 ghost use Rattle.mu_model.specs.Contents.{IsConfig};
-ghost use Rattle.mu_model.specs.Legal.{IsLegal};
 ghost use Rattle.mu_text.specs.Lines.{lines};
-ghost use Rattle.mu_outcome.specs.Breaks.{Explains};
-ghost use Rattle.mu_drawing.specs.Answers.{Draws, IsBrokenDrawingOf, IsDrawingOf, TellsOfEvents, breach_with, told_with};
+ghost use Rattle.mu_drawing.specs.Answers.{Draws, TellsOfEvents, breach_with, told_with};
 
 use mu_input::{InputEnd, Job, TRACE_LIMIT, read_trace};
-use mu_judge::explain;
-use mu_model::{Event, NoMemory};
+use mu_model::Event;
 use mu_outcome::Broken;
 use mu_picture::{Breach, Extent, Sheet, drawing_of, picture_of};
 use mu_report::{Said, fault_line};
@@ -92,34 +89,14 @@ fn drawing_of_events(
     requires countable { length events.now < 2 ^ 32 }
     ensures { TellsOfEvents job.now line events.now asked (told_with result) }
 {
-    match explain(alloc, &job.config, events)? {
-        None => Ok((picture(alloc, job, line, events, asked)?, true)),
-        Some(broken) => Ok((
-            broken_picture(alloc, job, line, events, &broken, asked)?,
-            false,
-        )),
+    let (picture, broken) = picture_of(alloc, &job.config, &job.script, events, asked)?;
+    match broken {
+        None => Ok((drawing_of(alloc, job, line, &picture, &None)?, true)),
+        Some(broken) => {
+            let breach = Some(breach_of(&broken));
+            Ok((drawing_of(alloc, job, line, &picture, &breach)?, false))
+        }
     }
-}
-
-/// The picture of the steps of a legal list that are asked for.
-///
-/// # Errors
-///
-/// Only want of memory.
-fn picture(
-    alloc: Global,
-    job: &Job,
-    line: u32,
-    events: &[Event],
-    asked: Extent,
-) -> Result<Sheet, NoMemory>
-    requires config { IsConfig job.now.config }
-    requires legal { IsLegal job.now.config events.now }
-    requires countable { length events.now < 2 ^ 32 }
-    ensures { IfOk result (λ sheet. IsDrawingOf job.now line events.now asked sheet) }
-{
-    let picture = picture_of(alloc, &job.config, &job.script, events, asked)?;
-    drawing_of(alloc, job, line, &picture, &None)
 }
 
 /// The event that breaks a list, and what is wrong with it, in the words of `mu why`.
@@ -131,39 +108,4 @@ fn breach_of(broken: &Broken) -> Breach
         event: broken.event,
         fault: fault_line(&broken.fault),
     }
-}
-
-/// The first events of a list, this many.
-fn front(events: &[Event], count: u32) -> &[Event]
-    requires { count ≤ length events.now }
-    ensures is { result.now ≡ take count events.now }
-    ensures few { length result.now ≤ length events.now }
-{
-    &events[..count as usize]
-}
-
-/// The picture of the steps that are asked for, of those before the event that breaks the list, and
-/// that event.
-///
-/// # Errors
-///
-/// Only want of memory.
-fn broken_picture(
-    alloc: Global,
-    job: &Job,
-    line: u32,
-    events: &[Event],
-    broken: &Broken,
-    asked: Extent,
-) -> Result<Sheet, NoMemory>
-    requires config { IsConfig job.now.config }
-    requires breaks { Explains job.now.config events.now (Some broken.now) }
-    requires countable { length events.now < 2 ^ 32 }
-    ensures { IfOk result (λ sheet.
-        IsBrokenDrawingOf job.now line events.now broken.now asked sheet) }
-{
-    let before = front(events, broken.index);
-    let picture = picture_of(alloc, &job.config, &job.script, before, asked)?;
-    let breach = Some(breach_of(broken));
-    drawing_of(alloc, job, line, &picture, &breach)
 }

@@ -1,6 +1,8 @@
 mod Appends
 mod Cursors
 mod Documents
+mod Filling
+mod Fronts
 mod GoingOn
 mod LastSteps
 mod OnePicture

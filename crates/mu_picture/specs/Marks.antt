@@ -7,6 +7,7 @@ use Rattle.mu_model.specs.declared.event.Event.{Event}
 use Rattle.mu_model.specs.declared.script.Script.{Script}
 use Rattle.mu_model.specs.Histories.{history, part}
 use Rattle.mu_model.specs.Scores.{leader}
+use Rattle.mu_outcome.specs.declared.fault.Broken.{Broken}
 use Rattle.mu_picture.specs.Layout.{HaveRows, after_marks, top}
 use Rattle.mu_picture.specs.Openings.{openings_of}
 use Rattle.mu_course.specs.Resigning.{is_leading}
@@ -85,6 +86,11 @@ end_of events last = min (last + 1) (length events)
 -- where the row after the last one of a picture would go
 abbrev pub lowest : Picture → ℕ
 lowest picture = (after_marks (top picture.first) picture.marks.items).y
+
+-- the events before the one that breaks a list, or all
+abbrev pub legal_front : List Event → Option Broken → List Event
+legal_front events None = events
+legal_front events (Some broken) = take broken.index events
 
 -- a step of a run has a mark, in brief or not
 pub record HasMark (c : Config) (script : Script) (events : List Event) (brief : Bool)

@@ -1,8 +1,5 @@
 //! What holds before the first step of a picture.
-ghost use Rattle.std.specs.Prelude.{◌≡◌, ◌≤◌, IfOk, List, length, take};
-ghost use Rattle.mu_model.specs.Contents.{IsConfig};
-ghost use Rattle.mu_model.specs.Histories.{history};
-ghost use Rattle.mu_model.specs.Legal.{IsLegal};
+ghost use Rattle.std.specs.Prelude.{◌≡◌, IfOk, List};
 ghost use Rattle.mu_picture.specs.Openings.{opening_with as opening_with_fence, openings_of};
 ghost use Rattle.mu_picture.specs.Trails.{StandsForTrail};
 ghost use Rattle.mu_model.specs.declared.config.Config.{Config as Settings};
@@ -11,7 +8,7 @@ ghost use Rattle.mu_model.specs.declared.script.Script.{Script as Settled};
 
 use crate::standings::Standing;
 use crate::trail::Trail;
-use mu_model::{Config, Event, Fence, NoMemory, Script};
+use mu_model::{Fence, NoMemory};
 use std::alloc::Global;
 
 /// What holds in the lane of a replica before the first step of a picture.
@@ -51,31 +48,8 @@ pub fn opening_with(fence: Option<Fence>, standing: Standing, leads: bool, named
     }
 }
 
-/// What holds in each lane after the first `count` events of a legal list.
-pub fn openings_after(
-    alloc: Global,
-    config: &Config,
-    script: &Script,
-    events: &[Event],
-    count: u32,
-) -> Result<Vec<Opening>, NoMemory>
-    requires config { IsConfig config.now }
-    requires legal { IsLegal config.now events.now }
-    requires within { count ≤ length events.now }
-    ensures { IfOk result (λ openings. openings.items
-        ≡ openings_of config.now script.now config.now.replicas
-        (history (take count events.now))) }
-{
-    let mut trail = Trail::new(alloc, config)?;
-    for index in 0..count {
-        let event = events[index as usize];
-        let _ = trail.take(config, script, index, &event);
-    }
-    openings_at(alloc, &trail, config.replicas)
-}
-
 /// What holds in each of the first `n` lanes.
-fn openings_at(alloc: Global, trail: &Trail, n: u8) -> Result<Vec<Opening>, NoMemory>
+pub fn openings_at(alloc: Global, trail: &Trail, n: u8) -> Result<Vec<Opening>, NoMemory>
     ensures { (past : List Made) → (c : Settings) → (script : Settled) → n ≡ c.replicas
         → StandsForTrail c script past trail.now
         → IfOk result (λ openings. openings.items ≡ openings_of c script n past) }

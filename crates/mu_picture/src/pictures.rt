@@ -1,16 +1,17 @@
 //! The picture of some steps of a run.
-ghost use Rattle.std.specs.Prelude.{◌≡◌, ◌+◌, ◌-◌, ◌<◌, ◌≤◌, ◌^◌, [], ℕ, true, false, if◌then◌else◌, is_some, nat_le, IfOk, length, take};
+ghost use Rattle.std.specs.Prelude.{◌≡◌, ◌+◌, ◌-◌, ◌<◌, ◌≤◌, ◌^◌, ℕ, true, is_some, IfOk, length};
 ghost use Rattle.mu_model.specs.Contents.{IsConfig};
-ghost use Rattle.mu_model.specs.Histories.{history};
-ghost use Rattle.mu_model.specs.Legal.{IsLegal};
-ghost use Rattle.mu_picture.specs.Marks.{hidden_from, lowest, marks_of, EndsInPlace, IsPictureOf, with_mark};
-ghost use Rattle.mu_picture.specs.Rows.{HoldsRows};
+ghost use Rattle.mu_outcome.specs.Breaks.{Explains};
+ghost use Rattle.mu_picture.specs.Marks.{hidden_from, legal_front, lowest, IsPictureOf};
+ghost use Rattle.mu_picture.specs.Rows.{AddsStep, AsksAlike, HoldsRows, HoldsSteps, IsFresh};
+ghost use Rattle.mu_picture.specs.Trails.{HasPassed};
 
 use crate::layout::{Cursor, top_of};
 use crate::marks::{Mark, kept_mark};
-use crate::openings::{Opening, openings_after};
-use crate::trail::Trail;
+use crate::openings::{Opening, openings_at};
+use crate::trail::{Trail, reached};
 use mu_model::{Config, Event, NoMemory, Script};
+use mu_outcome::Broken;
 use std::alloc::Global;
 
 /// A picture of some steps of a run.
@@ -44,8 +45,14 @@ pub struct Extent {
 /// The marks of a picture under construction.
 #[derive(Drop)]
 struct Rows {
+    /// Whether the picture is in brief.
+    brief: bool,
     /// The first step.
     first: u32,
+    /// The step after the last one that is asked for.
+    asked: u32,
+    /// The step after the last one that is there.
+    end: u32,
     /// The marks so far.
     marks: Vec<Mark>,
     /// Where the next row goes.
@@ -54,87 +61,92 @@ struct Rows {
 
 impl Rows {
     /// None yet.
-    fn new(alloc: Global, first: u32) -> Rows
-        ensures rows { HoldsRows 0 result }
-        ensures marks { result.marks.items ≡ [] }
-        ensures first { result.first ≡ first }
+    fn new(alloc: Global, brief: bool, first: u32, asked: u32) -> Rows
+        ensures { IsFresh brief first asked result }
     {
         Rows {
+            brief,
             first,
+            asked,
+            end: first,
             marks: Vec::new(alloc),
             cursor: top_of(u64::from(first)),
         }
     }
 
-    /// Adds the mark of a step from the first on, if there is one. Answers whether that has no row
-    /// any more.
-    fn push(&mut self, index: u32, mark: Option<Mark>) -> Result<bool, NoMemory>
-        requires { self.old.cursor.rows < 2 ^ 40 }
+    /// Adds the step `index` with its mark, if it has one, unless there is no room for that: then
+    /// the steps end before it.
+    fn push(&mut self, index: u32, mark: Option<Mark>) -> Result<(), NoMemory>
+        requires few { self.old.cursor.rows < 2 ^ 40 }
+        requires low { index + 1 < 2 ^ 32 }
         ensures rows { (n : ℕ) → HoldsRows n self.old
-            → IfOk result (λ full. HoldsRows (n + 1) self.new) }
-        ensures first { self.new.first ≡ self.old.first }
-        ensures full { IfOk result (λ full. full ≡ true → (self.new ≡ self.old)
-            × (32500 < self.old.cursor.y) × (self.old.first ≤ index) × (is_some mark ≡ true)) }
-        ensures next { IfOk result (λ full. full ≡ false → self.new.marks.items
-            ≡ (if nat_le self.old.first index then with_mark self.old.marks.items mark
-            else self.old.marks.items)) }
+            → IfOk result (λ done. HoldsRows (n + 1) self.new) }
+        ensures asked { AsksAlike self.old self.new }
+        ensures adds { IfOk result (λ done. AddsStep index mark self.old self.new) }
     {
-        let Some(mark) = mark else {
-            return Ok(false);
-        };
-        if index < self.first {
-            return Ok(false);
+        if self.end != index {
+            return Ok(());
         }
-        if self.cursor.is_full() {
-            return Ok(true);
+        if let Some(mark) = mark {
+            if self.cursor.is_full() {
+                return Ok(());
+            }
+            self.marks.push(mark)?;
+            self.cursor = self.cursor.after(mark.step);
         }
-        self.marks.push(mark)?;
-        self.cursor = self.cursor.after(mark.step);
-        Ok(false)
+        self.end = index + 1;
+        Ok(())
+    }
+
+    /// Judges the events from the first step on, and adds those that are asked for and have room.
+    /// The answer is the event that breaks the list, if one does: this one, if it did before.
+    ///
+    /// # Errors
+    ///
+    /// Only want of memory.
+    fn fill(
+        &mut self,
+        trail: &mut Trail,
+        before: Option<Broken>,
+        config: &Config,
+        script: &Script,
+        events: &[Event],
+    ) -> Result<Option<Broken>, NoMemory>
+        requires config { IsConfig config.now }
+        requires countable { length events.now < 2 ^ 32 }
+        requires fresh { IsFresh self.old.brief self.old.first self.old.asked self.old }
+        requires passed { HasPassed config.now script.now events.now self.old.first trail.old
+            before }
+        requires order { self.old.first ≤ self.old.asked }
+        requires within { self.old.asked ≤ length events.now }
+        ensures explains { IfOk result (λ broken. Explains config.now events.now broken) }
+        ensures before { IfOk result (λ broken. is_some before ≡ true → broken ≡ before) }
+        ensures asked { AsksAlike self.old self.new }
+        ensures holds { IfOk result (λ broken.
+            HoldsSteps config.now script.now (legal_front events.now broken) self.new) }
+    {
+        if before.is_some() {
+            return Ok(before);
+        }
+        for index in self.first..events.len() as u32 {
+            let mark = match trail.next(config, script, events, index) {
+                Err(broken) => return Ok(Some(broken)),
+                Ok(mark) => mark,
+            };
+            if index < self.asked {
+                self.push(index, kept_mark(self.brief, mark))?;
+            }
+        }
+        Ok(None)
     }
 }
 
-/// The rows of the events from the first asked for on and before `asked`, of a legal list, and
-/// where they end: at `asked`, or at the first step whose mark has no row any more.
-fn rows_of(
-    alloc: Global,
-    config: &Config,
-    script: &Script,
-    events: &[Event],
-    brief: bool,
-    first: u32,
-    asked: u32,
-) -> Result<(Rows, u32), NoMemory>
-    requires config { IsConfig config.now }
-    requires legal { IsLegal config.now events.now }
-    requires within { asked ≤ length events.now }
-    requires order { first ≤ asked }
-    ensures rows { IfOk result (λ found. HoldsRows found.1 found.0) }
-    ensures first { IfOk result (λ found. found.0.first ≡ first) }
-    ensures marks { IfOk result (λ found. found.0.marks.items
-        ≡ marks_of config.now script.now brief first (history (take found.1 events.now))) }
-    ensures from { IfOk result (λ found. first ≤ found.1) }
-    ensures end { IfOk result (λ found. found.1 ≤ asked) }
-    ensures ends { IfOk result (λ found. EndsInPlace config.now script.now events.now brief asked
-        found.0.cursor.y found.1) }
-{
-    let mut trail = Trail::new(alloc, config)?;
-    let mut rows = Rows::new(alloc, first);
-    for index in 0..asked {
-        let event = events[index as usize];
-        let mark = trail.take(config, script, index, &event);
-        if rows.push(index, kept_mark(brief, mark))? {
-            return Ok((rows, index));
-        }
-    }
-    Ok((rows, asked))
-}
-
-/// The picture of the events that are asked for, of a legal list: what holds before the first of
-/// them, and exactly one mark for each of them that is drawn, in order; so the stretches between
-/// the marks hide exactly the other steps. If they have more rows than a page has room for, it ends
-/// right before the first mark that has none: with that the next page begins. Takes memory for the
-/// states of the replicas and regions, and for the marks.
+/// Judges a list, and draws up the picture of the events that are asked for, of those before the
+/// one that breaks it: what holds before the first of them, and exactly one mark for each of them
+/// that is drawn, in order; so the stretches between the marks hide exactly the other steps. If
+/// they have more rows than a page has room for, it ends right before the first mark that has none:
+/// with that the next page begins. Takes memory for the states of the replicas and regions, and for
+/// the marks.
 ///
 /// # Errors
 ///
@@ -145,31 +157,37 @@ pub fn picture_of(
     script: &Script,
     events: &[Event],
     extent: Extent,
-) -> Result<Picture, NoMemory>
+) -> Result<(Picture, Option<Broken>), NoMemory>
     requires config { IsConfig config.now }
-    requires legal { IsLegal config.now events.now }
     requires countable { length events.now < 2 ^ 32 }
-    ensures picture { IfOk result
-        (IsPictureOf config.now script.now events.now extent.brief extent.first extent.last) }
-    ensures hidden { IfOk result (λ picture.
-        hidden_from picture.end picture.first picture.marks.items + length picture.marks.items
-        ≡ picture.end - picture.first) }
-    ensures few { IfOk result (λ picture. length picture.marks.items < 2 ^ 32) }
-    ensures low { IfOk result (λ picture. lowest picture ≤ 32559) }
-    ensures order { IfOk result (λ picture. picture.first ≤ picture.end) }
-    ensures lanes { IfOk result (λ picture. length picture.openings.items < 256) }
+    ensures explains { IfOk result (λ found. Explains config.now events.now found.1) }
+    ensures picture { IfOk result (λ found.
+        IsPictureOf config.now script.now (legal_front events.now found.1)
+        extent.brief extent.first extent.last found.0) }
+    ensures hidden { IfOk result (λ found.
+        hidden_from found.0.end found.0.first found.0.marks.items + length found.0.marks.items
+        ≡ found.0.end - found.0.first) }
+    ensures few { IfOk result (λ found. length found.0.marks.items < 2 ^ 32) }
+    ensures low { IfOk result (λ found. lowest found.0 ≤ 32559) }
+    ensures order { IfOk result (λ found. found.0.first ≤ found.0.end) }
+    ensures lanes { IfOk result (λ found. length found.0.openings.items < 256) }
 {
-    let whole = (extent.last as usize + 1).min(events.len());
-    let asked = whole as u32;
+    let count = events.len();
+    let asked = (extent.last as usize + 1).min(count) as u32;
+    let mut trail = Trail::new(alloc, config)?;
     let first = extent.first.min(asked);
-    let openings = openings_after(alloc, config, script, events, first)?;
-    let (rows, end) = rows_of(alloc, config, script, events, extent.brief, first, asked)?;
-    Ok(Picture {
-        brief: extent.brief,
-        first,
-        end,
-        asked,
+    let before = trail.pass(config, script, events, first);
+    let first = reached(&before, first);
+    let openings = openings_at(alloc, &trail, config.replicas)?;
+    let mut rows = Rows::new(alloc, extent.brief, first, asked);
+    let broken = rows.fill(&mut trail, before, config, script, events)?;
+    let picture = Picture {
+        brief: rows.brief,
+        first: rows.first,
+        end: rows.end,
+        asked: asked.min(reached(&broken, count as u32)),
         openings,
         marks: rows.marks,
-    })
+    };
+    Ok((picture, broken))
 }

@@ -1,8 +1,8 @@
-//! The states of all replicas, regions and lanes along a legal list of events.
-ghost use Rattle.std.specs.Prelude.{◌≡◌, ◌∷◌, ◌<◌, ℕ, [], List, Some, IfOk, length};
+//! The states of all replicas, regions and lanes along a list of events.
+ghost use Rattle.std.specs.Prelude.{◌≡◌, ◌∷◌, ◌<◌, ◌≤◌, ℕ, [], List, Some, IfOk, length, take};
 ghost use Rattle.mu_course.specs.Walks.{StandsForWalk};
 ghost use Rattle.mu_model.specs.Contents.{IsConfig};
-ghost use Rattle.mu_model.specs.Histories.{part};
+ghost use Rattle.mu_model.specs.Histories.{history, part};
 ghost use Rattle.mu_model.specs.Legal.{IsLegalHistory};
 ghost use Rattle.mu_model.specs.Scores.{is_failed};
 ghost use Rattle.mu_model.specs.declared.config.Config.{Config as Settings};
@@ -11,7 +11,7 @@ ghost use Rattle.mu_model.specs.declared.script.Script.{Script as Settled};
 ghost use Rattle.mu_picture.specs.Hearing.{heard_by};
 ghost use Rattle.mu_picture.specs.Marks.{mark_of};
 ghost use Rattle.mu_picture.specs.Openings.{opening_of};
-ghost use Rattle.mu_picture.specs.Trails.{StandsForTrail, TellsNoted};
+ghost use Rattle.mu_picture.specs.Trails.{HasPassed, IsAtNext, StandsForTrail, TellsNoted, reached};
 
 use crate::deeds::{Heard, deed_of};
 use crate::marks::{Mark, mark_of};
@@ -19,9 +19,21 @@ use crate::openings::{Opening, opening_with};
 use crate::standings::{Standings, resumption_at, standing_with};
 use mu_course::{Turn, Walk, halt_after};
 use mu_model::{Config, Event, NoMemory, Script, Verb};
+use mu_outcome::Broken;
 use std::alloc::Global;
 
-/// The states of all replicas, regions and lanes after the first events of a legal list.
+/// How many events a walk has taken that was to take those before `to`, if this is where the list
+/// broke.
+pub fn reached(broken: &Option<Broken>, to: u32) -> u32
+    ensures { result ≡ reached broken.now to }
+{
+    match broken {
+        None => to,
+        Some(broken) => broken.index,
+    }
+}
+
+/// The states of all replicas, regions and lanes after the first events of a list, which are legal.
 #[derive(Drop)]
 pub struct Trail {
     walk: Walk,
@@ -98,7 +110,7 @@ impl Trail {
     }
 
     /// The mark of the next event of the legal list, which is the step `step`, if it is drawn.
-    pub fn take(
+    fn take(
         &mut self,
         config: &Config,
         script: &Script,
@@ -125,5 +137,58 @@ impl Trail {
         let halt = halt_after(config, script, r, turn.told.steps, turn.finishes);
         self.standings.take(r, standing_with(deed, halt));
         mark_of(step, event, resumed, deed, halt)
+    }
+
+    /// Judges the event at an index of a list, and takes it if it may follow: its mark, if it is
+    /// drawn. Takes no memory.
+    ///
+    /// # Errors
+    ///
+    /// The event breaks the list. Then the states stay.
+    pub fn next(
+        &mut self,
+        config: &Config,
+        script: &Script,
+        events: &[Event],
+        index: u32,
+    ) -> Result<Option<Mark>, Broken>
+        requires config { IsConfig config.now }
+        requires within { index < length events.now }
+        ensures { StandsForTrail config.now script.now (history (take index events.now)) self.old
+            → IsAtNext config.now script.now events.now index self.new result }
+    {
+        let event = events[index as usize];
+        match self.walk.fault(config, &event) {
+            Some(fault) => Err(Broken {
+                index,
+                event,
+                fault,
+            }),
+            None => Ok(self.take(config, script, index, &event)),
+        }
+    }
+
+    /// Judges the events before `to`, and takes those before the first that breaks the list, which
+    /// is the answer if there is one. Takes no memory.
+    pub fn pass(
+        &mut self,
+        config: &Config,
+        script: &Script,
+        events: &[Event],
+        to: u32,
+    ) -> Option<Broken>
+        requires config { IsConfig config.now }
+        requires fresh { StandsForTrail config.now script.now [] self.old }
+        requires within { to ≤ length events.now }
+        ensures passed { HasPassed config.now script.now events.now (reached result to) self.new
+            result }
+        ensures within { reached result to ≤ to }
+    {
+        for index in 0..to {
+            if let Err(broken) = self.next(config, script, events, index) {
+                return Some(broken);
+            }
+        }
+        None
     }
 }

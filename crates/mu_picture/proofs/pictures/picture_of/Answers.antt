@@ -1,4 +1,9 @@
-use Rattle.std.proofs.Common.{◌≡◌, ◌∙◌, ap, length, arith}
+use Rattle.std.proofs.Common.{◌≡◌, ◌<◌, ◌≤◌, ◌∙◌, ap, length, sym, subst, arith, take}
+use Rattle.mu_model.specs.Histories.{history}
+use Rattle.mu_picture.specs.Layout.{after_marks, top}
+use Rattle.mu_picture.specs.Marks.{EndsInPlace, legal_front, marks_of}
+use Rattle.mu_picture.specs.Openings.{openings_of}
+use Rattle.mu_picture.proofs.Fronts.{came_to, front_size, front_start}
 use Rattle.mu_picture.proofs.Unmarked.{hidden_marks}
 use Rattle.mu_picture.proofs.Steps.{length_openings}
 use Rattle.mu_picture.proofs.pictures.picture_of.Goals as goal
@@ -6,11 +11,44 @@ use Rattle.mu_picture.proofs.pictures.picture_of.Goals as goal
 pub returns-clause-lanes : goal.returns-clause-lanes
 returns-clause-lanes c =
     let config = c.args.config.now in
-    let are : length c.in_ok-openings.openings.items ≡ config.replicas = ap length c.in_ok-openings.ensures ∙ length_openings config c.args.script.now config.replicas _ in
+    let past = history (take c.reached-first.result c.args.events.now) in
+    let are : length c.in_ok-openings.openings.items ≡ config.replicas = ap length (c.in_ok-openings.ensures past config c.args.script.now refl c.pass-before.ensures.passed.stands) ∙ length_openings config c.args.script.now config.replicas past in
     omega (arith, are, c.requires.config.replicas.1)
 
 pub returns-clause-hidden : goal.returns-clause-hidden
 returns-clause-hidden c =
-    let found = c.in_ok-rows.ensures in
-    hidden_marks c.args.config.now c.args.script.now c.args.extent.brief c.args.events.now c.min-first.result c.in_ok-rows.end c.in_ok-rows.rows.marks.items
-    found.from (omega (arith, found.end, c.min-whole.ensures)) found.marks
+    let events = c.args.events.now in
+    let broken = c.in_ok-broken.broken in
+    let rows = c.in_ok-broken.new.self in
+    let held = c.in_ok-broken.ensures.holds in
+    hidden_marks c.args.config.now c.args.script.now rows.brief (legal_front events broken) rows.first rows.end rows.marks.items held.order (omega (arith, held.within)) held.marks
+
+pub returns-clause-picture : goal.returns-clause-picture
+returns-clause-picture c =
+    let config = c.args.config.now in
+    let script = c.args.script.now in
+    let events = c.args.events.now in
+    let extent = c.args.extent in
+    let broken = c.in_ok-broken.broken in
+    let rows = c.in_ok-broken.new.self in
+    let held = c.in_ok-broken.ensures.holds in
+    let asked = c.in_ok-broken.ensures.asked in
+    let fresh = c.new-rows.ensures in
+    let explains = c.in_ok-broken.ensures.explains in
+    let front = legal_front events broken in
+    let size = front_size config events broken explains in
+    let within : rows.first ≤ length front = omega (arith, held.order, held.within) in
+    let first : rows.first ≡ c.reached-first.result = asked.first ∙ fresh.first in
+    let past = history (take c.reached-first.result events) in
+    record {
+      brief = asked.brief ∙ fresh.brief;
+      asked = omega (arith, c.min-asked.ensures, c.min.ensures, c.reached.ensures, size);
+      first = omega (arith, first, c.reached-first.ensures, c.min-first.ensures, c.min-asked.ensures, size, within, c.pass-before.ensures.within, came_to config events c.pass-before.result broken c.min-first.result explains c.in_ok-broken.ensures.before);
+      order = held.order;
+      end = omega (arith, held.within, asked.asked, fresh.asked, c.min.ensures, c.reached.ensures, size);
+      openings = c.in_ok-openings.ensures past config script refl c.pass-before.ensures.passed.stands
+          ∙ ap (λ l. openings_of config script config.replicas (history l)) (ap (λ n. take n events) (sym first) ∙ sym (front_start config events broken rows.first explains within));
+      marks = held.marks ∙ ap (λ b. marks_of config script b rows.first (history (take rows.end front))) (asked.brief ∙ fresh.brief);
+      rows = held.rows.placed;
+      ends = held.ends;
+    }

@@ -2,7 +2,7 @@
 use Rattle.std.proofs.Common.{take}
 use Rattle.mu_model.specs.Histories.{history}
 use Rattle.mu_picture.specs.Trails.{StandsForTrail}
-use Rattle.mu_picture.proofs.openings.openings_after.Given as goal
+use Rattle.mu_picture.proofs.trail.Trail.pass.Given as goal
 
 abbrev pub invariant-loop-index : goal.invariant-loop-index
-invariant-loop-index l = StandsForTrail l.config l.script (history (take l.index l.events)) l.trail
+invariant-loop-index l = StandsForTrail l.config l.script (history (take l.index l.events)) l.self

@@ -1,0 +1,1 @@
+use Rattle.mu_picture.proofs.pictures.Rows.fill.Goals as goal
