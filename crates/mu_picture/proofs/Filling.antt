@@ -29,7 +29,7 @@ fresh_steps c script events rows fresh order size =
     let past = history (take rows.end events) in
     let low : length past ≤ rows.first = omega (arith, length-reverse (take rows.end events), length-take-le rows.end events (omega (arith, fresh.end, size)), fresh.end) in
     record {
-      rows = more_rows 0 (length events) rows (omega arith) fresh.rows;
+      held = more_rows 0 (length events) rows (omega arith) fresh.held;
       order = omega (arith, fresh.end);
       within = omega (arith, fresh.end, order, size);
       marks = fresh.marks ∙ sym (none_before c script rows.brief rows.first past low);
@@ -62,7 +62,7 @@ stays c script events i rows low apart held =
     let more = length-take-le (i + 1) events (omega (arith, low)) in
     let inside : rows.end ≤ i = omega (arith, held.within, long) in
     record {
-      rows = more_rows (length (take i events)) (length (take (i + 1) events)) rows (omega (arith, long, more)) held.rows;
+      held = more_rows (length (take i events)) (length (take (i + 1) events)) rows (omega (arith, long, more)) held.held;
       order = held.order;
       within = omega (arith, held.within, long, more);
       marks = held.marks ∙ ap (λ l. marks_of c script rows.brief rows.first (history l)) (take-take events i rows.end inside ∙ sym (take-take events (i + 1) rows.end (omega (arith, inside))));
@@ -86,7 +86,7 @@ adds : (c : Config) (script : Script) (events : List Event) (i : ℕ) (trail : T
 adds c script events i trail mark rows more low asked taken alike (inl beyond) placed held = subst (HoldsSteps c script (take (i + 1) events)) (sym beyond.0) (stays c script events i rows low (inr beyond.1) held)
 adds c script events i trail mark rows more low asked taken alike (inr (inl full)) placed held =
     subst (HoldsSteps c script (take (i + 1) events)) (sym full.0) (record {
-      rows = more_rows (length (take i events)) (length (take (i + 1) events)) rows (omega (arith, long, longer)) held.rows;
+      held = more_rows (length (take i events)) (length (take (i + 1) events)) rows (omega (arith, long, longer)) held.held;
       order = held.order;
       within = omega (arith, full.1, asked, longer);
       marks = held.marks ∙ ap (λ l. marks_of c script rows.brief rows.first (history l)) (take-take events i rows.end (omega (arith, full.1)) ∙ sym (take-take events (i + 1) rows.end (omega (arith, full.1))));
@@ -95,13 +95,15 @@ adds c script events i trail mark rows more low asked taken alike (inr (inl full
   where
     long : length (take i events) ≡ i
     long = length-take-le i events (omega (arith, low))
+
     longer : length (take (i + 1) events) ≡ i + 1
     longer = length-take-le (i + 1) events (omega (arith, low))
+
     here : HasMark c script events rows.brief i
     here = record { event = taken.event; there = taken.there; drawn = subst (λ m. is_some (kept rows.brief m) ≡ true) taken.mark full.3 }
 adds c script events i trail mark rows more low asked taken alike (inr (inr grown)) placed held =
     record {
-      rows = more_rows (i + 1) (length (take (i + 1) events)) more (omega (arith, longer)) placed;
+      held = more_rows (i + 1) (length (take (i + 1) events)) more (omega (arith, longer)) placed;
       order = omega (arith, held.order, grown.0, grown.1, alike.first);
       within = omega (arith, grown.1, asked, longer, alike.asked);
       marks = grown.2
@@ -117,6 +119,7 @@ adds c script events i trail mark rows more low asked taken alike (inr (inr grow
   where
     longer : length (take (i + 1) events) ≡ i + 1
     longer = length-take-le (i + 1) events (omega (arith, low))
+
     before : rows.marks.items ≡ marks_of c script rows.brief rows.first (history (take i events))
     before = held.marks ∙ ap (λ l. marks_of c script rows.brief rows.first (history l)) (take-take events i rows.end (omega (arith, grown.0)) ∙ ap (λ n. take n events) grown.0)
 

@@ -25,13 +25,13 @@ pub record AsksAlike (rows others : Rows) : Type 0 where
   pub asked : others.asked ≡ rows.asked
 
 -- rows of these steps before any was added
-pub record IsFresh (brief : Bool) (first asked : ℕ) (rows : Rows) : Type 0 where
-  pub brief : rows.brief ≡ brief
-  pub first : rows.first ≡ first
-  pub asked : rows.asked ≡ asked
-  pub end : rows.end ≡ first
+pub record IsFresh (short : Bool) (from to : ℕ) (rows : Rows) : Type 0 where
+  pub brief : rows.brief ≡ short
+  pub first : rows.first ≡ from
+  pub asked : rows.asked ≡ to
+  pub end : rows.end ≡ from
   pub marks : rows.marks.items ≡ []
-  pub rows : HoldsRows 0 rows
+  pub held : HoldsRows 0 rows
 
 -- the rows end before the step already, or at it, whose mark has no room, or they have it
 abbrev pub AddsStep : ℕ → Option Mark → Rows → Rows → Type 0
@@ -45,7 +45,7 @@ AddsStep index mark before after =
 -- the rows have the marks of those of these events that they ask for, as far as there is room
 pub record HoldsSteps (c : Config) (script : Script) (events : List Event)
     (rows : Rows) : Type 0 where
-  pub rows : HoldsRows (length events) rows
+  pub held : HoldsRows (length events) rows
   pub order : rows.first ≤ rows.end
   pub within : rows.end ≤ min rows.asked (length events)
   pub marks :

@@ -45,10 +45,10 @@ reached (Some broken) to = broken.index
 
 -- the event at the index was taken, and has this mark, if it is drawn
 pub record HasTaken (c : Config) (script : Script) (events : List Event) (index : ℕ)
-    (trail : Trail) (mark : Option Mark) : Type 0 where
+    (trail : Trail) (made : Option Mark) : Type 0 where
   pub event : Event
   pub there : slice_get events index ≡ Some event
-  pub mark : mark ≡ mark_of c script (history (take index events)) event
+  pub mark : made ≡ mark_of c script (history (take index events)) event
   pub stands : StandsForTrail c script (history (take (index + 1) events)) trail
 
 -- all events before the place were taken; if the list broke, it is there

@@ -87,15 +87,19 @@ impl Rows {
         if self.end != index {
             return Ok(());
         }
-        if let Some(mark) = mark {
-            if self.cursor.is_full() {
-                return Ok(());
+        match mark {
+            None => {
+                self.end = index + 1;
+                Ok(())
             }
-            self.marks.push(mark)?;
-            self.cursor = self.cursor.after(mark.step);
+            Some(_) if self.cursor.is_full() => Ok(()),
+            Some(mark) => {
+                self.marks.push(mark)?;
+                self.cursor = self.cursor.after(mark.step);
+                self.end = index + 1;
+                Ok(())
+            }
         }
-        self.end = index + 1;
-        Ok(())
     }
 
     /// Judges the events from the first step on, and adds those that are asked for and have room.

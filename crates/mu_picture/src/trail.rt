@@ -110,13 +110,7 @@ impl Trail {
     }
 
     /// The mark of the next event of the legal list, which is the step `step`, if it is drawn.
-    fn take(
-        &mut self,
-        config: &Config,
-        script: &Script,
-        step: u32,
-        event: &Event,
-    ) -> Option<Mark>
+    fn take(&mut self, config: &Config, script: &Script, step: u32, event: &Event) -> Option<Mark>
         requires { IsConfig config.now }
         ensures stands { (past : List Made) → IsLegalHistory config.now (event.now ∷ past)
             → StandsForTrail config.now script.now past self.old

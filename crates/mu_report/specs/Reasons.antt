@@ -11,89 +11,90 @@ use Rattle.mu_report.specs.Sentences.{entered_words, number_or_none, sentence}
 
 -- the point that isn't met
 abbrev pub reason_words : Reason → List ℕ
-reason_words (Reason.NoReplica replica) = sentence NO_REPLICA (decimal replica ∷ [])
-reason_words (Reason.Budget steps) = sentence BUDGET (decimal steps ∷ [])
-reason_words (Reason.NoRegion region) = sentence NO_REGION (decimal region ∷ [])
+reason_words (Reason.NoReplica replica) = sentence NO_REPLICA.now (decimal replica ∷ [])
+reason_words (Reason.Budget steps) = sentence BUDGET.now (decimal steps ∷ [])
+reason_words (Reason.NoRegion region) = sentence NO_REGION.now (decimal region ∷ [])
 reason_words (Reason.OutOfTurn region asked) =
-    sentence OUT_OF_TURN (decimal region ∷ number_or_none asked ∷ [])
-reason_words Reason.NotBegun = NOT_BEGUN
-reason_words (Reason.NotGranted region) = sentence NOT_GRANTED (decimal region ∷ [])
-reason_words Reason.Over = OVER
-reason_words Reason.NoTarget = NO_TARGET
-reason_words (Reason.MinimumUnread region) = sentence MINIMUM_UNREAD (decimal region ∷ [])
-reason_words Reason.Unconfirmed = UNCONFIRMED
-reason_words (Reason.NotMember region) = sentence NOT_MEMBER (decimal region ∷ [])
-reason_words (Reason.NoPlace place) = sentence NO_PLACE (decimal place ∷ [])
+    sentence OUT_OF_TURN.now (decimal region ∷ number_or_none asked ∷ [])
+reason_words Reason.NotBegun = NOT_BEGUN.now
+reason_words (Reason.NotGranted region) = sentence NOT_GRANTED.now (decimal region ∷ [])
+reason_words Reason.Over = OVER.now
+reason_words Reason.NoTarget = NO_TARGET.now
+reason_words (Reason.MinimumUnread region) = sentence MINIMUM_UNREAD.now (decimal region ∷ [])
+reason_words Reason.Unconfirmed = UNCONFIRMED.now
+reason_words (Reason.NotMember region) = sentence NOT_MEMBER.now (decimal region ∷ [])
+reason_words (Reason.NoPlace place) = sentence NO_PLACE.now (decimal place ∷ [])
 reason_words (Reason.NotEnteredForMinimum region entered) =
-    sentence NOT_ENTERED_FOR_MINIMUM (decimal region ∷ entered_words entered ∷ [])
+    sentence NOT_ENTERED_FOR_MINIMUM.now (decimal region ∷ entered_words entered ∷ [])
 reason_words (Reason.BelowMinimum number minimum) =
-    sentence BELOW_MINIMUM (decimal number ∷ decimal minimum ∷ [])
+    sentence BELOW_MINIMUM.now (decimal number ∷ decimal minimum ∷ [])
 reason_words (Reason.NotTheNumber number (Some own) read put right) =
-    sentence NOT_THE_OWN_NUMBER (decimal number ∷ number_or_none right ∷ [])
+    sentence NOT_THE_OWN_NUMBER.now (decimal number ∷ number_or_none right ∷ [])
 reason_words (Reason.NotTheNumber number None read put right) =
-    sentence NOT_THE_LEAST_NUMBER
+    sentence NOT_THE_LEAST_NUMBER.now
     (decimal number ∷ number_or_none right ∷ decimal read ∷ decimal put ∷ [])
 reason_words (Reason.NoPosition position last) =
-    sentence NO_POSITION (decimal position ∷ decimal last ∷ [])
-reason_words (Reason.NotReadable region) = sentence NOT_READABLE (decimal region ∷ [])
+    sentence NO_POSITION.now (decimal position ∷ decimal last ∷ [])
+reason_words (Reason.NotReadable region) = sentence NOT_READABLE.now (decimal region ∷ [])
 reason_words (Reason.OutOfReach region position) =
-    sentence OUT_OF_REACH (decimal region ∷ decimal position ∷ [])
-reason_words Reason.NoQuorum = NO_QUORUM
+    sentence OUT_OF_REACH.now (decimal region ∷ decimal position ∷ [])
+reason_words Reason.NoQuorum = NO_QUORUM.now
 reason_words (Reason.OtherNumber number own) =
-    sentence OTHER_NUMBER (decimal number ∷ number_or_none own ∷ [])
+    sentence OTHER_NUMBER.now (decimal number ∷ number_or_none own ∷ [])
 reason_words (Reason.NotEntered region place entered) =
-    sentence NOT_ENTERED (decimal region ∷ decimal place ∷ entered_words entered ∷ [])
+    sentence NOT_ENTERED.now (decimal region ∷ decimal place ∷ entered_words entered ∷ [])
 reason_words (Reason.NotLooked region position) =
-    sentence NOT_LOOKED (decimal position ∷ decimal region ∷ [])
+    sentence NOT_LOOKED.now (decimal position ∷ decimal region ∷ [])
 reason_words (Reason.Behind region position) =
-    sentence BEHIND (decimal region ∷ decimal position ∷ [])
+    sentence BEHIND.now (decimal region ∷ decimal position ∷ [])
 reason_words (Reason.NotNext position known) =
-    sentence NOT_NEXT (decimal position ∷ decimal known ∷ [])
+    sentence NOT_NEXT.now (decimal position ∷ decimal known ∷ [])
 reason_words (Reason.NoRoom position free replica head) =
-    sentence NO_ROOM (decimal position ∷ decimal free ∷ decimal replica ∷ decimal head ∷ [])
+    sentence NO_ROOM.now (decimal position ∷ decimal free ∷ decimal replica ∷ decimal head ∷ [])
 reason_words (Reason.PastSeen region position) =
-    sentence PAST_SEEN (decimal position ∷ decimal region ∷ [])
+    sentence PAST_SEEN.now (decimal position ∷ decimal region ∷ [])
 reason_words (Reason.OtherFirst position value first) =
-    sentence OTHER_FIRST (decimal value ∷ decimal position ∷ decimal first ∷ [])
-reason_words (Reason.JoinedSince position) = sentence JOINED_SINCE (decimal position ∷ [])
+    sentence OTHER_FIRST.now (decimal value ∷ decimal position ∷ decimal first ∷ [])
+reason_words (Reason.JoinedSince position) = sentence JOINED_SINCE.now (decimal position ∷ [])
 reason_words (Reason.MemberNotLooked region position) =
-    sentence MEMBER_NOT_LOOKED (decimal region ∷ decimal position ∷ [])
+    sentence MEMBER_NOT_LOOKED.now (decimal region ∷ decimal position ∷ [])
 reason_words (Reason.OtherAccepted position value number accepted) =
-    sentence OTHER_ACCEPTED
+    sentence OTHER_ACCEPTED.now
     (decimal value ∷ decimal position ∷ decimal number ∷ decimal accepted ∷ [])
-reason_words (Reason.NoBatch value) = sentence NO_BATCH (decimal value ∷ [])
-reason_words (Reason.NotOwn value) = sentence NOT_OWN (decimal value ∷ [])
+reason_words (Reason.NoBatch value) = sentence NO_BATCH.now (decimal value ∷ [])
+reason_words (Reason.NotOwn value) = sentence NOT_OWN.now (decimal value ∷ [])
 reason_words (Reason.NotWritten value row word) =
-    sentence NOT_WRITTEN (decimal word ∷ decimal row ∷ decimal value ∷ [])
+    sentence NOT_WRITTEN.now (decimal word ∷ decimal row ∷ decimal value ∷ [])
 reason_words (Reason.NotNextOfClient value number known) =
-    sentence NOT_NEXT_OF_CLIENT (decimal value ∷ decimal number ∷ decimal known ∷ [])
-reason_words (Reason.NotKnown fuo known) = sentence NOT_KNOWN (decimal known ∷ decimal fuo ∷ [])
+    sentence NOT_NEXT_OF_CLIENT.now (decimal value ∷ decimal number ∷ decimal known ∷ [])
+reason_words (Reason.NotKnown fuo known) =
+    sentence NOT_KNOWN.now (decimal known ∷ decimal fuo ∷ [])
 reason_words (Reason.NotFilled region position) =
-    sentence NOT_FILLED (decimal position ∷ decimal region ∷ [])
-reason_words (Reason.OwnBeat replica) = sentence OWN_BEAT (decimal replica ∷ [])
-reason_words (Reason.NoRow row) = sentence NO_ROW (decimal row ∷ [])
-reason_words (Reason.NoWord word) = sentence NO_WORD (decimal word ∷ [])
+    sentence NOT_FILLED.now (decimal position ∷ decimal region ∷ [])
+reason_words (Reason.OwnBeat replica) = sentence OWN_BEAT.now (decimal replica ∷ [])
+reason_words (Reason.NoRow row) = sentence NO_ROW.now (decimal row ∷ [])
+reason_words (Reason.NoWord word) = sentence NO_WORD.now (decimal word ∷ [])
 reason_words (Reason.OtherWord row word given spelled client number) =
-    sentence OTHER_WORD
+    sentence OTHER_WORD.now
     (decimal word ∷ decimal row ∷ decimal client ∷ decimal number ∷ decimal spelled
     ∷ decimal given ∷ [])
-reason_words (Reason.Written row word) = sentence WRITTEN (decimal word ∷ decimal row ∷ [])
-reason_words (Reason.NoWriter value) = sentence NO_WRITER (decimal value ∷ [])
+reason_words (Reason.Written row word) = sentence WRITTEN.now (decimal word ∷ decimal row ∷ [])
+reason_words (Reason.NoWriter value) = sentence NO_WRITER.now (decimal value ∷ [])
 reason_words (Reason.NoRowWord head applied value word) =
-    sentence NO_ROW_WORD (decimal applied ∷ decimal head ∷ decimal word ∷ decimal value ∷ [])
+    sentence NO_ROW_WORD.now (decimal applied ∷ decimal head ∷ decimal word ∷ decimal value ∷ [])
 reason_words (Reason.NotApplied head applied) =
-    sentence NOT_APPLIED (decimal applied ∷ decimal head ∷ [])
-reason_words (Reason.NotReached head) = sentence NOT_REACHED (decimal head ∷ [])
-reason_words Reason.Closing = CLOSING
-reason_words Reason.NobodyWaits = NOBODY_WAITS
-reason_words Reason.NothingToDrain = NOTHING_TO_DRAIN
-reason_words Reason.TargetLooked = TARGET_LOOKED
-reason_words Reason.TargetNotLooked = TARGET_NOT_LOOKED
-reason_words Reason.Drained = DRAINED
-reason_words Reason.NotClosing = NOT_CLOSING
-reason_words Reason.NotDrained = NOT_DRAINED
+    sentence NOT_APPLIED.now (decimal applied ∷ decimal head ∷ [])
+reason_words (Reason.NotReached head) = sentence NOT_REACHED.now (decimal head ∷ [])
+reason_words Reason.Closing = CLOSING.now
+reason_words Reason.NobodyWaits = NOBODY_WAITS.now
+reason_words Reason.NothingToDrain = NOTHING_TO_DRAIN.now
+reason_words Reason.TargetLooked = TARGET_LOOKED.now
+reason_words Reason.TargetNotLooked = TARGET_NOT_LOOKED.now
+reason_words Reason.Drained = DRAINED.now
+reason_words Reason.NotClosing = NOT_CLOSING.now
+reason_words Reason.NotDrained = NOT_DRAINED.now
 reason_words (Reason.NotLeastWaiting replica least) =
-    sentence NOT_LEAST_WAITING (decimal replica ∷ number_or_none least ∷ [])
+    sentence NOT_LEAST_WAITING.now (decimal replica ∷ number_or_none least ∷ [])
 
 -- what is wrong with an event
 abbrev pub fault_words : Fault → List ℕ

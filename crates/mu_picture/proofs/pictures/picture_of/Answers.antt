@@ -49,6 +49,6 @@ returns-clause-picture c =
       openings = c.in_ok-openings.ensures past config script refl c.pass-before.ensures.passed.stands
           ∙ ap (λ l. openings_of config script config.replicas (history l)) (ap (λ n. take n events) (sym first) ∙ sym (front_start config events broken rows.first explains within));
       marks = held.marks ∙ ap (λ b. marks_of config script b rows.first (history (take rows.end front))) (asked.brief ∙ fresh.brief);
-      rows = held.rows.placed;
+      rows = held.held.placed;
       ends = held.ends;
     }

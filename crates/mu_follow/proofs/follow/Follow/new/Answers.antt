@@ -4,7 +4,7 @@ use Rattle.mu_follow.proofs.follow.Follow.new.Goals as goal
 
 pub returns-clause-stands : goal.returns-clause-stands
 returns-clause-stands c = record {
-  config = c.in_ok-shared.ensures;
+  config = c.in_ok-try_clone.ensures;
   inside = c.requires.inside;
   replica = refl;
   steps = refl;

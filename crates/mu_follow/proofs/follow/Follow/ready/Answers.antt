@@ -7,8 +7,8 @@ use Rattle.mu_follow.specs.Groups.{group_size}
 use Rattle.mu_follow.proofs.Handing.{applied_at, none_applied}
 use Rattle.mu_follow.proofs.follow.Follow.ready.Goals as goal
 
-pub returns-then-reached-self-clause-entry : goal.returns-then-reached-self-clause-entry
-returns-then-reached-self-clause-entry c k r mine held =
+pub returns-then-applied_count-self-clause-entry : goal.returns-then-applied_count-self-clause-entry
+returns-then-applied_count-self-clause-entry c k r mine held =
     let count = c.applied_count.ensures ∙ held.rows.applied in
     none_applied k r c.args.self.now.progress.handed mine (omega (arith, count, c.if-applied_count-self.true))
 

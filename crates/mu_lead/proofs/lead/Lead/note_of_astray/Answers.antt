@@ -2,8 +2,8 @@ use Rattle.std.proofs.Common.{arith, sym, ◌<◌}
 use Rattle.mu_lead.proofs.Astray.{never_none, never_unseen}
 use Rattle.mu_lead.proofs.lead.Lead.note_of_astray.Goals as goal
 
-pub returns-in-None-seen : goal.returns-in-None-seen
-returns-in-None-seen c mine stands heeded asks =
+pub returns-in-None-seen_fence : goal.returns-in-None-seen_fence
+returns-in-None-seen_fence c mine stands heeded asks =
     let l = c.args.self.now in
     let first = c.in-Some.ensures mine stands heeded in
     let inside = first.1 in

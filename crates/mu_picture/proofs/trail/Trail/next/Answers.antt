@@ -12,11 +12,14 @@ returns-in-Some c = λ held.
     let i = c.args.index in
     record {
       stands = held;
-      breaks = (record {
-        there = read_there events i _ c.requires.within;
-        before = held.walk.legal;
-        fault = c.in-Some.ensures (history (take i events)) held.walk;
-      }, refl);
+      breaks = (
+        record {
+          there = read_there events i _ c.requires.within;
+          before = held.walk.legal;
+          fault = c.in-Some.ensures (history (take i events)) held.walk;
+        },
+        refl,
+      );
     }
 
 pub returns-in-None : goal.returns-in-None
