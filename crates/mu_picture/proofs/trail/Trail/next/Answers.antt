@@ -2,6 +2,7 @@ use Rattle.std.proofs.Common.{◌∷◌, length, refl, sym, subst, take}
 use Rattle.std.proofs.lemmas.List.{length-reverse, length-take-le}
 use Rattle.std.proofs.Common.{◌≡◌, ◌∙◌, arith}
 use Rattle.mu_model.specs.Histories.{history}
+use Rattle.mu_model.specs.Legal.{IsLegalHistory}
 use Rattle.mu_outcome.proofs.Places.{history_at_next, read_there}
 use Rattle.mu_picture.specs.Trails.{StandsForTrail}
 use Rattle.mu_picture.proofs.trail.Trail.next.Goals as goal
@@ -29,7 +30,7 @@ returns-in-None c = λ held.
     let events = c.args.events.now in
     let i = c.args.index in
     let past = history (take i events) in
-    let legal = (held.walk.legal, c.in-None.ensures past held.walk) in
+    let legal : IsLegalHistory config (c.event ∷ past) = (held.walk.legal, c.in-None.ensures past held.walk) in
     let place : i ≡ length past = sym (length-reverse (take i events) ∙ length-take-le i events (omega (arith, c.requires.within))) in
     record {
       event = c.event;
