@@ -3,17 +3,18 @@ use Rattle.std.proofs.Common.{◌≡◌, ◌≢◌, ◌<◌, ◌≤◌, ◌+◌,
 use Rattle.std.specs.Prelude.{if◌then◌else◌, is_some, min, nat_le}
 use Rattle.std.specs.List.{slice_get}
 use Rattle.std.specs.declared.option.Option.{Option}
-use Rattle.std.proofs.lemmas.Bool.{cases_eq, cases_lt, le-leb}
-use Rattle.std.proofs.lemmas.List.{length-reverse, length-take-le, take_all}
+use Rattle.std.proofs.lemmas.Bool.{cases_lt, false≢true, le-leb}
+use Rattle.std.proofs.lemmas.List.{length-reverse, length-take-le}
 use Rattle.std.proofs.lemmas.Option.{slice_get_within}
 use Rattle.mu_model.specs.Histories.{history}
 use Rattle.mu_model.specs.declared.config.Config.{Config}
 use Rattle.mu_model.specs.declared.event.Event.{Event}
 use Rattle.mu_model.specs.declared.script.Script.{Script}
 use Rattle.mu_outcome.proofs.Places.{history_next, slice_get-take, take-take}
-use Rattle.mu_picture.specs.Marks.{EndsInPlace, HasMark, kept, mark_of, marks_of, with_mark}
+use Rattle.mu_outcome.specs.declared.fault.Broken.{Broken}
+use Rattle.mu_picture.specs.Marks.{EndsInPlace, HasMark, kept, legal_front, mark_of, marks_of, with_mark}
 use Rattle.mu_picture.specs.Rows.{AddsStep, AsksAlike, HoldsRows, HoldsSteps, IsFresh}
-use Rattle.mu_picture.specs.Trails.{HasTaken}
+use Rattle.mu_picture.specs.Trails.{HasPassed, HasTaken}
 use Rattle.mu_picture.specs.declared.marks.Mark.{Mark}
 use Rattle.mu_picture.specs.declared.pictures.Rows.{Rows}
 use Rattle.mu_picture.specs.declared.trail.Trail.{Trail}
@@ -81,16 +82,16 @@ stays c script events i rows low apart held =
     ]
 
 -- the rows with the next step, or where they end before it, hold the steps with it
-adds : (c : Config) (script : Script) (events : List Event) (i : ℕ) (trail : Trail) (mark : Option Mark) (rows more : Rows) → i < length events → i < rows.asked → HasTaken c script events i trail mark → AsksAlike rows more → AddsStep i (kept rows.brief mark) rows more
+pub adds : (c : Config) (script : Script) (events : List Event) (i : ℕ) (trail : Trail) (mark : Option Mark) (rows more : Rows) → i < length events → HasTaken c script events i trail mark → AsksAlike rows more → AddsStep i (kept rows.brief mark) rows more
     → HoldsRows (i + 1) more → HoldsSteps c script (take i events) rows → HoldsSteps c script (take (i + 1) events) more
-adds c script events i trail mark rows more low asked taken alike (inl beyond) placed held = subst (HoldsSteps c script (take (i + 1) events)) (sym beyond.0) (stays c script events i rows low (inr beyond.1) held)
-adds c script events i trail mark rows more low asked taken alike (inr (inl full)) placed held =
+adds c script events i trail mark rows more low taken alike (inl beyond) placed held = subst (HoldsSteps c script (take (i + 1) events)) (sym beyond.0) (stays c script events i rows low beyond.1 held)
+adds c script events i trail mark rows more low taken alike (inr (inl full)) placed held =
     subst (HoldsSteps c script (take (i + 1) events)) (sym full.0) (record {
       held = more_rows (length (take i events)) (length (take (i + 1) events)) rows (omega (arith, long, longer)) held.held;
       order = held.order;
-      within = omega (arith, full.1, asked, longer);
+      within = omega (arith, full.1, full.2, longer);
       marks = held.marks ∙ ap (λ l. marks_of c script rows.brief rows.first (history l)) (take-take events i rows.end (omega (arith, full.1)) ∙ sym (take-take events (i + 1) rows.end (omega (arith, full.1))));
-      ends = inr (full.2, subst (HasMark c script (take (i + 1) events) rows.brief) (sym full.1) (has_mark_of c script events (i + 1) rows.brief i (omega arith) here));
+      ends = inr (full.3, subst (HasMark c script (take (i + 1) events) rows.brief) (sym full.1) (has_mark_of c script events (i + 1) rows.brief i (omega arith) here));
     })
   where
     long : length (take i events) ≡ i
@@ -100,21 +101,21 @@ adds c script events i trail mark rows more low asked taken alike (inr (inl full
     longer = length-take-le (i + 1) events (omega (arith, low))
 
     here : HasMark c script events rows.brief i
-    here = record { event = taken.event; there = taken.there; drawn = subst (λ m. is_some (kept rows.brief m) ≡ true) taken.mark full.3 }
-adds c script events i trail mark rows more low asked taken alike (inr (inr grown)) placed held =
+    here = record { event = taken.event; there = taken.there; drawn = subst (λ m. is_some (kept rows.brief m) ≡ true) taken.mark full.4 }
+adds c script events i trail mark rows more low taken alike (inr (inr grown)) placed held =
     record {
       held = more_rows (i + 1) (length (take (i + 1) events)) more (omega (arith, longer)) placed;
-      order = omega (arith, held.order, grown.0, grown.1, alike.first);
-      within = omega (arith, grown.1, asked, longer, alike.asked);
-      marks = grown.2
+      order = omega (arith, held.order, grown.0, grown.2, alike.first);
+      within = omega (arith, grown.2, grown.1, longer, alike.asked);
+      marks = grown.3
           ∙ (sym (ap (λ t. if t then with_mark rows.marks.items (kept rows.brief mark) else rows.marks.items) (le-leb rows.first i (omega (arith, held.order, grown.0))))
           ∙ (marks_next c script rows.brief rows.first i (history (take i events)) taken.event rows.marks.items (kept rows.brief mark) (ap (kept rows.brief) taken.mark) (sym (length-reverse (take i events) ∙ length-take-le i events (omega (arith, low)))) before
           ∙ (ap (marks_of c script rows.brief rows.first) (sym (history_next events i taken.event taken.there))
           ∙ (ap (λ l. marks_of c script rows.brief rows.first (history l)) (sym (take-take events (i + 1) (i + 1) (omega arith)))
-          ∙ (ap (λ n. marks_of c script rows.brief rows.first (history (take n (take (i + 1) events)))) (sym grown.1)
+          ∙ (ap (λ n. marks_of c script rows.brief rows.first (history (take n (take (i + 1) events)))) (sym grown.2)
           ∙ (ap (λ b. marks_of c script b rows.first (history (take more.end (take (i + 1) events)))) (sym alike.brief)
           ∙ ap (λ f. marks_of c script more.brief f (history (take more.end (take (i + 1) events)))) (sym alike.first)))))));
-      ends = inl (omega (arith, grown.1, asked, longer, alike.asked));
+      ends = inl (omega (arith, grown.2, grown.1, longer, alike.asked));
     }
   where
     longer : length (take (i + 1) events) ≡ i + 1
@@ -123,13 +124,13 @@ adds c script events i trail mark rows more low asked taken alike (inr (inr grow
     before : rows.marks.items ≡ marks_of c script rows.brief rows.first (history (take i events))
     before = held.marks ∙ ap (λ l. marks_of c script rows.brief rows.first (history l)) (take-take events i rows.end (omega (arith, grown.0)) ∙ ap (λ n. take n events) grown.0)
 
--- after the next step the rows hold the steps with it, whether it is asked for or not
-pub steps_with : (c : Config) (script : Script) (events : List Event) (i : ℕ) (trail : Trail) (mark : Option Mark) (rows more : Rows) → i < length events → HasTaken c script events i trail mark → AsksAlike rows more
-    → (i < rows.asked) × AddsStep i (kept rows.brief mark) rows more × HoldsRows (i + 1) more → HoldsSteps c script (take i events) rows → HoldsSteps c script (take (i + 1) events) more
-steps_with c script events i trail mark rows more low taken alike added held = adds c script events i trail mark rows more low added.0 taken alike added.1 added.2 held
-
-pub steps_without : (c : Config) (script : Script) (events : List Event) (i : ℕ) (rows : Rows) → i < length events → rows.asked ≤ i → HoldsSteps c script (take i events) rows → HoldsSteps c script (take (i + 1) events) rows
-steps_without c script events i rows low over held = stays c script events i rows low (inl over) held
+-- rows that a list broke before hold the steps before that
+pub early_steps : (c : Config) (script : Script) (events : List Event) (trail : Trail) (before : Option Broken) (rows : Rows) → IsFresh rows.brief rows.first rows.asked rows → rows.first ≤ rows.asked → HasPassed c script events rows.first trail before → is_some before ≡ true
+    → HoldsSteps c script (legal_front events before) rows
+early_steps c script events trail None rows fresh order passed some = absurd (false≢true some)
+early_steps c script events trail (Some b) rows fresh order passed some =
+    let within = slice_get_within events b.index b.event passed.breaks.0.there in
+    fresh_steps c script (take b.index events) rows fresh order (length-take-le b.index events (omega (arith, within)) ∙ passed.breaks.1)
 
 pub same_asked : (rows more others : Rows) → AsksAlike rows more → AsksAlike more others → AsksAlike rows others
 same_asked rows more others one two = record { brief = two.brief ∙ one.brief; first = two.first ∙ one.first; asked = two.asked ∙ one.asked }

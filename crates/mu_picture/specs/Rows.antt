@@ -33,13 +33,14 @@ pub record IsFresh (short : Bool) (from to : ℕ) (rows : Rows) : Type 0 where
   pub marks : rows.marks.items ≡ []
   pub held : HoldsRows 0 rows
 
--- the rows end before the step already, or at it, whose mark has no room, or they have it
+-- the rows end before the step already, or it isn't asked for; or they end at it, whose mark has no
+-- room, or they have it
 abbrev pub AddsStep : ℕ → Option Mark → Rows → Rows → Type 0
 AddsStep index mark before after =
-    ((after ≡ before) × (before.end ≢ index))
-    ⊎ (((after ≡ before) × (before.end ≡ index) × (32500 < before.cursor.y)
-    × (is_some mark ≡ true))
-    ⊎ ((before.end ≡ index) × (after.end ≡ index + 1)
+    ((after ≡ before) × ((before.asked ≤ index) ⊎ (before.end ≢ index)))
+    ⊎ (((after ≡ before) × (before.end ≡ index) × (index < before.asked)
+    × (32500 < before.cursor.y) × (is_some mark ≡ true))
+    ⊎ ((before.end ≡ index) × (index < before.asked) × (after.end ≡ index + 1)
     × (after.marks.items ≡ with_mark before.marks.items mark)))
 
 -- the rows have the marks of those of these events that they ask for, as far as there is room

@@ -74,8 +74,8 @@ impl Rows {
         }
     }
 
-    /// Adds the step `index` with its mark, if it has one, unless there is no room for that: then
-    /// the steps end before it.
+    /// Adds the step `index` with its mark, if it has one and the step is asked for, unless there is
+    /// no room for that: then the steps end before it.
     fn push(&mut self, index: u32, mark: Option<Mark>) -> Result<(), NoMemory>
         requires few { self.old.cursor.rows < 2 ^ 40 }
         requires low { index + 1 < 2 ^ 32 }
@@ -84,7 +84,7 @@ impl Rows {
         ensures asked { AsksAlike self.old self.new }
         ensures adds { IfOk result (λ done. AddsStep index mark self.old self.new) }
     {
-        if self.end != index {
+        if self.end != index || self.asked <= index {
             return Ok(());
         }
         match mark {
@@ -137,9 +137,7 @@ impl Rows {
                 Err(broken) => return Ok(Some(broken)),
                 Ok(mark) => mark,
             };
-            if index < self.asked {
-                self.push(index, kept_mark(self.brief, mark))?;
-            }
+            self.push(index, kept_mark(self.brief, mark))?;
         }
         Ok(None)
     }

@@ -1,8 +1,9 @@
-use Rattle.std.proofs.Common.{◌≡◌, ◌<◌, ◌≤◌, ◌∙◌, ap, length, sym, subst, arith, take}
+use Rattle.std.proofs.Common.{◌≡◌, ◌<◌, ◌≤◌, ◌∙◌, ap, length, sym, subst, arith, take, refl}
 use Rattle.mu_model.specs.Histories.{history}
 use Rattle.mu_picture.specs.Layout.{after_marks, top}
 use Rattle.mu_picture.specs.Marks.{EndsInPlace, legal_front, marks_of}
 use Rattle.mu_picture.specs.Openings.{openings_of}
+use Rattle.mu_picture.specs.Trails.{reached}
 use Rattle.mu_picture.proofs.Fronts.{came_to, front_size, front_start}
 use Rattle.mu_picture.proofs.Unmarked.{hidden_marks}
 use Rattle.mu_picture.proofs.Steps.{length_openings}
@@ -11,7 +12,7 @@ use Rattle.mu_picture.proofs.pictures.picture_of.Goals as goal
 pub returns-clause-lanes : goal.returns-clause-lanes
 returns-clause-lanes c =
     let config = c.args.config.now in
-    let past = history (take c.reached-first.result c.args.events.now) in
+    let past = history (take (reached c.pass-before.result c.min-first.result) c.args.events.now) in
     let are : length c.in_ok-openings.openings.items ≡ config.replicas = ap length (c.in_ok-openings.ensures past config c.args.script.now refl c.pass-before.ensures.passed.stands) ∙ length_openings config c.args.script.now config.replicas past in
     omega (arith, are, c.requires.config.replicas.1)
 
@@ -19,7 +20,7 @@ pub returns-clause-hidden : goal.returns-clause-hidden
 returns-clause-hidden c =
     let events = c.args.events.now in
     let broken = c.in_ok-broken.broken in
-    let rows = c.in_ok-broken.new.self in
+    let rows = c.fill.new.self in
     let held = c.in_ok-broken.ensures.holds in
     hidden_marks c.args.config.now c.args.script.now rows.brief (legal_front events broken) rows.first rows.end rows.marks.items held.order (omega (arith, held.within)) held.marks
 
@@ -30,7 +31,7 @@ returns-clause-picture c =
     let events = c.args.events.now in
     let extent = c.args.extent in
     let broken = c.in_ok-broken.broken in
-    let rows = c.in_ok-broken.new.self in
+    let rows = c.fill.new.self in
     let held = c.in_ok-broken.ensures.holds in
     let asked = c.in_ok-broken.ensures.asked in
     let fresh = c.new-rows.ensures in
@@ -39,7 +40,7 @@ returns-clause-picture c =
     let size = front_size config events broken explains in
     let within : rows.first ≤ length front = omega (arith, held.order, held.within) in
     let first : rows.first ≡ c.reached-first.result = asked.first ∙ fresh.first in
-    let past = history (take c.reached-first.result events) in
+    let past = history (take (reached c.pass-before.result c.min-first.result) events) in
     record {
       brief = asked.brief ∙ fresh.brief;
       asked = omega (arith, c.min-asked.ensures, c.min.ensures, c.reached.ensures, size);
@@ -47,7 +48,7 @@ returns-clause-picture c =
       order = held.order;
       end = omega (arith, held.within, asked.asked, fresh.asked, c.min.ensures, c.reached.ensures, size);
       openings = c.in_ok-openings.ensures past config script refl c.pass-before.ensures.passed.stands
-          ∙ ap (λ l. openings_of config script config.replicas (history l)) (ap (λ n. take n events) (sym first) ∙ sym (front_start config events broken rows.first explains within));
+          ∙ ap (λ l. openings_of config script config.replicas (history l)) (ap (λ n. take n events) (sym (first ∙ c.reached-first.ensures)) ∙ sym (front_start config events broken rows.first explains within));
       marks = held.marks ∙ ap (λ b. marks_of config script b rows.first (history (take rows.end front))) (asked.brief ∙ fresh.brief);
       rows = held.held.placed;
       ends = held.ends;

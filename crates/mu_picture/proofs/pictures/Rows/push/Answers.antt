@@ -5,11 +5,11 @@ use Rattle.mu_picture.specs.Layout.{HaveRows, after, after_marks, top}
 use Rattle.mu_picture.specs.declared.layout.Cursor.{Cursor}
 use Rattle.mu_picture.proofs.pictures.Rows.push.Goals as goal
 
-pub returns-clause-rows : goal.returns-clause-rows
-returns-clause-rows c = λ n held.
+pub returns-in_ok-push-in-Some-2-clause-rows : goal.returns-in_ok-push-in-Some-2-clause-rows
+returns-in_ok-push-in-Some-2-clause-rows c = λ n held.
     let self = c.args.self.now in
-    let mark = c.in-Some.mark in
-    let pushed = c.in_ok-push.ensures.items in
+    let mark = c.in-Some-2.mark in
+    let pushed = c.in_ok-push-in-Some-2.ensures.items in
     let room = c.is_full.ensures.room c.if-is_full.false in
     record {
       cursor = c.after-self.ensures.is

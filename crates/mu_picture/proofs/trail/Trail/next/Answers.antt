@@ -30,10 +30,10 @@ returns-in-None c = λ held.
     let events = c.args.events.now in
     let i = c.args.index in
     let past = history (take i events) in
-    let legal : IsLegalHistory config (c.event ∷ past) = (held.walk.legal, c.in-None.ensures past held.walk) in
+    let legal : IsLegalHistory config (_ ∷ past) = (held.walk.legal, c.in-None.ensures past held.walk) in
     let place : i ≡ length past = sym (length-reverse (take i events) ∙ length-take-le i events (omega (arith, c.requires.within))) in
     record {
-      event = c.event;
+      event = _;
       there = read_there events i _ c.requires.within;
       mark = c.take.ensures.mark past legal held place;
       stands = subst (λ l. StandsForTrail config script l c.take.new.self) (sym (history_at_next events i _ c.requires.within)) (c.take.ensures.stands past legal held);
