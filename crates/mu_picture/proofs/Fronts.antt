@@ -17,6 +17,11 @@ pub front_size : (c : Config) (events : List Event) (broken : Option Broken) →
 front_size c events None legal = refl
 front_size c events (Some broken) breaks = length-take-le broken.index events (omega (arith, slice_get_within events broken.index broken.event breaks.there))
 
+-- they are no more than those of the list
+pub front_low : (c : Config) (events : List Event) (broken : Option Broken) → Explains c events broken → length (legal_front events broken) ≤ length events
+front_low c events None legal = omega arith
+front_low c events (Some broken) breaks = omega (arith, slice_get_within events broken.index broken.event breaks.there, front_size c events (Some broken) breaks)
+
 -- their beginnings are those of the list
 pub front_start : (c : Config) (events : List Event) (broken : Option Broken) (n : ℕ) → Explains c events broken → n ≤ length (legal_front events broken) → take n (legal_front events broken) ≡ take n events
 front_start c events None n legal low = refl

@@ -2,7 +2,7 @@ use Rattle.std.proofs.Common.{◌≡◌, ◌∙◌, ◌<◌, sym, length, take, 
 use Rattle.std.proofs.lemmas.List.{length-take-le}
 use Rattle.mu_model.specs.Histories.{history}
 use Rattle.mu_picture.specs.Rows.{AddsStep}
-use Rattle.mu_picture.proofs.Filling.{adds, early_steps, fresh_steps, same_asked}
+use Rattle.mu_picture.proofs.Filling.{adds, early_steps, fresh_steps, more_rows, same_asked}
 use Rattle.mu_picture.proofs.pictures.Rows.fill.Goals as goal
 
 pub returns-then-is_some-clause-holds : goal.returns-then-is_some-clause-holds
@@ -31,6 +31,6 @@ loop-index-preserved c =
     record {
       trail = taken.stands;
       steps = adds config script events i c.next.new.self c.in-Ok.mark c.loop-index.self c.push.new.self low taken c.in_ok-push.ensures.asked
-          (subst (λ m. AddsStep i m c.loop-index.self c.push.new.self) c.kept_mark.ensures c.in_ok-push.ensures.adds) (c.in_ok-push.ensures.rows i held.steps.held) held.steps;
+          (subst (λ m. AddsStep i m c.loop-index.self c.push.new.self) c.kept_mark.ensures c.in_ok-push.ensures.adds) (c.in_ok-push.ensures.rows i (more_rows (length (take i events)) i c.loop-index.self (omega (arith, length-take-le i events (omega (arith, low)))) held.steps.held)) held.steps;
       asked = same_asked c.args.self.now c.loop-index.self c.push.new.self held.asked c.in_ok-push.ensures.asked;
     }
