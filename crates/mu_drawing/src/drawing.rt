@@ -1,5 +1,5 @@
 //! From the bytes of a trace to its picture.
-ghost use Rattle.std.specs.Prelude.{◌≡◌, ◌-◌, ◌≤◌, ◌<◌, ◌^◌, length};
+ghost use Rattle.std.specs.Prelude.{◌≡◌, ◌-◌, ◌≤◌, ◌<◌, ◌^◌, length, option_map};
 ghost use Rattle.mu_input.specs.declared.TheConstants.{TRACE_LIMIT};
 ghost use Rattle.mu_model.specs.Contents.{IsConfig};
 ghost use Rattle.mu_text.specs.Lines.{lines};
@@ -90,12 +90,18 @@ fn drawing_of_events(
     ensures { TellsOfEvents job.now line events.now asked (told_with result) }
 {
     let (picture, broken) = picture_of(alloc, &job.config, &job.script, events, asked)?;
+    let breach = breach_in(&broken);
+    let sheet = drawing_of(alloc, job, line, &picture, &breach)?;
+    Ok((sheet, broken.is_none()))
+}
+
+/// The event that breaks a list, if one does, as it is drawn.
+fn breach_in(broken: &Option<Broken>) -> Option<Breach>
+    ensures { result ≡ option_map breach_with broken.now }
+{
     match broken {
-        None => Ok((drawing_of(alloc, job, line, &picture, &None)?, true)),
-        Some(broken) => {
-            let breach = Some(breach_of(&broken));
-            Ok((drawing_of(alloc, job, line, &picture, &breach)?, false))
-        }
+        None => None,
+        Some(broken) => Some(breach_of(broken)),
     }
 }
 
