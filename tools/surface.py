@@ -41,7 +41,7 @@ WORD = re.compile(r"[A-Za-z_][\w'-]*")
 NAMES = re.compile(r"\b(\w+)::(\{[^}]*\}|\w+)")
 # Functions that say want of memory for another reason: no memory has as many bytes as were asked for; the
 # system says that the words of the command line can't be had, but not as an allocator does.
-MADE_UP = {("mu_io", "read_all"), ("mu_drawing", "unread"), ("mu_top", "end_without_words")}
+MADE_UP = {("mu_io", "read_all"), ("mu_drawing", "unread_output"), ("mu_top", "end_without_words")}
 # What is left as it is until its crate is proved anew for another reason.
 LEFT = set()
 # What is no code: comments, texts, ghost items, and imports; and where a clause begins.

@@ -1,12 +1,10 @@
 -- What a step leaves of the marks of a picture, and how long its lists are.
-use Rattle.std.proofs.Common.{◌≡◌, ◌<◌, Bool, true, ℕ, zero, suc, ap, ◌∙◌, ◌∷◌, List, [], length, take, get_or, refl, subst, arith}
-use Rattle.std.specs.Prelude.{if◌then◌else◌, is_some, nat_le}
+use Rattle.std.proofs.Common.{◌≡◌, Bool, ℕ, zero, suc, ap, ◌∙◌, ◌∷◌, List, [], length, refl, arith}
+use Rattle.std.specs.Prelude.{if◌then◌else◌, nat_le}
 use Rattle.std.specs.declared.option.Option.{Option}
 use Rattle.std.proofs.lemmas.List.{length-append}
 use Rattle.mu_model.specs.declared.script.Script.{Script}
-use Rattle.mu_outcome.proofs.Places.{read_there}
-use Rattle.mu_model.specs.Histories.{history}
-use Rattle.mu_picture.specs.Marks.{HasMark, kept, mark_of, marks_of, with_mark}
+use Rattle.mu_picture.specs.Marks.{kept, mark_of, marks_of, with_mark}
 use Rattle.mu_picture.specs.Openings.{opening_of, openings_of}
 use Rattle.mu_picture.specs.declared.marks.Mark.{Mark}
 use Rattle.mu_model.specs.declared.config.Config.{Config}
@@ -26,9 +24,3 @@ pub length_openings : (c : Config) (script : Script) (n : ℕ) (past : List Even
 length_openings c script zero past = refl
 length_openings c script (suc n) past =
     length-append (openings_of c script n past) (opening_of c script n past ∷ []) ∙ (omega (arith, length_openings c script n past))
-
--- a step has a mark, if what is made of the event that is read there has one
-pub marked_at : (c : Config) (script : Script) (events : List Event) (brief : Bool) (step : ℕ) (d : Event) (mark : Option Mark) → step < length events
-    → mark ≡ kept brief (mark_of c script (history (take step events)) (get_or events step d)) → is_some mark ≡ true → HasMark c script events brief step
-marked_at c script events brief step d mark low is some =
-    record { event = get_or events step d; there = read_there events step d low; drawn = subst (λ m. is_some m ≡ true) is some }
