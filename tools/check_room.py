@@ -80,7 +80,7 @@ def main():
         print(f"check_room: the sources of {len(names)} crates are those of today in {room}")
         return 0
     write_copy(names, room)
-    crates = kit().crates_below(os.path.join(room, "crates"))
+    crates = [it for it in kit().crates_below(os.path.join(room, "crates")) if not (it.is_program or it.is_static)]
     without = [crate.name for crate in crates if not give(crate)]
     print(f"check_room: {len(crates) - len(without)} libraries in {room}; none of {', '.join(without) or 'no crate'}")
     return 0
