@@ -9,6 +9,7 @@ two things: in a new clone the first check proves all crates below its own, for 
 at once. It is for writing proofs; only the gate's word counts. Edit the sources here. What a check kept in the room
 stays when it is refreshed, and a crate that has changed is proved there by the first check above it.
 """
+import functools
 import glob
 import importlib.machinery
 import importlib.util
@@ -31,6 +32,8 @@ def kit():
     loader = importlib.machinery.SourceFileLoader("rtlib", f"{KIT}/bin/rtlib.py")
     module = importlib.util.module_from_spec(importlib.util.spec_from_loader("rtlib", loader))
     loader.exec_module(module)
+    # A crate's sum is made of those of all below it: each once.
+    module.Crate.stamp = functools.cache(module.Crate.stamp)
     return module
 
 
