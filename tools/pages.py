@@ -28,12 +28,12 @@ PATH = re.compile(r"[\w.-]+(/[\w.-]+)+/?|[\w-]+\.(rt|antt|md|py|job|trace|svg|ta
 FOREIGN = {"sched_yield", "NoMemory", "BTreeMap", "BTreeMaps", "crossbeam_utils", "left_right"}
 
 # The words of a reason: its clause in the definition, the text that this names, and each value in its place.
-REASON_CLAUSE = re.compile(r"^reason_words \(?Reason\.(\w+)[^=\n]*=((?: .*)?\n(?:    .*\n)*)", re.MULTILINE)
+REASON_CLAUSE = re.compile(r"^told_of \(?Reason\.(\w+)[^=\n]*=(.*\n(?:(?!told_of|\n).*\n)*)", re.MULTILINE)
 TEXT = re.compile(r'^const (\w+): &\[u8\] =\s*b"([^"]*)";', re.MULTILINE)
 TEXT_NAME = re.compile(r"\b[A-Z][A-Z_]+\b")
 # Where a text goes on in the next line.
 NEXT_LINE = re.compile(r"\\\n\s*")
-VALUE = re.compile(r"(?:decimal|number_or_none|entered_words) (\w+)")
+VALUE = re.compile(r"Value\.\w+ (\w+)")
 # In a row of two sentences: what stands between the first and the end of the second.
 OTHER_END = "; or, if it has none, in place of the last words: "
 
@@ -168,8 +168,8 @@ def without_help():
 def defined_reasons():
     """The sentences of each reason of `mu why`, from their definition, each value in italics."""
     sentences = {}
-    texts = {name: NEXT_LINE.sub("", text) for name, text in TEXT.findall(contents("crates/mu_report/src/reasons.rt"))}
-    for reason, body in REASON_CLAUSE.findall(contents("crates/mu_report/specs/Reasons.antt")):
+    texts = {name: NEXT_LINE.sub("", text) for name, text in TEXT.findall(contents("crates/mu_model/src/wording.rt"))}
+    for reason, body in REASON_CLAUSE.findall(contents("crates/mu_model/specs/Points.antt")):
         words = texts[TEXT_NAME.search(body)[0]].replace("#", "*{}*")
         sentences.setdefault(reason, []).append(words.format(*VALUE.findall(body)))
     return sentences

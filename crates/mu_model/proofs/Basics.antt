@@ -1,6 +1,5 @@
 -- Small facts about numbers, booleans and options.
-use Rattle.std.proofs.Common.{◌≡◌, ℕ, suc, ◌+◌, Bool, true, false, ◌==◌, ◌&&◌, ◌||◌, refl, sym, ◌∙◌, ap, subst, arith, None, Some, eq-eqb, true≢false}
-use Rattle.mu_model.specs.Histories.{all_below}
+use Rattle.std.proofs.Common.{◌≡◌, ℕ, Bool, true, false, ◌==◌, ◌&&◌, ◌||◌, refl, sym, None, Some, eq-eqb, true≢false}
 
 -- two things that are there and equal as such are the same thing
 pub same_some : {A : Type 0} (x y : A) → Some x ≡ Some y → x ≡ y

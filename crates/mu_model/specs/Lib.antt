@@ -23,6 +23,7 @@ pub mod Reasons
 pub mod Regions
 pub mod Room
 pub mod Scores
+pub mod Sentences
 pub mod Serving
 pub mod Steps
 pub mod Stops

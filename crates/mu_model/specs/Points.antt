@@ -21,6 +21,8 @@ use Rattle.mu_model.specs.Room.{last_head, reserve}
 use Rattle.mu_model.specs.Scores.{least_below}
 use Rattle.mu_model.specs.Serving.{drained_since_close, has_unserved_ask, is_least_waiting, looked_since_close, must_drain}
 use Rattle.mu_model.specs.declared.reason.Reason.{Reason}
+use Rattle.mu_model.specs.declared.sentence.Value.{Value}
+use Rattle.mu_model.specs.declared.wording.TheConstants.{BUDGET, NO_REPLICA, NO_REGION, OUT_OF_TURN, NOT_BEGUN, NOT_GRANTED, OVER, NO_TARGET, MINIMUM_UNREAD, UNCONFIRMED, NOT_MEMBER, NO_PLACE, NOT_ENTERED_FOR_MINIMUM, BELOW_MINIMUM, NOT_THE_OWN_NUMBER, NOT_THE_LEAST_NUMBER, NO_POSITION, NOT_READABLE, OUT_OF_REACH, NO_QUORUM, OTHER_NUMBER, NOT_ENTERED, NOT_LOOKED, BEHIND, NOT_NEXT, NO_ROOM, PAST_SEEN, OTHER_FIRST, JOINED_SINCE, MEMBER_NOT_LOOKED, OTHER_ACCEPTED, NO_BATCH, NOT_OWN, NOT_WRITTEN, NOT_NEXT_OF_CLIENT, NOT_KNOWN, NOT_FILLED, OWN_BEAT, NO_ROW, NO_WORD, OTHER_WORD, WRITTEN, NO_WRITER, NO_ROW_WORD, NOT_APPLIED, NOT_REACHED, CLOSING, NOBODY_WAITS, NOTHING_TO_DRAIN, TARGET_LOOKED, TARGET_NOT_LOOKED, DRAINED, NOT_CLOSING, NOT_DRAINED, NOT_LEAST_WAITING}
 
 -- the region that the step of r asks
 abbrev pub last_ask : ℕ → ℕ → Verb → Option ℕ
@@ -99,6 +101,99 @@ IsMet c r past Reason.Drained = drained_since_close r past ≡ false
 IsMet c r past Reason.NotClosing = fence_closing r past ≡ true
 IsMet c r past Reason.NotDrained = must_drain r past ≡ true → drained_since_close r past ≡ true
 IsMet c r past (Reason.NotLeastWaiting w least) = is_least_waiting r past w ≡ true
+
+-- what is said of a point that isn't met: words with a # for each value, and the values
+abbrev pub told_of : Reason → List ℕ × List Value
+told_of (Reason.Budget steps) = (BUDGET.now, Value.Wide steps ∷ [])
+told_of (Reason.NoReplica replica) = (NO_REPLICA.now, Value.Byte replica ∷ [])
+told_of (Reason.NoRegion region) = (NO_REGION.now, Value.Byte region ∷ [])
+told_of (Reason.OutOfTurn region asked) =
+    (OUT_OF_TURN.now, Value.Byte region ∷ Value.Region asked ∷ [])
+told_of Reason.NotBegun = (NOT_BEGUN.now, [])
+told_of (Reason.NotGranted region) = (NOT_GRANTED.now, Value.Byte region ∷ [])
+told_of Reason.Over = (OVER.now, [])
+told_of Reason.NoTarget = (NO_TARGET.now, [])
+told_of (Reason.MinimumUnread region) = (MINIMUM_UNREAD.now, Value.Byte region ∷ [])
+told_of Reason.Unconfirmed = (UNCONFIRMED.now, [])
+told_of (Reason.NotMember region) = (NOT_MEMBER.now, Value.Byte region ∷ [])
+told_of (Reason.NoPlace place) = (NO_PLACE.now, Value.Short place ∷ [])
+told_of (Reason.NotEnteredForMinimum region entered) =
+    (NOT_ENTERED_FOR_MINIMUM.now, Value.Byte region ∷ Value.Entered entered ∷ [])
+told_of (Reason.BelowMinimum number minimum) =
+    (BELOW_MINIMUM.now, Value.Wide number ∷ Value.Long minimum ∷ [])
+told_of (Reason.NotTheNumber number (Some own) read put right) =
+    (NOT_THE_OWN_NUMBER.now, Value.Wide number ∷ Value.Own right ∷ [])
+told_of (Reason.NotTheNumber number None read put right) = (
+  NOT_THE_LEAST_NUMBER.now,
+  Value.Wide number ∷ Value.Own right ∷ Value.Long read ∷ Value.Wide put ∷ [],
+)
+told_of (Reason.NoPosition position last) =
+    (NO_POSITION.now, Value.Short position ∷ Value.Count last ∷ [])
+told_of (Reason.NotReadable region) = (NOT_READABLE.now, Value.Byte region ∷ [])
+told_of (Reason.OutOfReach region position) =
+    (OUT_OF_REACH.now, Value.Byte region ∷ Value.Short position ∷ [])
+told_of Reason.NoQuorum = (NO_QUORUM.now, [])
+told_of (Reason.OtherNumber number own) =
+    (OTHER_NUMBER.now, Value.Wide number ∷ Value.Own own ∷ [])
+told_of (Reason.NotEntered region place entered) =
+    (NOT_ENTERED.now, Value.Byte region ∷ Value.Short place ∷ Value.Entered entered ∷ [])
+told_of (Reason.NotLooked region position) =
+    (NOT_LOOKED.now, Value.Short position ∷ Value.Byte region ∷ [])
+told_of (Reason.Behind region position) =
+    (BEHIND.now, Value.Byte region ∷ Value.Short position ∷ [])
+told_of (Reason.NotNext position count) =
+    (NOT_NEXT.now, Value.Short position ∷ Value.Count count ∷ [])
+told_of (Reason.NoRoom position free replica head) = (
+  NO_ROOM.now,
+  Value.Short position ∷ Value.Byte free ∷ Value.Byte replica ∷ Value.Long head ∷ [],
+)
+told_of (Reason.PastSeen region position) =
+    (PAST_SEEN.now, Value.Short position ∷ Value.Byte region ∷ [])
+told_of (Reason.OtherFirst position value first) =
+    (OTHER_FIRST.now, Value.Short value ∷ Value.Short position ∷ Value.Short first ∷ [])
+told_of (Reason.JoinedSince position) = (JOINED_SINCE.now, Value.Short position ∷ [])
+told_of (Reason.MemberNotLooked region position) =
+    (MEMBER_NOT_LOOKED.now, Value.Byte region ∷ Value.Short position ∷ [])
+told_of (Reason.OtherAccepted position value number accepted) = (
+  OTHER_ACCEPTED.now,
+  Value.Short value ∷ Value.Short position ∷ Value.Wide number ∷ Value.Short accepted ∷ [],
+)
+told_of (Reason.NoBatch value) = (NO_BATCH.now, Value.Short value ∷ [])
+told_of (Reason.NotOwn value) = (NOT_OWN.now, Value.Short value ∷ [])
+told_of (Reason.NotWritten value row word) =
+    (NOT_WRITTEN.now, Value.Byte word ∷ Value.Short row ∷ Value.Short value ∷ [])
+told_of (Reason.NotNextOfClient value number count) =
+    (NOT_NEXT_OF_CLIENT.now, Value.Short value ∷ Value.Short number ∷ Value.Short count ∷ [])
+told_of (Reason.NotKnown fuo count) = (NOT_KNOWN.now, Value.Count count ∷ Value.Short fuo ∷ [])
+told_of (Reason.NotFilled region position) =
+    (NOT_FILLED.now, Value.Short position ∷ Value.Byte region ∷ [])
+told_of (Reason.OwnBeat replica) = (OWN_BEAT.now, Value.Byte replica ∷ [])
+told_of (Reason.NoRow row) = (NO_ROW.now, Value.Short row ∷ [])
+told_of (Reason.NoWord word) = (NO_WORD.now, Value.Byte word ∷ [])
+told_of (Reason.OtherWord row word given spelled client number) = (
+  OTHER_WORD.now,
+  Value.Byte word ∷ Value.Short row ∷ Value.Byte client ∷ Value.Short number
+      ∷ Value.Long spelled ∷ Value.Long given ∷ [],
+)
+told_of (Reason.Written row word) = (WRITTEN.now, Value.Byte word ∷ Value.Short row ∷ [])
+told_of (Reason.NoWriter value) = (NO_WRITER.now, Value.Short value ∷ [])
+told_of (Reason.NoRowWord head count value word) = (
+  NO_ROW_WORD.now,
+  Value.Count count ∷ Value.Short head ∷ Value.Byte word ∷ Value.Short value ∷ [],
+)
+told_of (Reason.NotApplied head count) =
+    (NOT_APPLIED.now, Value.Count count ∷ Value.Short head ∷ [])
+told_of (Reason.NotReached head) = (NOT_REACHED.now, Value.Short head ∷ [])
+told_of Reason.Closing = (CLOSING.now, [])
+told_of Reason.NobodyWaits = (NOBODY_WAITS.now, [])
+told_of Reason.NothingToDrain = (NOTHING_TO_DRAIN.now, [])
+told_of Reason.TargetLooked = (TARGET_LOOKED.now, [])
+told_of Reason.TargetNotLooked = (TARGET_NOT_LOOKED.now, [])
+told_of Reason.Drained = (DRAINED.now, [])
+told_of Reason.NotClosing = (NOT_CLOSING.now, [])
+told_of Reason.NotDrained = (NOT_DRAINED.now, [])
+told_of (Reason.NotLeastWaiting replica least) =
+    (NOT_LEAST_WAITING.now, Value.Byte replica ∷ Value.Region least ∷ [])
 
 -- the reasons of each number below n, from 0 on
 abbrev pub each_below : ℕ → (ℕ → List Reason) → List Reason

@@ -16,7 +16,9 @@ mod rooms;
 mod rows;
 mod scoring;
 mod script;
+mod sentence;
 mod sequence;
+mod wording;
 
 pub use config::{Config, Row};
 pub use contents::{
@@ -32,6 +34,7 @@ pub use rooms::{push_within, reserve_to};
 pub use rows::Rows;
 pub use scoring::score_after;
 pub use script::{End, Pause, Pauses, Script, Stop, Stops, is_stopped};
+pub use sentence::{Sentence, Value};
 pub use sequence::Sequence;
 
 /// Want of memory.

@@ -3,7 +3,7 @@ use Rattle.std.proofs.Common.{◌≡◌, ℕ, ◌+◌, ◌<◌, ◌≤◌, List,
 use Rattle.std.proofs.lemmas.List.{drop_all, drop_more}
 use Rattle.mu_report.specs.Sentences.{sentence, value_words}
 use Rattle.mu_report.specs.declared.sentence.TheConstants.{PLACE}
-use Rattle.mu_report.specs.declared.sentence.Value.{Value}
+use Rattle.mu_model.specs.declared.sentence.Value.{Value}
 
 -- words without values
 pub alone : (words : List ℕ) → sentence words [] ≡ words

@@ -5,9 +5,18 @@ use Rattle.std.specs.Fmt.{decimal}
 use Rattle.mu_events.specs.Lines.{answer_words}
 use Rattle.mu_model.specs.declared.event.Answer.{Answer}
 use Rattle.mu_model.specs.declared.script.Stop.{Stop}
-use Rattle.mu_report.specs.Sentences.{leads_words, sentence}
+use Rattle.mu_report.specs.Sentences.{sentence}
 use Rattle.mu_outcome.specs.declared.moment.Fact.{Fact}
+use Rattle.mu_outcome.specs.declared.moment.Leads.{Leads}
 use Rattle.mu_outcome.specs.declared.moment.Moment.{Moment}
+
+-- what the last leadership of r has come to
+abbrev pub leadership_words : ℕ → Leads → List ℕ
+leadership_words r Leads.None = sentence (codes "replica # leadership none") (decimal r ∷ [])
+leadership_words r Leads.Begun = sentence (codes "replica # leadership begun") (decimal r ∷ [])
+leadership_words r (Leads.Number b) =
+    sentence (codes "replica # leadership number #") (decimal r ∷ decimal b ∷ [])
+leadership_words r Leads.Over = sentence (codes "replica # leadership over") (decimal r ∷ [])
 
 -- a fact
 abbrev pub fact_words : Fact → List ℕ
@@ -23,8 +32,7 @@ fact_words (Fact.Entry p i b v) =
 fact_words (Fact.Reached r steps known applied named) =
     sentence (codes "replica # steps # known # applied # names #")
     (decimal r ∷ decimal steps ∷ decimal known ∷ decimal applied ∷ decimal named ∷ [])
-fact_words (Fact.Leadership r leads) =
-    sentence (codes "replica # leadership #") (decimal r ∷ leads_words leads ∷ [])
+fact_words (Fact.Leadership r leads) = leadership_words r leads
 fact_words (Fact.Member r p) = sentence (codes "replica # member #") (decimal r ∷ decimal p ∷ [])
 fact_words (Fact.Failed r q) = sentence (codes "replica # failed #") (decimal r ∷ decimal q ∷ [])
 fact_words (Fact.Known r i v) =

@@ -2,14 +2,33 @@
 //! all obey their script.
 ghost use Rattle.std.specs.Prelude.{◌≡◌, ◌*◌, ◌<◌, ◌≤◌, length, map};
 ghost use Rattle.mu_report.specs.declared.line.TheConstants.{LINE_BYTES};
-ghost use Rattle.mu_report.specs.Facts.{fact_words, moment_lines, moment_words, noted_lines, stray_words};
-ghost use Rattle.mu_report.specs.Sentences.{sentence_room, sentence_words};
+ghost use Rattle.mu_report.specs.Facts.{fact_words, leadership_words, moment_lines, moment_words, noted_lines, stray_words};
+ghost use Rattle.mu_model.specs.Sentences.{sentence_room};
+ghost use Rattle.mu_report.specs.Sentences.{sentence_words};
 
 use crate::line::{HasLine, Line, print_each, print_numbered};
 use crate::printer::Printer;
-use crate::sentence::{Sentence, Value, push_sentence};
-use mu_model::Stop;
-use mu_outcome::{Fact, Moment};
+use crate::sentence::push_sentence;
+use mu_model::{Sentence, Stop, Value};
+use mu_outcome::{Fact, Leads, Moment};
+
+/// What the last leadership of a replica has come to.
+fn leadership_sentence(replica: u8, leads: Leads) -> Sentence
+    ensures bytes { sentence_words result ≡ leadership_words replica leads }
+    ensures room { sentence_room result ≤ 156 }
+{
+    let replica = Value::Byte(replica);
+    match leads {
+        Leads::None => Sentence::One(b"replica # leadership none", replica),
+        Leads::Begun => Sentence::One(b"replica # leadership begun", replica),
+        Leads::Number(number) => Sentence::Two(
+            b"replica # leadership number #",
+            replica,
+            Value::Wide(number),
+        ),
+        Leads::Over => Sentence::One(b"replica # leadership over", replica),
+    }
+}
 
 /// A fact, as a sentence.
 fn sentence_of(fact: Fact) -> Sentence
@@ -68,11 +87,7 @@ fn sentence_of(fact: Fact) -> Sentence
             Value::Count(applied),
             Value::Byte(named),
         ),
-        Fact::Leadership { replica, leads } => Sentence::Two(
-            b"replica # leadership #",
-            Value::Byte(replica),
-            Value::Leads(leads),
-        ),
+        Fact::Leadership { replica, leads } => leadership_sentence(replica, leads),
         Fact::Member { replica, region } => Sentence::Two(
             b"replica # member #",
             Value::Byte(replica),

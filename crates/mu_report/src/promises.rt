@@ -2,12 +2,14 @@
 ghost use Rattle.std.specs.Prelude.{◌+◌, ◌++◌, ◌<◌, ◌≡◌, ◌≤◌, length};
 ghost use Rattle.mu_report.specs.declared.line.TheConstants.{LINE_BYTES};
 ghost use Rattle.mu_report.specs.Promises.{cause_words, promise_lines, promise_words, step_words};
-ghost use Rattle.mu_report.specs.Sentences.{sentence_room, sentence_words};
+ghost use Rattle.mu_model.specs.Sentences.{sentence_room};
+ghost use Rattle.mu_report.specs.Sentences.{sentence_words};
 
 use crate::line::Line;
 use crate::printer::Printer;
-use crate::sentence::{Sentence, Value, push_sentence};
+use crate::sentence::push_sentence;
 use mu_enough::{Cause, Promise, Promises};
+use mu_model::{Sentence, Value};
 
 /// Prints what a job promises. Takes no memory.
 pub fn print_promises<P: Printer>(out: &mut P, promises: &Promises)

@@ -1,59 +1,15 @@
-//! Sentences with places for values, and the way of one to a line.
+//! The way of a sentence to a line.
 ghost use Rattle.std.specs.Prelude.{◌≡◌, ◌+◌, ◌≤◌, ℕ, List, ◌∷◌, ◌++◌, length, map};
 ghost use Rattle.mu_report.specs.declared.line.TheConstants.{LINE_BYTES};
-ghost use Rattle.mu_report.specs.Sentences.{entered_words, leads_words, number_or_none, rooms_of, sentence, sentence_room, sentence_words, value_room, value_words};
+ghost use Rattle.mu_model.specs.Sentences.{rooms_of, sentence_room, value_room};
+ghost use Rattle.mu_report.specs.Sentences.{entered_words, number_or_none, sentence, sentence_words, value_words};
 
 use crate::line::Line;
 use mu_events::push_answer;
-use mu_model::{Answer, Fence, Target};
-use mu_outcome::Leads;
-
-/// A value that a sentence tells.
-#[derive(Clone, Copy)]
-pub(crate) enum Value {
-    /// A number of 8 bits.
-    Byte(u8),
-    /// A number of 16 bits.
-    Short(u16),
-    /// A number of 32 bits.
-    Wide(u32),
-    /// A number of 64 bits.
-    Long(u64),
-    /// How many there are.
-    Count(usize),
-    /// A region or a replica, if there is one.
-    Region(Option<u8>),
-    /// A number of a leadership, if it has one.
-    Own(Option<u32>),
-    /// What a region is entered for.
-    Entered(Option<Target>),
-    /// A fence, as a replica sees it.
-    Seen(Fence),
-    /// What a leadership has come to.
-    Leads(Leads),
-}
+use mu_model::{Answer, Sentence, Target, Value};
 
 /// Stands in the words of a sentence for its next value.
 const PLACE: u8 = b'#';
-
-/// A sentence, by how many values it has: words with a # for each, and the values in their order.
-#[derive(Clone, Copy)]
-pub(crate) enum Sentence {
-    /// Only words.
-    Plain(&'static [u8]),
-    /// One value.
-    One(&'static [u8], Value),
-    /// Two values.
-    Two(&'static [u8], Value, Value),
-    /// Three values.
-    Three(&'static [u8], Value, Value, Value),
-    /// Four values.
-    Four(&'static [u8], Value, Value, Value, Value),
-    /// Five values.
-    Five(&'static [u8], Value, Value, Value, Value, Value),
-    /// Six values.
-    Six(&'static [u8], Value, Value, Value, Value, Value, Value),
-}
 
 /// Adds what a region is entered for.
 fn push_entered(line: &mut Line, entered: Option<Target>)
@@ -96,23 +52,6 @@ fn push_own(line: &mut Line, own: Option<u32>)
     }
 }
 
-/// Adds what a leadership has come to.
-fn push_leads(line: &mut Line, leads: Leads)
-    requires { length line.old + 37 ≤ LINE_BYTES }
-    ensures bytes { line.new ≡ line.old ++ leads_words leads }
-    ensures room { length line.new ≤ length line.old + 17 }
-{
-    match leads {
-        Leads::None => line.push(b"none"),
-        Leads::Begun => line.push(b"begun"),
-        Leads::Number(number) => {
-            line.push(b"number ");
-            line.push_number(u64::from(number));
-        }
-        Leads::Over => line.push(b"over"),
-    }
-}
-
 /// Adds a value.
 fn push_value(line: &mut Line, value: Value)
     requires { length line.old + value_room value + 21 ≤ LINE_BYTES }
@@ -129,7 +68,6 @@ fn push_value(line: &mut Line, value: Value)
         Value::Own(own) => push_own(line, own),
         Value::Entered(entered) => push_entered(line, entered),
         Value::Seen(fence) => push_answer(line, &Answer::Seen(fence)),
-        Value::Leads(leads) => push_leads(line, leads),
     }
 }
 

@@ -27,6 +27,3 @@ returns-in-Entered-clause-bytes c = rw c.in-Entered.is (rw c.push_entered.ensure
 
 pub returns-in-Seen-clause-bytes : goal.returns-in-Seen-clause-bytes
 returns-in-Seen-clause-bytes c = rw c.in-Seen.is (rw c.push_answer.ensures.bytes refl)
-
-pub returns-in-Leads-clause-bytes : goal.returns-in-Leads-clause-bytes
-returns-in-Leads-clause-bytes c = rw c.in-Leads.is (rw c.push_leads.ensures.bytes refl)

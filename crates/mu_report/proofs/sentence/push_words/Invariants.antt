@@ -1,6 +1,7 @@
 -- The words from this one on and the values that are left make the rest.
 use Rattle.std.proofs.Common.{◌+◌, ◌++◌, ◌≡◌, ◌≤◌, drop, length, map}
-use Rattle.mu_report.specs.Sentences.{rooms_of, sentence, value_words}
+use Rattle.mu_model.specs.Sentences.{rooms_of}
+use Rattle.mu_report.specs.Sentences.{sentence, value_words}
 use Rattle.mu_report.proofs.sentence.push_words.Given as goal
 
 abbrev pub invariant-loop-byte : goal.invariant-loop-byte
