@@ -260,7 +260,7 @@ impl Course {
     pub fn applied_values(&self) -> &[u16]
         ensures { TellsOf self.now applied_of result.now }
     {
-        first_values(self.known(), self.replica.held_rows.applied_length())
+        first_values(self.known(), self.replica.held_rows.applied_count())
     }
 
     /// What it committed, in order.

@@ -94,7 +94,7 @@ impl Follow {
         ensures { Plans self.now (λ c r mine. first_word_of c r mine
             (slice_get (known c r mine) (length (applied c r mine)))) result }
     {
-        match self.knowing.known().get(self.rows.applied_length()) {
+        match self.knowing.known().get(self.rows.applied_count()) {
             Some(v) => missing_row(&self.config, &self.rows, *v),
             None => None,
         }

@@ -207,7 +207,7 @@ impl Follow {
     pub fn applied_count(&self) -> usize
         ensures { Tells StandsForFollow self.now (λ c r mine. length (applied c r mine)) result }
     {
-        self.rows.applied_length()
+        self.rows.applied_count()
     }
 
     /// What the replica committed, in order.

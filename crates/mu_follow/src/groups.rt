@@ -81,7 +81,7 @@ impl Follow {
         ensures { Tells StandsForFollow self.now
             (λ c r mine. drop self.now.progress.handed (applied c r mine)) result.now }
     {
-        let applied = first_values(self.known(), self.rows.applied_length());
+        let applied = first_values(self.known(), self.rows.applied_count());
         values_after(applied, self.progress.handed)
     }
 

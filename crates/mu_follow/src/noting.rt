@@ -106,7 +106,7 @@ pub fn count_applied(
         → HoldsCompletion config.now (applied config.now r mine) completion.old
         → HoldsCompletion config.now (applied config.now r (event ∷ mine)) completion.new }
 {
-    completion.take(config, knowing.known(), rows.applied_length());
+    completion.take(config, knowing.known(), rows.applied_count());
 }
 
 impl Follow {

@@ -309,15 +309,10 @@ impl HeldRows {
     }
 
     /// How many of the known values the replica has applied.
-    pub fn applied_length(&self) -> usize
-        ensures { Tells StandsForHeldRows self.now (λ c r mine. length (applied c r mine)) result }
-    {
-        self.applied
-    }
-
-    /// The same number.
     pub fn applied_count(&self) -> usize
-        ensures { result ≡ self.now.applied }
+        ensures tells { Tells StandsForHeldRows self.now (λ c r mine. length (applied c r mine))
+            result }
+        ensures kept { result ≡ self.now.applied }
     {
         self.applied
     }

@@ -1,6 +1,6 @@
 -- fault, broken, explains: what is wrong with an event; where a list breaks; that a list is legal
 -- or breaks there.
-use Rattle.std.specs.Prelude.{List, None, Some, take, ◌≡◌}
+use Rattle.std.specs.Prelude.{List, None, Some, take, ℕ, ◌≡◌}
 use Rattle.std.specs.declared.option.Option.{Option}
 use Rattle.std.specs.List.{slice_get}
 use Rattle.mu_model.specs.declared.config.Config.{Config}
@@ -34,3 +34,8 @@ pub record IsBroken (c : Config) (events : List Event) (broken : Broken) : Type 
 abbrev pub Explains : Config → List Event → Option Broken → Type 0
 Explains c events None = IsLegal c events
 Explains c events (Some broken) = IsBroken c events broken
+
+-- how many events are taken of those before `to`, if this is where the list breaks
+abbrev pub reached : Option Broken → ℕ → ℕ
+reached None to = to
+reached (Some broken) to = broken.index

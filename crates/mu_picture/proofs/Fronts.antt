@@ -7,10 +7,9 @@ use Rattle.std.proofs.lemmas.Option.{slice_get_within}
 use Rattle.mu_model.specs.declared.config.Config.{Config}
 use Rattle.mu_model.specs.declared.event.Event.{Event}
 use Rattle.mu_outcome.proofs.Places.{take-take}
-use Rattle.mu_outcome.specs.Breaks.{Explains}
+use Rattle.mu_outcome.specs.Breaks.{Explains, reached}
 use Rattle.mu_outcome.specs.declared.fault.Broken.{Broken}
 use Rattle.mu_picture.specs.Marks.{legal_front}
-use Rattle.mu_picture.specs.Trails.{reached}
 
 -- how many they are
 pub front_size : (c : Config) (events : List Event) (broken : Option Broken) → Explains c events broken → length (legal_front events broken) ≡ reached broken (length events)

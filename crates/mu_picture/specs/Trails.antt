@@ -37,12 +37,6 @@ abbrev pub TellsNoted : Config → List Event → Event → Option (Turn × Hear
 TellsNoted c mine e None = ⊥
 TellsNoted c mine e (Some noted) = TellsBoth c mine e noted.0 noted.1
 
--- how many events a walk has taken that was to take those before `to`, if this is where the list
--- broke
-abbrev pub reached : Option Broken → ℕ → ℕ
-reached None to = to
-reached (Some broken) to = broken.index
-
 -- the event at the index was taken, and has this mark, if it is drawn
 pub record HasTaken (c : Config) (script : Script) (events : List Event) (index : ℕ)
     (trail : Trail) (made : Option Mark) : Type 0 where

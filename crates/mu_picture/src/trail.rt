@@ -8,10 +8,11 @@ ghost use Rattle.mu_model.specs.Scores.{is_failed};
 ghost use Rattle.mu_model.specs.declared.config.Config.{Config as Settings};
 ghost use Rattle.mu_model.specs.declared.event.Event.{Event as Made};
 ghost use Rattle.mu_model.specs.declared.script.Script.{Script as Settled};
+ghost use Rattle.mu_outcome.specs.Breaks.{reached};
 ghost use Rattle.mu_picture.specs.Hearing.{heard_by};
 ghost use Rattle.mu_picture.specs.Marks.{mark_of};
 ghost use Rattle.mu_picture.specs.Openings.{opening_of};
-ghost use Rattle.mu_picture.specs.Trails.{HasPassed, IsAtNext, StandsForTrail, TellsNoted, reached};
+ghost use Rattle.mu_picture.specs.Trails.{HasPassed, IsAtNext, StandsForTrail, TellsNoted};
 
 use crate::deeds::{Heard, deed_of};
 use crate::marks::{Mark, mark_of};

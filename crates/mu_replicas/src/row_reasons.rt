@@ -160,7 +160,7 @@ impl Replica {
             (λ r mine. applied_to config.now r mine h (length (applied config.now r mine)))
             found result }
     {
-        let applied = self.held_rows.applied_length();
+        let applied = self.held_rows.applied_count();
         let done = usize::from(h) <= applied;
         if done {
             return found;

@@ -12,7 +12,7 @@ use Rattle.mu_input.specs.declared.TheConstants.{TRACE_LIMIT}
 use Rattle.mu_verdict.proofs.Breaking.{broken_before}
 use Rattle.mu_verdict.proofs.EventLines.{explained_is}
 use Rattle.mu_verdict.specs.Explained.{IsExplained}
-use Rattle.mu_verdict.specs.LineJudges.{count_to, GoesOn, HasTaken}
+use Rattle.mu_verdict.specs.LineJudges.{GoesOn, HasTaken}
 use Rattle.mu_verdict.specs.declared.line_judge.LineJudge.{LineJudge}
 use Rattle.mu_model.proofs.Budgets.{short_history}
 use Rattle.mu_model.proofs.Lists.{get_push_here}
@@ -20,7 +20,7 @@ use Rattle.mu_model.specs.Histories.{history}
 use Rattle.mu_model.specs.Legal.{IsLegal}
 use Rattle.mu_model.specs.declared.config.Config.{Config}
 use Rattle.mu_model.specs.declared.event.Event.{Event}
-use Rattle.mu_outcome.specs.Breaks.{Explains, IsBroken, IsFault}
+use Rattle.mu_outcome.specs.Breaks.{Explains, IsBroken, IsFault, reached}
 use Rattle.mu_outcome.specs.declared.fault.Broken.{Broken}
 use Rattle.mu_outcome.specs.declared.fault.Fault.{Fault}
 use Rattle.mu_text.specs.Lines.{lines}
@@ -37,7 +37,7 @@ pub record Whole (c : Config) (past : List Event) (judge : LineJudge) : Type 0 w
 pub whole_of : (c : Config) (start : ℕ) (past : List Event) (judge : LineJudge) → judge.broken ≡ None → HasTaken c start past judge → Whole c past judge
 whole_of c start past judge none held = by_broken judge.broken none held.count held.goes_on
   where
-    by_broken : (b : Option Broken) → b ≡ None → judge.events ≡ count_to past b → GoesOn c past b judge.judge → Whole c past judge
+    by_broken : (b : Option Broken) → b ≡ None → judge.events ≡ reached b (length past) → GoesOn c past b judge.judge → Whole c past judge
     by_broken None is count stands = record { count = count; stands = stands }
     by_broken (Some broken) clash count stands = absurd (let no : Some broken ≡ None = clash in cc)
 
@@ -63,7 +63,7 @@ goes_on c start past e old new before after config first held stands more = by_b
       first = first ∙ held.first;
       few = held.few;
       explains = subst (λ b. Explains c (past ++ e ∷ []) b) (sym is) stands_more.legal;
-      count = subst (λ b. new.events ≡ count_to (past ++ e ∷ []) b) (sym is) count;
+      count = subst (λ b. new.events ≡ reached b (length (past ++ e ∷ []))) (sym is) count;
       goes_on = subst (λ b. GoesOn c (past ++ e ∷ []) b new.judge) (sym is) stands_more;
     }
 
@@ -86,7 +86,7 @@ breaks c start past e fault old new before after config first same held wrong =
       first = first ∙ held.first;
       few = held.few;
       explains = subst (λ b. Explains c (past ++ e ∷ []) b) (sym after) breaks_there;
-      count = subst (λ b. new.events ≡ count_to (past ++ e ∷ []) b) (sym after) same;
+      count = subst (λ b. new.events ≡ reached b (length (past ++ e ∷ []))) (sym after) same;
       goes_on = subst (λ b. GoesOn c (past ++ e ∷ []) b new.judge) (sym after) tt;
     }
 
@@ -100,7 +100,7 @@ stays_broken c start past more judge found is held =
       first = held.first;
       few = held.few;
       explains = subst (λ b. Explains c (past ++ more) b) (sym is) (broken_before c past more found broken);
-      count = subst (λ b. judge.events ≡ count_to (past ++ more) b) (sym is) (subst (λ b. judge.events ≡ count_to past b) is held.count);
+      count = subst (λ b. judge.events ≡ reached b (length (past ++ more))) (sym is) (subst (λ b. judge.events ≡ reached b (length past)) is held.count);
       goes_on = subst (λ b. GoesOn c (past ++ more) b judge.judge) (sym is) tt;
     }
 
@@ -114,7 +114,7 @@ few_counted c start past judge held = by_broken judge.broken held.explains held.
         let same = length-reverse events in
         omega (arith, few, same)
 
-    by_broken : (b : Option Broken) → Explains c past b → judge.events ≡ count_to past b → judge.events ≤ 917497
+    by_broken : (b : Option Broken) → Explains c past b → judge.events ≡ reached b (length past) → judge.events ≤ 917497
     by_broken None legal count = let few = short past legal in omega (arith, few, count)
     by_broken (Some found) broken count =
         let within = slice_get_within past found.index found.event broken.there in
@@ -129,7 +129,7 @@ told_as_a_whole bytes spelled start judge limit fits count held =
     let few = few_lines bytes in
     explained_is bytes spelled (length spelled.events) (length (lines bytes)) (start + judge.events) judge.broken fits refl refl held.explains (omega (arith, few, limit)) (place judge.broken held.count)
   where
-    place : (b : Option Broken) → judge.events ≡ count_to spelled.events b
+    place : (b : Option Broken) → judge.events ≡ reached b (length spelled.events)
         → IfSome b (λ b. length spelled.events ≤ length (lines bytes) → b.index ≤ length spelled.events → length (lines bytes) < 2 ^ 31 → start + judge.events + length spelled.events ≡ length (lines bytes) + b.index)
     place None is = tt
     place (Some b) is = λ few within small. omega (arith, is, count)

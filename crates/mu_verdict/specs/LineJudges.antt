@@ -15,7 +15,7 @@ use Rattle.mu_model.specs.Histories.{history}
 use Rattle.mu_model.specs.declared.config.Config.{Config}
 use Rattle.mu_model.specs.declared.event.Event.{Event}
 use Rattle.mu_outcome.specs.declared.status.Status.{Status}
-use Rattle.mu_outcome.specs.Breaks.{Explains}
+use Rattle.mu_outcome.specs.Breaks.{Explains, reached}
 use Rattle.mu_outcome.specs.declared.fault.Broken.{Broken}
 use Rattle.mu_report.specs.declared.said.Said.{Said}
 use Rattle.mu_text.specs.Lines.{lines, words}
@@ -28,11 +28,6 @@ list_of (Some event) = event ∷ []
 -- the event that a line spells, as a list: none, if it spells none
 abbrev pub event_in : ℕ → List ℕ → List Event
 event_in replicas line = list_of (event_of replicas (words line))
-
--- how many events were taken before the one that breaks the list, or all of them
-abbrev pub count_to : List Event → Option Broken → ℕ
-count_to events None = length events
-count_to events (Some broken) = broken.index
 
 -- while the list isn't broken, the states are those that it leads to
 abbrev pub GoesOn : Config → List Event → Option Broken → Judge → Type 0
@@ -48,7 +43,7 @@ pub record HasTaken (c : Config) (start : ℕ) (events : List Event)
   pub first : judge.first ≡ start
   pub few : start < 2 ^ 31
   pub explains : Explains c events judge.broken
-  pub count : judge.events ≡ count_to events judge.broken
+  pub count : judge.events ≡ reached judge.broken (length events)
   pub goes_on : GoesOn c events judge.broken judge.judge
 
 -- the bytes spell a job, and the judge has taken no event of it; the first will stand in the line

@@ -3,7 +3,7 @@ use Rattle.std.specs.Prelude.{min}
 use Rattle.mu_model.specs.Histories.{history}
 use Rattle.mu_picture.specs.Marks.{EndsInPlace, legal_front, marks_of}
 use Rattle.mu_picture.specs.Openings.{openings_of}
-use Rattle.mu_picture.specs.Trails.{reached}
+use Rattle.mu_outcome.specs.Breaks.{reached}
 use Rattle.mu_picture.proofs.Fronts.{came_to, front_low, front_size, front_start}
 use Rattle.mu_picture.proofs.Unmarked.{hidden_marks}
 use Rattle.mu_picture.proofs.Steps.{length_openings}

@@ -7,7 +7,7 @@ use Rattle.mu_course.proofs.course.Course.applied_values.Goals as goal
 pub returns : goal.returns
 returns c = λ k r mine stands.
     let values = c.known.ensures k r mine stands in
-    let count = c.applied_length.ensures k r mine stands.replica.held_rows in
+    let count = c.applied_count.ensures.tells k r mine stands.replica.held_rows in
     let long = ap length values in
     let fits = front_fits (λ v. has_entry k r v mine) (known k r mine) in
     c.first_values.ensures (omega (arith, fits, long, count))

@@ -10,7 +10,7 @@ returns c k r mine held =
     let values = c.known.ensures k r mine (length mine) held in
     let long = ap length values in
     let fits = front_fits (λ v. has_entry k r v mine) (known k r mine) in
-    let count = c.applied_length.ensures k r mine held.rows in
+    let count = c.applied_count.ensures.tells k r mine held.rows in
     let handed = held.progress.handed in
     let first : c.first_values-applied.result.now ≡ log =
     c.first_values-applied.ensures (omega (arith, count, fits, long)) ∙ (ap (λ n. take n c.known.result.now) count ∙ (ap (λ l. take (length log) l) values ∙ applied_is k r mine)) in

@@ -9,13 +9,13 @@ use Rattle.mu_follow.proofs.follow.Follow.ready.Goals as goal
 
 pub returns-then-applied_count-self-clause-entry : goal.returns-then-applied_count-self-clause-entry
 returns-then-applied_count-self-clause-entry c k r mine held =
-    let count = c.applied_count.ensures ∙ held.rows.applied in
+    let count = c.applied_count.ensures.kept ∙ held.rows.applied in
     none_applied k r c.args.self.now.progress.handed mine (omega (arith, count, c.if-applied_count-self.true))
 
 pub returns-in-Some-clause-entry : goal.returns-in-Some-clause-entry
 returns-in-Some-clause-entry c k r mine held =
     let at = c.args.self.now.progress.handed in
-    let count = c.applied_count.ensures ∙ held.rows.applied in
+    let count = c.applied_count.ensures.kept ∙ held.rows.applied in
     let values = c.known.ensures k r mine held.knowing in
     let found = c.in-Some.ensures.lookup in
     let there : slice_get c.known.result.now at ≡ Some c.in-Some.value.now = slice_get-get_or c.known.result.now at c.in-Some.value.now found.3.0 ∙ ap Some (sym found.1) in (
@@ -26,7 +26,7 @@ returns-in-Some-clause-entry c k r mine held =
 pub returns-in-None-clause-entry : goal.returns-in-None-clause-entry
 returns-in-None-clause-entry c k r mine held =
     let at = c.args.self.now.progress.handed in
-    let count = c.applied_count.ensures ∙ held.rows.applied in
+    let count = c.applied_count.ensures.kept ∙ held.rows.applied in
     let long = ap length (c.known.ensures k r mine held.knowing) in
     let past : length c.known.result.now ≤ at = search (rules, c.in-None.ensures) in
     let fits = front_fits (λ v. has_entry k r v mine) (known k r mine) in

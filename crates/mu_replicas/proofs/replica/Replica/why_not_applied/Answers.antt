@@ -24,7 +24,7 @@ pub returns-then-done : goal.returns-then-done
 returns-then-done c r mine reasons held start =
     let g = c.args.config.now in
     let h = c.args.h in
-    let count = c.applied_length-applied.ensures g r mine held.held_rows in
+    let count = c.applied_count-applied.ensures.tells g r mine held.held_rows in
     let done = c.if-done.true in
     let all = length (applied g r mine) in
     let low : h ≤ all = omega (arith, c.from.ensures, count, done) in
@@ -35,7 +35,7 @@ pub returns : goal.returns
 returns c r mine reasons held start =
     let g = c.args.config.now in
     let h = c.args.h in
-    let count = c.applied_length-applied.ensures g r mine held.held_rows in
+    let count = c.applied_count-applied.ensures.tells g r mine held.held_rows in
     let done = c.if-done.false in
     let all = length (applied g r mine) in
     let high : h ≤ all → ⊥ = λ low. omega (arith, c.from.ensures, count, done, low) in
