@@ -33,7 +33,7 @@ LARGEST_REPLICAS, LARGEST_CLIENTS, LARGEST_STEPS = 7, 4, 120_887
 # Sessions in which a region goes astray: how many replicas, for how many rounds the first one pauses, and how many commands
 # follow, more than the ring of a session has places.
 ASTRAY_SESSIONS = [(5, 1_000, 1_034), (3, 1_076, 1_045)]
-REFUSED, UNFINISHED, TOO_LONG = 2, 3, 8
+USAGE, REFUSED, UNFINISHED, TOO_LONG = 1, 2, 3, 8
 
 
 def two_clients():
@@ -65,6 +65,7 @@ def at_limits():
     yield refused("a pause too many", pauses + b"pause 0 110 1\nend\n", 106, 9)
     yield refused("the form is judged before the count", pauses + b"pause 0 109 1\nend\n", 106, 10)
     yield refused("a million empty lines", b"\n" * MOST_BYTES, 1, 1)
+    yield trying.BeginningCase("an empty number", ["bulk", ""], b"", b"usage: mu replay, ", USAGE)
     yield trying.Case("a byte too many", ["replay"], b"\n" * (MOST_BYTES + 1), b"too long\n", TOO_LONG)
     line = b"put a 5\n"
     session = line + b"x" * (MOST_BYTES - len(line))

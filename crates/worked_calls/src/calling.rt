@@ -21,28 +21,17 @@ pub(crate) struct Call {
     pub(crate) sink: MemSink,
 }
 
-/// The bytes of pieces, one after the other.
-fn bytes_of(alloc: Global, pieces: &[&str]) -> Result<Vec<u8>, AllocError> {
-    let mut bytes = Vec::new(alloc);
-    for piece in pieces {
-        bytes.extend_from_slice(piece.as_bytes())?;
-    }
-    Ok(bytes)
-}
-
-/// The words that are asked.
-fn words_of(alloc: Global, asked: &[&str]) -> Result<Vec<String>, AllocError> {
+/// One word that is asked.
+fn words_of(alloc: Global, word: &str) -> Result<Vec<String>, AllocError> {
     let mut words = Vec::new(alloc);
-    for word in asked {
-        words.push(String::from_str(alloc, word)?)?;
-    }
+    words.push(String::from_str(alloc, word)?)?;
     Ok(words)
 }
 
-/// A source of an input in pieces, which fails at one read (0 for none).
-fn source_of(alloc: Global, input: &[&str], failing_read: u32) -> Result<MemSource, AllocError> {
+/// A source of an input, which fails at one read (0 for none).
+fn source_of(alloc: Global, input: &str, failing_read: u32) -> Result<MemSource, AllocError> {
     let fails = vec![in alloc; failing_read]?;
-    Ok(MemSource::new(bytes_of(alloc, input)?, PIECE, fails))
+    Ok(MemSource::new(input.as_bytes().to_vec(alloc)?, PIECE, fails))
 }
 
 /// A sink whose writes take at most 100 bytes, and which fails at one (0 for none).
@@ -63,16 +52,16 @@ fn answer<R: Threads + Wait + Clock + Sync>(
     (answered.status, answered.taken)
 }
 
-/// Calls the top call with these words over this source, and over a sink that fails at one write
-/// (0 for none).
-pub(crate) fn ask<R: Threads + Wait + Clock + Sync>(
+/// Calls the top call with one word over this source, and over a sink that fails at one write (0 for
+/// none).
+fn ask<R: Threads + Wait + Clock + Sync>(
     rt: &R,
     alloc: Global,
-    asked: &[&str],
+    word: &str,
     mut source: MemSource,
     failing_write: u32,
 ) -> Result<Call, AllocError> {
-    let words = words_of(alloc, asked)?;
+    let words = words_of(alloc, word)?;
     let mut sink = sink_of(alloc, failing_write)?;
     let (status, taken) = answer(rt, alloc, words.as_slice(), &mut source, &mut sink);
     Ok(Call {
@@ -87,22 +76,6 @@ pub(crate) fn says(call: &Call, status: u8, text: &[u8]) -> bool {
     (call.status, call.taken) == (status, text.len()) && call.sink.written() == text
 }
 
-/// Whether the top call with these words over the input ends with this status and says this text,
-/// both in pieces.
-pub(crate) fn answers<R: Threads + Wait + Clock + Sync>(
-    rt: &R,
-    alloc: Global,
-    asked: &[&str],
-    input: &[&str],
-    status: u8,
-    text: &[&str],
-) -> Result<bool, AllocError> {
-    let text = bytes_of(alloc, text)?;
-    let source = source_of(alloc, input, 0)?;
-    let call = ask(rt, alloc, asked, source, 0)?;
-    Ok(says(&call, status, text.as_slice()))
-}
-
 /// Calls the top call with one word over the input; one read and one write fail (0 for none).
 pub(crate) fn told_with_faults<R: Threads + Wait + Clock + Sync>(
     rt: &R,
@@ -112,6 +85,6 @@ pub(crate) fn told_with_faults<R: Threads + Wait + Clock + Sync>(
     failing_read: u32,
     failing_write: u32,
 ) -> Result<Call, AllocError> {
-    let source = source_of(alloc, &[input], failing_read)?;
-    ask(rt, alloc, &[word], source, failing_write)
+    let source = source_of(alloc, input, failing_read)?;
+    ask(rt, alloc, word, source, failing_write)
 }

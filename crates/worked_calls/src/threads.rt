@@ -1,7 +1,11 @@
 //! The status of a run by threads, whose report isn't always the same.
 use crate::calling::{Call, told_with_faults};
-use crate::desks::TWO_CLIENTS;
 use std::test::Fail;
+
+/// Six commands of two clients.
+const TWO_CLIENTS: &str =
+    "mu 1\nreplicas 3\nring 8\nbudget 20000\nclient 0\nput a 5\nget a\ncas a 5 6\nclient 1\n\
+        put b 7\nswap a 9\ncas a 9 1\nend\n";
 
 /// Whether a call has said a report from its first line to its last, whose status is 0 or 3.
 fn has_said_a_report(call: &Call) -> bool {

@@ -1,10 +1,9 @@
 //! Three ports in threads of their own, and the scripts of events through three ports.
 ghost use Rattle.std.specs.Prelude.{All, IfOk, IfSome, IsTrue, [], length, ◌<◌, ◌∷◌, ◌≡◌};
-ghost use Rattle.std.specs.Thread.{IsSync};
 ghost use Rattle.mu_model.specs.Allowed.{Allowed};
 ghost use Rattle.mu_model.specs.Histories.{history};
 ghost use Rattle.shared_fabric.specs.Gathering.{IsSamePort, StayPorts};
-ghost use Rattle.worked_rows.specs.SharedPorts.{AreOf, AreSame};
+ghost use Rattle.worked_rows.specs.SharedPorts.{AreOf};
 
 use crate::event_scripts::{JOB, LONG_JOB, SCRIPTS, config, events_of};
 use mu_model::{Answer, Config, Event, Verb};
@@ -16,7 +15,7 @@ use std::marker::Model;
 use std::process::Abort;
 use std::test::Fail;
 use std::thread;
-use std::thread::{Threads, join};
+use std::thread::Threads;
 
 /// The most events that a port keeps.
 const MOST: usize = 1_000;
@@ -141,22 +140,6 @@ fn apart(mut list: Vec<KeptPort>) -> Option<Three>
     }
 }
 
-/// The three ports as a list.
-fn together(alloc: Global, three: Three) -> Result<Vec<KeptPort>, Fail>
-    ensures { IfOk result (λ l. l.items ≡ three.first ∷ three.second ∷ three.third ∷ []) }
-{
-    let Three {
-        first,
-        second,
-        third,
-    } = three;
-    let mut list = Vec::new(alloc);
-    list.push(first)?;
-    list.push(second)?;
-    list.push(third)?;
-    Ok(list)
-}
-
 /// A hundred beats and reads of the beats of the next replica, and one ask.
 fn act_on(config: &Config, port: &mut KeptPort, index: usize)
     requires config { port.old.config ≡ config.now }
@@ -168,59 +151,6 @@ fn act_on(config: &Config, port: &mut KeptPort, index: usize)
     for _ in 0..100 {
         port.try_step(config, Verb::Beat);
         port.try_step(config, Verb::ReadBeat(other));
-    }
-}
-
-/// The same on a port that is handed over.
-fn act(config: &Config, mut port: KeptPort, index: usize) -> KeptPort
-    requires config { port.config ≡ config.now }
-    requires ring { 0 < config.now.ring }
-    ensures { IsSamePort port result }
-{
-    act_on(config, &mut port, index);
-    port
-}
-
-/// Two ports act at once.
-fn act_both<R: Threads + Sync>(
-    rt: &R,
-    config: &Config,
-    one: KeptPort,
-    other: KeptPort,
-) -> (KeptPort, KeptPort)
-    requires one { one.config ≡ config.now }
-    requires other { other.config ≡ config.now }
-    requires ring { 0 < config.now.ring }
-    ensures one { IsSamePort one result.0 }
-    ensures other { IsSamePort other result.1 }
-{
-    join(rt, || act(config, one, 1), || act(config, other, 2))
-}
-
-/// Each port acts in a thread of its own.
-fn act_at_once<R: Threads + Sync>(rt: &R, config: &Config, three: Three) -> Three
-    requires config { AreOf config.now three.first three.second three.third }
-    requires ring { 0 < config.now.ring }
-    ensures { AreSame three.first three.second three.third result.first result.second result.third }
-{
-    let Three {
-        first,
-        second,
-        third,
-    } = three;
-    let (first, (second, third)) = join(
-        rt,
-        || act(config, first, 0),
-        || -> (KeptPort, KeptPort)
-            requires { IsSync R.row × (second.config ≡ config.now) × (third.config ≡ config.now)
-                × (0 < config.now.ring) }
-            ensures { IsSamePort second result.0 × IsSamePort third result.1 }
-        { act_both(rt, config, second, third) },
-    );
-    Three {
-        first,
-        second,
-        third,
     }
 }
 
@@ -254,22 +184,6 @@ fn act_all<R: Threads + Sync>(rt: &R, config: &Config, ports: &mut [KeptPort])
     }
 }
 
-#[test]
-fn threads_keep_one_list(rt: HostRuntime) -> Result<(), Fail> {
-    let alloc = rt.alloc();
-    let config = config(alloc, LONG_JOB)?;
-    let mut shared = Shared::start(alloc, &config)?;
-    let ports = shared.ports(alloc)?;
-    if let Some(three) = apart(kept(alloc, ports.into_ports())?) {
-        let ports = together(alloc, act_at_once(&rt, &config, three))?;
-        check_parts(&rt, ports.as_slice());
-        shared.gather(SharedPorts::of_ports(bare(alloc, ports)?));
-    } else {
-        assert!(rt; false);
-    }
-    Ok(())
-}
-
 /// The ports after all of them acted.
 fn acted<R: Threads + Sync>(rt: &R, config: &Config, mut ports: Vec<KeptPort>) -> Vec<KeptPort>
     requires config { All (λ p. p.config ≡ config.now) ports.items }
@@ -289,7 +203,7 @@ fn check_parts(rt: &impl Abort, ports: &[KeptPort]) {
 }
 
 #[test]
-fn slices_of_ports_keep_one_list(rt: HostRuntime) -> Result<(), Fail> {
+fn threads_keep_one_list(rt: HostRuntime) -> Result<(), Fail> {
     let alloc = rt.alloc();
     let config = config(alloc, LONG_JOB)?;
     let mut shared = Shared::start(alloc, &config)?;

@@ -42,7 +42,7 @@ fn said_over_lists(alloc: Global, job: Job) -> Said
 }
 
 /// What is said of the job of a text over plain lists.
-pub(crate) fn said_of(alloc: Global, text: &str) -> Said
+fn said_of(alloc: Global, text: &str) -> Said
     ensures { IsShort result }
 {
     match read_job(alloc, text) {

@@ -1,53 +1,10 @@
 //! Texts of whole answers, as they come out of a sink in memory.
-ghost use Rattle.std.specs.Prelude.{◌<◌};
-
-use crate::list_runs::said_of;
-use crate::printing::{prints, prints_so_far};
-use mu_io::WriteFault;
+use crate::printing::prints;
 use mu_model::{Answer, Fence, Target};
 use mu_outcome::{Verdict, Wrong};
 use mu_report::Said;
 use std::alloc::{AllocError, Global};
 use std::test::Fail;
-
-/// A put and a get.
-const PUT_AND_GET: &str = "mu 1\nreplicas 3\nring 8\nbudget 1000\nclient 0\nput a 5\nget a\nend\n";
-
-/// What is said of it.
-const PLAIN_TEXT: &str = "report 1
-log 0 entries 2 commits 2 finished
-0 0.1 put a 5
-1 0.2 get a
-log 1 entries 2 commits 0 finished
-0 0.1 put a 5
-1 0.2 get a
-log 2 entries 2 commits 0 finished
-0 0.1 put a 5
-1 0.2 get a
-replies 2
-0.1 done
-0.2 value 5
-status 0
-";
-
-/// Whether printing ends with `taken` bytes taken, and leaves just these, if a write takes at most
-/// `piece` bytes and the third one fails.
-fn is_cut(alloc: Global, piece: usize, taken: usize) -> Result<bool, AllocError>
-    requires { 0 < piece }
-{
-    let first = PLAIN_TEXT.as_bytes().get(..taken).unwrap_or(&[]);
-    let said = said_of(alloc, PUT_AND_GET);
-    prints_so_far(alloc, &said, piece, 3, Err(WriteFault { taken }), first)
-}
-
-#[test]
-fn counts_what_was_taken(rt: HostRuntime) -> Result<(), Fail> {
-    for (piece, taken) in [(100, 200), (7, 14), (1, 2)] {
-        assert!(rt; piece > 0);
-        assert!(rt; is_cut(rt.alloc(), piece, taken)?, "piece {piece}");
-    }
-    Ok(())
-}
 
 /// A fence of nobody.
 const OF_NOBODY: Fence = Fence {
