@@ -206,13 +206,40 @@ impl Replica {
             )
     }
 
-    /// Looks whether there is the region, which is all that some verbs need.
+    /// Looks whether there is the region: the first point of most verbs, and all of a few.
     #[inline(always)]
     pub(crate) fn why_no_region(&self, config: &Config, p: u8, found: Found) -> Found
         requires { IsConfig config.now }
         ensures { FindsFor config.now self.now (SomeVerb.Fuo p) found result }
     {
         found.needs(p < config.replicas, Reason::NoRegion { region: p })
+    }
+
+    /// What a `Fuo` needs.
+    #[inline(always)]
+    pub(crate) fn why_no_fuo(&self, config: &Config, p: u8, found: Found) -> Found
+        requires { IsConfig config.now }
+        ensures { FindsFor config.now self.now (SomeVerb.Fuo p) found result }
+    {
+        self.why_no_region(config, p, found)
+    }
+
+    /// What a `Head` needs.
+    #[inline(always)]
+    pub(crate) fn why_no_head(&self, config: &Config, q: u8, found: Found) -> Found
+        requires { IsConfig config.now }
+        ensures { FindsFor config.now self.now (SomeVerb.Head q) found result }
+    {
+        self.why_no_region(config, q, found)
+    }
+
+    /// What a `ReadAsk` needs.
+    #[inline(always)]
+    pub(crate) fn why_no_read_ask(&self, config: &Config, w: u8, found: Found) -> Found
+        requires { IsConfig config.now }
+        ensures { FindsFor config.now self.now (SomeVerb.ReadAsk w) found result }
+    {
+        self.why_no_region(config, w, found)
     }
 
     /// What a `ReadBeat` needs.
@@ -287,15 +314,15 @@ impl Replica {
             Verb::PutMin(p, b) => self.why_no_put_minimum(config, p, b, found),
             Verb::Look(p, i) => self.why_no_look(config, p, i, found),
             Verb::PutSlot(p, i, b, v) => self.why_no_put(config, p, i, b, v, found),
-            Verb::Fuo(p) => self.why_no_region(config, p, found),
+            Verb::Fuo(p) => self.why_no_fuo(config, p, found),
             Verb::RaiseFuo(p, u) => self.why_no_raise_fuo(config, p, u, found),
-            Verb::Head(q) => self.why_no_region(config, q, found),
+            Verb::Head(q) => self.why_no_head(config, q, found),
             Verb::ReadBeat(q) => self.why_no_read_beat(config, q, found),
             Verb::WriteRow(j, k, x) => self.why_no_write_row(config, j, k, x, found),
             Verb::ReadRow(v, k) => self.why_no_read_row(config, v, k, found),
             Verb::RaiseHead(h) => self.why_no_raise_head(config, h, found),
             Verb::Beat => found,
-            Verb::ReadAsk(w) => self.why_no_region(config, w, found),
+            Verb::ReadAsk(w) => self.why_no_read_ask(config, w, found),
             Verb::Close => found
                 .needs(!self.grants.is_closing(), Reason::Closing)
                 .needs(self.grants.is_awaited(), Reason::NobodyWaits),

@@ -12,7 +12,7 @@ pub returns-in-ReadRow : goal.returns-in-ReadRow
 returns-in-ReadRow c r mine possible held met = met_by c.args.config.now r mine c.args.verb.now (Verb.ReadRow c.in-ReadRow.v c.in-ReadRow.k) _ _ _ c.new-found.ensures.none c.in-ReadRow.is (c.why_no_read_row.ensures r mine held) (c.is_none-in-ReadRow.ensures c.args.config.now r mine) met
 
 pub returns-in-ReadAsk : goal.returns-in-ReadAsk
-returns-in-ReadAsk c r mine possible held met = met_by c.args.config.now r mine c.args.verb.now (Verb.ReadAsk c.in-ReadAsk.w) _ _ _ c.new-found.ensures.none c.in-ReadAsk.is (c.why_no_region.ensures r mine held) (c.is_none-in-ReadAsk.ensures c.args.config.now r mine) met
+returns-in-ReadAsk c r mine possible held met = met_by c.args.config.now r mine c.args.verb.now (Verb.ReadAsk c.in-ReadAsk.w) _ _ _ c.new-found.ensures.none c.in-ReadAsk.is (c.why_no_read_ask.ensures r mine held) (c.is_none-in-ReadAsk.ensures c.args.config.now r mine) met
 
 pub returns-in-ReadBeat : goal.returns-in-ReadBeat
 returns-in-ReadBeat c r mine possible held met = met_by c.args.config.now r mine c.args.verb.now (Verb.ReadBeat c.in-ReadBeat.q) _ _ _ c.new-found.ensures.none c.in-ReadBeat.is (c.why_no_read_beat.ensures r mine held) (c.is_none-in-ReadBeat.ensures c.args.config.now r mine) met
@@ -24,10 +24,10 @@ pub returns-in-WriteRow : goal.returns-in-WriteRow
 returns-in-WriteRow c r mine possible held met = met_by c.args.config.now r mine c.args.verb.now (Verb.WriteRow c.in-WriteRow.j c.in-WriteRow.k c.in-WriteRow.x) _ _ _ c.new-found.ensures.none c.in-WriteRow.is (c.why_no_write_row.ensures r mine held) (c.is_none-in-WriteRow.ensures c.args.config.now r mine) met
 
 pub returns-in-Head : goal.returns-in-Head
-returns-in-Head c r mine possible held met = met_by c.args.config.now r mine c.args.verb.now (Verb.Head c.in-Head.q) _ _ _ c.new-found.ensures.none c.in-Head.is (c.why_no_region-in-Head.ensures r mine held) (c.is_none-in-Head.ensures c.args.config.now r mine) met
+returns-in-Head c r mine possible held met = met_by c.args.config.now r mine c.args.verb.now (Verb.Head c.in-Head.q) _ _ _ c.new-found.ensures.none c.in-Head.is (c.why_no_head.ensures r mine held) (c.is_none-in-Head.ensures c.args.config.now r mine) met
 
 pub returns-in-Fuo : goal.returns-in-Fuo
-returns-in-Fuo c r mine possible held met = met_by c.args.config.now r mine c.args.verb.now (Verb.Fuo c.in-Fuo.p) _ _ _ c.new-found.ensures.none c.in-Fuo.is (c.why_no_region-in-Fuo.ensures r mine held) (c.is_none-in-Fuo.ensures c.args.config.now r mine) met
+returns-in-Fuo c r mine possible held met = met_by c.args.config.now r mine c.args.verb.now (Verb.Fuo c.in-Fuo.p) _ _ _ c.new-found.ensures.none c.in-Fuo.is (c.why_no_fuo.ensures r mine held) (c.is_none-in-Fuo.ensures c.args.config.now r mine) met
 
 pub returns-in-Enter : goal.returns-in-Enter
 returns-in-Enter c r mine possible held met = met_by c.args.config.now r mine c.args.verb.now (Verb.Enter c.in-Enter.p c.in-Enter.target) _ _ _ c.new-found.ensures.none c.in-Enter.is (c.why_no_enter.ensures r mine held) (c.is_none-in-Enter.ensures c.args.config.now r mine) met

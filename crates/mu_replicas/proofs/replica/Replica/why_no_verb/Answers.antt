@@ -28,7 +28,7 @@ pub returns-in-PutSlot : goal.returns-in-PutSlot
 returns-in-PutSlot c r mine possible held start = subst (λ v. Finds c.args.config.now r mine (points c.args.config.now r mine v) c.why_no_put.result.reason) (sym c.in-PutSlot.is) (c.why_no_put.ensures r mine possible held start)
 
 pub returns-in-Fuo : goal.returns-in-Fuo
-returns-in-Fuo c r mine possible held start = subst (λ v. Finds c.args.config.now r mine (points c.args.config.now r mine v) c.why_no_region-in-Fuo.result.reason) (sym c.in-Fuo.is) (c.why_no_region-in-Fuo.ensures r mine held start)
+returns-in-Fuo c r mine possible held start = subst (λ v. Finds c.args.config.now r mine (points c.args.config.now r mine v) c.why_no_fuo.result.reason) (sym c.in-Fuo.is) (c.why_no_fuo.ensures r mine held start)
 
 pub returns-in-RaiseFuo : goal.returns-in-RaiseFuo
 returns-in-RaiseFuo c r mine possible held start = subst (λ v. Finds c.args.config.now r mine (points c.args.config.now r mine v) c.why_no_raise_fuo.result.reason) (sym c.in-RaiseFuo.is) (c.why_no_raise_fuo.ensures r mine possible held start)
@@ -71,10 +71,10 @@ pub returns-in-Grant : goal.returns-in-Grant
 returns-in-Grant c r mine possible held start = subst (λ v. Finds c.args.config.now r mine (points c.args.config.now r mine v) c.why_no_grant.result.reason) (sym c.in-Grant.is) (c.why_no_grant.ensures r mine held start)
 
 pub returns-in-Head : goal.returns-in-Head
-returns-in-Head c r mine possible held start = subst (λ v. Finds c.args.config.now r mine (points c.args.config.now r mine v) c.why_no_region-in-Head.result.reason) (sym c.in-Head.is) (c.why_no_region-in-Head.ensures r mine held start)
+returns-in-Head c r mine possible held start = subst (λ v. Finds c.args.config.now r mine (points c.args.config.now r mine v) c.why_no_head.result.reason) (sym c.in-Head.is) (c.why_no_head.ensures r mine held start)
 
 pub returns-in-ReadAsk : goal.returns-in-ReadAsk
-returns-in-ReadAsk c r mine possible held start = subst (λ v. Finds c.args.config.now r mine (points c.args.config.now r mine v) c.why_no_region-in-ReadAsk.result.reason) (sym c.in-ReadAsk.is) (c.why_no_region-in-ReadAsk.ensures r mine held start)
+returns-in-ReadAsk c r mine possible held start = subst (λ v. Finds c.args.config.now r mine (points c.args.config.now r mine v) c.why_no_read_ask.result.reason) (sym c.in-ReadAsk.is) (c.why_no_read_ask.ensures r mine held start)
 
 pub returns-in-Enter : goal.returns-in-Enter
 returns-in-Enter c r mine possible held start = subst (λ v. Finds c.args.config.now r mine (points c.args.config.now r mine v) c.why_no_enter.result.reason) (sym c.in-Enter.is) (c.why_no_enter.ensures r mine held start)
