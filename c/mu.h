@@ -4,22 +4,30 @@
  *
  *     cc -std=c11 -Ic yours.c out/libmu.a -o yours
  *
- * The calls print nothing, make no thread, and keep nothing between calls but the judges and engines
- * that they hand out. Want of memory is an answer, MU_NO_MEMORY.
+ * or by pkg-config, as `PKG_CONFIG_PATH=out pkg-config --cflags --libs mu` says. mu.hpp has both as
+ * objects of C++17, which let go what they own.
+ *
+ * The calls print nothing, make no thread, and keep nothing between calls but the judges, engines and
+ * replicas that they hand out. Want of memory is an answer, MU_NO_MEMORY.
  *
  * A text goes to the room that you give: its first `room` bytes stand in `out`, and `*taken` is how
  * many bytes the whole text has. If that is more than `room`, give more room and call again. No text
- * ends with a zero byte. `room` may be 0.
+ * ends with a zero byte. `room` may be 0, to ask for the length, and `out` null then.
+ *
+ * A call needs less than MU_STACK bytes of stack: measured 36 KB at most, and tested (small_stack.c).
  *
  * What you owe, and nobody checks:
- * - No pointer that a call gets is null, not even beside a length of 0. `input`, `job` and `line` have
- *   `length` bytes, `out` has `room` bytes, and nothing that a call writes overlaps with anything else
- *   that it got.
- * - A `mu_judge` is MU_NO_JUDGE and a `mu_engine` MU_NO_ENGINE, or as the last call left it. Neither is
- *   copied.
- * - One call at a time uses a judge or an engine. It may go from thread to thread, if a lock, a
+ * - No pointer that a call gets is null, but for one of bytes beside a length or room of 0. `input`,
+ *   `job` and `line` have `length` bytes, `out` has `room` bytes, and nothing that a call writes
+ *   overlaps with anything else that it got.
+ * - mu_judge_new, mu_engine_new and mu_replica_new take theirs with whatever bytes, and read none of
+ *   them. For each other call it is MU_NO_JUDGE, MU_NO_ENGINE or MU_NO_REPLICA, or as the last call
+ *   left it. It may be moved to another place, but of two copies only one may be used from then on.
+ * - One call at a time uses a judge, an engine or a replica. It may go from thread to thread, if a lock, a
  *   thread's start or join, or a sequentially consistent atomic orders the calls. Calls on others, and
- *   mu_answer and mu_draw_answer, may go on beside it.
+ *   mu_answer and mu_draw_answer, may go on beside it. MU_USAGE from one that you made and didn't free
+ *   means two calls at once: a call takes out what is held and puts it back at its end, so the second
+ *   finds nothing, and the judge or engine may be lost with its memory.
  * - malloc, realloc and free are those of one allocator, and give blocks that are aligned to 16
  *   bytes, or to the largest power of two that divides their size. No call is made in a signal
  *   handler, or in the child of a process that had threads. */
@@ -33,10 +41,12 @@
 extern "C" {
 #endif
 
-/* How a call ends: the statuses of the programs, and from 9 on those of an engine. */
+#define MU_STACK 65536
+
+/* How a call ends: the statuses of the programs, and from 9 on those of an engine or a replica. */
 enum mu_status {
     MU_DONE = 0,       /* all commands are in the longest log, the list is legal, or it is drawn */
-    MU_USAGE = 1,      /* no such task, number, steps, client, replica or row, or no judge or engine */
+    MU_USAGE = 1,      /* no such task, number, steps, client, replica or row, or nothing is held */
     MU_REFUSED = 2,    /* the input isn't in the grammar */
     MU_UNFINISHED = 3, /* some command isn't in the longest log, or there is no reply yet */
     MU_NO_MEMORY = 6,
@@ -44,7 +54,10 @@ enum mu_status {
     MU_TOO_LONG = 8,   /* a job of more than 1,048,576 bytes, or a trace of more than 67,108,864 */
     MU_FULL = 9,       /* as many commands were submitted as may be */
     MU_STOPPED = 10,   /* the replica is stopped */
-    MU_MIXED = 11      /* no text of a job has the commands in this order */
+    MU_MIXED = 11,     /* no text of a job has the commands in this order */
+    MU_ENDED = 12,     /* the replica is halted */
+    MU_STRAY = 13,     /* no legal list leaves this word there */
+    MU_UNDER_WAY = 14  /* an access of the replica is under way */
 };
 
 /* What can be asked of an input. */
@@ -84,9 +97,9 @@ typedef struct mu_judge {
 } mu_judge;
 #define MU_NO_JUDGE { NULL }
 
-/* Makes a judge of a job: its text up to the first `end`. With MU_DONE it is there, in
- * place of a judge that was there before, and `*taken` is 0; else (MU_REFUSED, MU_NO_MEMORY,
- * MU_TOO_LONG) `*judge` is as it was, and the text says why. */
+/* Makes a judge of a job: its text up to the first `end`. With MU_DONE it is there, and `*taken` is 0;
+ * else (MU_REFUSED, MU_NO_MEMORY, MU_TOO_LONG) `*judge` is MU_NO_JUDGE, and the text says why. What
+ * `*judge` was before isn't read: free it first. */
 uint32_t mu_judge_new(mu_judge *judge, const void *job, size_t length, void *out, size_t room,
                       size_t *taken);
 
@@ -111,9 +124,10 @@ typedef struct mu_engine {
 } mu_engine;
 #define MU_NO_ENGINE { NULL }
 
-/* Starts an engine: 1 to 7 replicas, 8 to 1,024 places of a log, 1 to 131,071 steps of a replica, and
- * 0 to 1,500 commands that it may take. MU_DONE, and it is there, in place of an engine that was there
- * before; or MU_USAGE (a number is out of its limits) or MU_NO_MEMORY, and `*engine` is as it was. */
+/* Starts an engine: 1 to 7 replicas, 8 to 1,024 places of a log (take a place for each command and two
+ * for each replica if you can), 1 to 131,071 steps of a replica, and 0 to 1,500 commands that it may
+ * take. MU_DONE, and it is there; or MU_USAGE (a number is out of its limits) or MU_NO_MEMORY, and
+ * `*engine` is MU_NO_ENGINE. What `*engine` was before isn't read: free it first. */
 uint32_t mu_engine_new(mu_engine *engine, uint32_t replicas, uint32_t ring, uint32_t budget,
                        uint32_t commands);
 
@@ -125,15 +139,16 @@ uint32_t mu_engine_submit(mu_engine *engine, uint32_t client, const void *line, 
                           uint32_t *row);
 
 /* Plays one round: in order of id each replica that is neither stopped nor paused takes one step,
- * unless its steps are spent or it was outrun. MU_DONE. Wants no memory. */
+ * unless its steps are spent or it was outrun. MU_DONE. Wants no memory. Who waits for a reply calls
+ * this again and again; a reply that hasn't come isn't lost, but comes later if replicas go on. */
 uint32_t mu_engine_round(mu_engine *engine);
 
 /* Stops a replica for good. MU_DONE, MU_USAGE if there is no such replica, or MU_STOPPED if it is
  * stopped already. Wants no memory. */
 uint32_t mu_engine_stop(mu_engine *engine, uint32_t replica);
 
-/* Pauses a replica: it takes no step in the next `rounds` rounds, and an earlier pause of it is over.
- * Answers as mu_engine_stop does. */
+/* Pauses a replica: it takes no step in the next `rounds` rounds, and an earlier pause of it is over;
+ * with 0 rounds it goes on at once. Answers as mu_engine_stop does. */
 uint32_t mu_engine_pause(mu_engine *engine, uint32_t replica, uint32_t rounds);
 
 /* What a store replies to a command. */
@@ -154,11 +169,107 @@ uint32_t mu_engine_reply(mu_engine *engine, uint32_t row, uint32_t *reply, void 
 /* The commands and the events so far, as the trace that mu_answer checks and mu_draw_answer draws.
  * MU_DONE; MU_MIXED, and `*taken` is 0, if some client's command came after one of a client with a
  * greater number, since a job's text has client by client; or MU_NO_MEMORY. The engine stays as it
- * is. */
+ * is. The job has no script: what was stopped isn't told. */
 uint32_t mu_engine_trace(mu_engine *engine, void *out, size_t room, size_t *taken);
 
 /* Lets an engine go, with its memory, if there is one. It is MU_NO_ENGINE then. */
 void mu_engine_free(mu_engine *engine);
+
+/* One replica by itself, which touches no memory but its own: it says which access to which word it
+ * wants to make, and is told the word that this found. docs/ALONE.md says what it promises, and what
+ * whoever makes the accesses owes. A call on one that isn't there changes nothing, and answers
+ * MU_USAGE. */
+typedef struct mu_replica {
+    void *at; /* the library's */
+} mu_replica;
+#define MU_NO_REPLICA { NULL }
+
+/* What an access does to its word: one atomic, sequentially consistent step. */
+enum mu_access {
+    MU_LOAD = 0,     /* nothing */
+    MU_STORE = 1,    /* it becomes `value` */
+    MU_RAISE = 2,    /* it becomes `value`, unless it is greater */
+    MU_ADD = 3,      /* `value`, which is 1, is added to it */
+    MU_SET_BITS = 4, /* the bits of `value` are set in it */
+    MU_COMPARE = 5,  /* it becomes `value`, if it is `expected`; tried once */
+    MU_SWAP = 6      /* it becomes `value` */
+};
+
+/* An access to one word: that at `place` among the words of `host`. */
+typedef struct mu_operation {
+    uint64_t value;
+    uint64_t expected;
+    uint32_t kind; /* an enum mu_access */
+    uint32_t host;
+    uint32_t place;
+    uint32_t reserved; /* 0 */
+} mu_operation;
+
+/* How a replica has ended. */
+enum mu_end {
+    MU_END_STOPPED = 1, /* by the script of its job */
+    MU_END_BUDGET = 2,  /* its steps are spent */
+    MU_END_OUTRUN = 3,  /* it looked at a position that it still had to read, and the place is used again */
+    MU_END_FINISHED = 4 /* it has applied all commands, and so have the others, or it holds them failed */
+};
+
+/* The first word of each host, its fence, before any access; all others are 0. */
+#define MU_FIRST_FENCE UINT64_C(14336)
+
+/* Makes the replica `id` of a job, whose text is that for `mu replay`: plain as those of `mu replay` if
+ * `eager` is 0, else eager as those of `mu run`. The words of each host have room for `room` commands,
+ * at most 1,500, or for those of the job if these are more. MU_DONE, and it is there; or MU_TOO_LONG,
+ * MU_REFUSED if the text is no job, MU_USAGE if there is no such replica or too much room is asked for,
+ * or MU_NO_MEMORY, and `*replica` is MU_NO_REPLICA. What it was before isn't read: free it first. */
+uint32_t mu_replica_new(mu_replica *replica, const void *job, size_t length, uint32_t id,
+                        uint32_t eager, uint32_t room);
+
+/* How many hosts there are, and how many words each has. */
+uint32_t mu_replica_shape(mu_replica *replica, uint32_t *hosts, uint32_t *words);
+
+/* What it wants to do now: MU_DONE, and the same each time until the word is taken. MU_ENDED if it is
+ * halted: by the script, its budget, or because it was outrun; one that has finished goes on, so that
+ * the others see it alive. Wants no memory. */
+uint32_t mu_replica_next(mu_replica *replica, mu_operation *operation);
+
+/* Gives it the word that the access found: the one that stood there before. MU_DONE; MU_USAGE if no
+ * access is under way; or MU_STRAY if no legal list leaves the word there, and then the replica is as
+ * it was, its access still under way. What a store found isn't looked at. Wants no memory. */
+uint32_t mu_replica_take(mu_replica *replica, uint64_t found);
+
+/* mu_replica_take, and if that is MU_DONE, mu_replica_next. */
+uint32_t mu_replica_take_next(mu_replica *replica, uint64_t found, mu_operation *operation);
+
+/* MU_DONE, and which end its events have; if it was outrun, also by which region and position it saw
+ * that (else 0). MU_UNFINISHED if they have none. This and what follows up to mu_replica_reply tells of
+ * a replica without an access under way. */
+uint32_t mu_replica_end(mu_replica *replica, uint32_t *how, uint32_t *region, uint32_t *position);
+
+/* How many steps it took, whom its scores name leader, whether it leads (1 or 0), how many entries it
+ * has handed on to its store, and how many it has committed itself. */
+uint32_t mu_replica_state(mu_replica *replica, uint32_t *steps, uint32_t *leader, uint32_t *leads,
+                          uint32_t *applied, uint32_t *commits);
+
+/* The payload number of the entry at this place, from 0 on, that it has handed on: 4,096 times who
+ * wrote it, and its first row. MU_USAGE if there is none. */
+uint32_t mu_replica_applied(mu_replica *replica, uint32_t at, uint32_t *value);
+
+/* The position and the payload number of an entry that it has committed, or MU_USAGE. */
+uint32_t mu_replica_commit(mu_replica *replica, uint32_t at, uint32_t *position, uint32_t *value);
+
+/* The reply of its own store to the command of a row, as mu_engine_reply. */
+uint32_t mu_replica_reply(mu_replica *replica, uint32_t row, uint32_t *reply, void *out, size_t room,
+                          size_t *taken);
+
+/* Appends the next command of a client, as mu_engine_submit; MU_UNDER_WAY if an access is under way. */
+uint32_t mu_replica_append(mu_replica *replica, uint32_t client, const void *line, size_t length,
+                           uint32_t *row);
+
+/* The line of its newest event, as in a trace, without line feed; MU_UNFINISHED if it has none. */
+uint32_t mu_replica_event(mu_replica *replica, void *out, size_t room, size_t *taken);
+
+/* Lets a replica go, with its memory, if there is one. It is MU_NO_REPLICA then. */
+void mu_replica_free(mu_replica *replica);
 
 #ifdef __cplusplus
 }

@@ -45,6 +45,8 @@ static void answers(void)
     expect("the first bytes alone", memcmp(few, "report-", 8) == 0 && taken == strlen(REPORT));
     expect("replay with no room", mu_answer(MU_REPLAY, JOB, strlen(JOB), few, 0, &taken) == MU_DONE);
     expect("no byte", memcmp(few, "report-", 8) == 0 && taken == strlen(REPORT));
+    expect("replay with no place", mu_answer(MU_REPLAY, JOB, strlen(JOB), NULL, 0, &taken) == MU_DONE && taken == strlen(REPORT));
+    expect("no input at no place", mu_answer(MU_CHECK, NULL, 0, NULL, 0, &taken) == MU_REFUSED && taken == 24);
 
     expect("check", mu_answer(MU_CHECK, TRACE, strlen(TRACE), out, sizeof out, &taken) == MU_DONE);
     expect("legal", has(out, taken, "legal 1\n"));
@@ -135,17 +137,19 @@ static void judges(void)
 {
     static char out[4096];
     size_t taken = 99;
-    mu_judge judge = MU_NO_JUDGE;
+    mu_judge judge;
 
+    memset(&judge, 0xa5, sizeof judge);
     expect("a job that isn't one", mu_judge_new(&judge, "mu 3\n", 5, out, sizeof out, &taken) == MU_REFUSED);
     expect("its line", has(out, taken, "refused line 1 cause 1\n") && judge.at == NULL);
     expect("a judge", mu_judge_new(&judge, JOB, strlen(JOB), out, sizeof out, &taken) == MU_DONE);
     expect("nothing is said", taken == 0 && judge.at != NULL);
     expect("an ask", take(&judge, "0 ask 0 = done") == MU_DONE);
-    expect("no event", take(&judge, "0 asks 0 = done") == MU_REFUSED);
+    expect("no event", take(&judge, "0 asks 0 = done") == MU_REFUSED && mu_judge_take(&judge, NULL, 0) == MU_REFUSED);
     expect("a read", take(&judge, "0 readask 0 = 1") == MU_DONE);
     expect("two are legal", mu_judge_why(&judge, out, sizeof out, &taken) == MU_DONE);
     expect("legal 2", has(out, taken, "legal 2\n"));
+    expect("its length", mu_judge_why(&judge, NULL, 0, &taken) == MU_DONE && taken == 8);
     expect("a grant without the close", take(&judge, "0 grant 0 = done") == MU_ILLEGAL);
     expect("it stays broken", take(&judge, "0 beat = done") == MU_ILLEGAL);
     expect("why", mu_judge_why(&judge, out, sizeof out, &taken) == MU_ILLEGAL);
@@ -173,9 +177,11 @@ static void no_engines(void)
     uint32_t row = 9, reply = 9;
     size_t taken = 9, k;
 
-    for (k = 0; k < sizeof beyond / sizeof *beyond; k++)
+    for (k = 0; k < sizeof beyond / sizeof *beyond; k++) {
+        memset(&engine, 0x5a, sizeof engine);
         expect("a number out of its limits",
                mu_engine_new(&engine, beyond[k][0], beyond[k][1], beyond[k][2], beyond[k][3]) == MU_USAGE && engine.at == NULL);
+    }
     expect("no engine to submit to", submit(&engine, 0, "get a", &row) == MU_USAGE && row == 0);
     expect("no engine to play", mu_engine_round(&engine) == MU_USAGE);
     expect("no engine to stop", mu_engine_stop(&engine, 0) == MU_USAGE && mu_engine_pause(&engine, 0, 1) == MU_USAGE);
@@ -206,10 +212,11 @@ static uint32_t reply_to(mu_engine *engine, uint32_t row, const char *text)
 static void engines(void)
 {
     static char trace[1 << 20], out[64];
-    mu_engine engine = MU_NO_ENGINE;
+    mu_engine engine;
     uint32_t row = 9, reply = 9;
     size_t taken = 9;
 
+    memset(&engine, 0xa5, sizeof engine);
     expect("an engine", mu_engine_new(&engine, 3, 64, 20000, 5) == MU_DONE && engine.at != NULL);
     expect("a bad client", submit(&engine, 16, "get a", &row) == MU_USAGE && row == 0);
     expect("a client of many bits", submit(&engine, 256, "get a", &row) == MU_USAGE);
@@ -221,12 +228,14 @@ static void engines(void)
     expect("done", reply_to(&engine, 0, "") == MU_REPLY_DONE);
     expect("a get", submit(&engine, 0, "get a", &row) == MU_DONE && row == 1);
     expect("its value", reply_to(&engine, 1, "5") == MU_REPLY_VALUE);
+    expect("its length", mu_engine_reply(&engine, 1, &reply, NULL, 0, &taken) == MU_DONE && reply == MU_REPLY_VALUE && taken == 1);
     expect("a stop", mu_engine_stop(&engine, 0) == MU_DONE);
     expect("a stopped replica", mu_engine_stop(&engine, 0) == MU_STOPPED && mu_engine_pause(&engine, 0, 3) == MU_STOPPED);
     expect("no such replica", mu_engine_stop(&engine, 3) == MU_USAGE && mu_engine_pause(&engine, 256, 3) == MU_USAGE);
     expect("a pause", mu_engine_pause(&engine, 1, 40) == MU_DONE);
     expect("a cas", submit(&engine, 1, "cas a 6 7", &row) == MU_DONE && row == 2);
     expect("what is kept", reply_to(&engine, 2, "5") == MU_REPLY_KEPT);
+    expect("its trace's length", mu_engine_trace(&engine, NULL, 0, &taken) == MU_DONE && taken > 5);
     expect("its trace", mu_engine_trace(&engine, trace, sizeof trace, &taken) == MU_DONE && taken > 5 && memcmp(trace, "mu 2\n", 5) == 0);
     expect("is legal", taken <= sizeof trace && mu_answer(MU_CHECK, trace, taken, out, sizeof out, &taken) == MU_DONE);
     expect("a get of nothing", submit(&engine, 0, "get b", &row) == MU_DONE && row == 3);
@@ -234,8 +243,9 @@ static void engines(void)
     expect("no text of a job", mu_engine_trace(&engine, trace, sizeof trace, &taken) == MU_MIXED && taken == 0);
     expect("the last one", submit(&engine, 0, "get b", &row) == MU_DONE && row == 4);
     expect("too many", submit(&engine, 0, "get b", &row) == MU_FULL && row == 0);
-    expect("no engine in its place", mu_engine_new(&engine, 8, 64, 99, 1) == MU_USAGE && submit(&engine, 0, "get b", &row) == MU_FULL);
+    mu_engine_free(&engine);
     expect("another in its place", mu_engine_new(&engine, 1, 8, 999, 1) == MU_DONE);
+    expect("a pause of no rounds", mu_engine_pause(&engine, 0, 900) == MU_DONE && mu_engine_pause(&engine, 0, 0) == MU_DONE);
     expect("a new row", submit(&engine, 15, "get a", &row) == MU_DONE && row == 0);
     expect("nothing there", reply_to(&engine, 0, "") == MU_REPLY_NONE);
     mu_engine_free(&engine);

@@ -35,8 +35,8 @@ def tell(kind, cause, trace):
 
 def begin(doc):
     """For the first line of a tool: answers --help with the tool's own words."""
+    sys.excepthook = tell
+    atexit.register(flush)
     if HELP & set(sys.argv[1:]):
         print(doc.strip())
         sys.exit(0)
-    sys.excepthook = tell
-    atexit.register(flush)

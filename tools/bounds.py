@@ -182,8 +182,8 @@ def told(text):
         except NotPromised as why:
             out.append(f"{what}: not promised, {why}\n")
         else:
-            enough = "is enough" if step <= most else "is too small"
-            out.append(f"{what} by step {step}, budget {budget} {enough}\n")
+            shown = f", budget {budget} is shown" if step <= most else f" with such a budget, {budget} isn't shown"
+            out.append(f"{what} by step {step}{shown} to be enough\n")
     return "".join(out)
 
 

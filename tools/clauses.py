@@ -1,13 +1,16 @@
 #!/usr/bin/env python3
-"""Checks that each clause that docs/PROVED.md names is one of the function that it names, and that each name
+"""Checks that each clause that docs/PROVED.md and docs/LAWS.md name is one of the function that it names, and that each name
 that tells its crate and file stands there.
 
     tools/clauses.py      prints what is stale; the last line is `clauses: N right, N stale`
 
 The second column of its tables names what carries a claim, as `f`, `Type::g`: `clause`, `other` (`Definition`).
 A clause is one of the `ensures` of a function of this name; of a type or a record it is a call or a part. A name may
-begin with its place: `crate::file::f` (`crate::f` in src/lib.rt), `crate.File.Definition`. The status is 1 if
-something is stale.
+begin with its place: `crate::file::f` (`crate::f` in src/lib.rt), `crate.File.Definition`.
+
+On all pages a link whose text is names, as [`f`: `clause`](crates/x/src/f.rt) or [`Definition`](crates/x/specs/D.antt),
+has to lead to the file where they stand. In the lists of the sections that promise (PROMISES) each sentence has such
+a link, unless it says what isn't promised, or explains the one before. The status is 1 if something is stale.
 """
 import collections
 import functools
@@ -19,11 +22,19 @@ import programs
 from beginning import begin
 from programs import CRATES, TOP
 
-PAGE = os.path.join(TOP, "docs", "PROVED.md")
+PAGES = ("docs/PROVED.md", "docs/LAWS.md")
 BEGINS_TYPE = re.compile(r"(?:impl(?:<.*?>)? (?:[\w<>, ]+ for )?|pub record |pub trait )(\w+)")
 BEGINS_CALL = re.compile(r"\s*(?:pub(?:\([^)]*\))? )?(?:unsafe )?(?:extern \"C\" )?fn (\w+)")
 CLAUSE = re.compile(r"\s*ensures (\w+) \{")
 PART = re.compile(r"  pub (\w+) :")
+# A link whose text is names.
+LINK = re.compile(r"\[((?:`[^`\]]+`(?:: |, )?)+)\]\(([^)\s]+\.(?:rt|antt))\)")
+# The sections that promise, and how a sentence begins or ends that needs no clause: it promises nothing, explains what
+# stands before it, or is what a check of the whole crate says.
+PROMISES = {"README.md": "What is proved", "docs/ENGINE.md": "What it promises", "docs/ALIVE.md": "What is promised"}
+NEEDS_NONE = re.compile(r"Nothing is |None is |That is: |.*\(the check of each crate\)")
+# Where a sentence ends: before a capital, a sign of code or a bold word.
+SENTENCE = re.compile(r"(?<=[.!?])\s+(?=[A-Z`*\[])")
 # How a source begins a function or a type, and a file of definitions a definition.
 IN_CODE, IN_SPECS = r"\b(?:fn|struct|enum|trait) {}\b", r"^(?:abbrev )?pub (?:record |data )?{}\b"
 
@@ -114,21 +125,67 @@ def named_in(line):
                 yield from ((short(owner.replace("@", "::")), part) for part in re.findall(r"`([^`]+)`", parts))
 
 
+def is_named(text, name, is_code):
+    """Whether a source has a function, a type or a definition of this name, or a definition a part."""
+    ways = [IN_CODE] if is_code else [IN_SPECS, r"^  pub {} :"]
+    return any(re.search(way.format(name), text, re.M) for way in ways)
+
+
+def unlinked_names(text, words, is_code):
+    """The names of a link that its file doesn't have: of `f`: `a`, `b` the last are clauses of f, parts or calls."""
+    owner, colon, rest = words.partition(": ")
+    names = re.findall(r"`([^`]+)`", words)
+    if not colon:
+        return [it for it in names if not is_named(text, it.split("::")[-1], is_code)]
+    owner = owner.strip("`").split("::")[-1]
+    parts = [part for of, part in parts_of(text) if of == owner]
+    return [] if is_named(text, owner, is_code) and set(names[1:]) <= set(parts) else names
+
+
+def linked():
+    """How many links of the pages lead to the names that they tell, and which don't."""
+    right, stale = 0, []
+    for page in ["README.md", *("docs/" + it for it in sorted(os.listdir(os.path.join(TOP, "docs"))))]:
+        with open(os.path.join(TOP, page), encoding="utf-8") as lines:
+            for number, line in enumerate(lines, 1):
+                for words, path in LINK.findall(line):
+                    at = os.path.normpath(os.path.join(TOP, os.path.dirname(page), path))
+                    text = source(os.path.relpath(at, CRATES))
+                    missing = unlinked_names(text, words, path.endswith(".rt"))
+                    right += not missing
+                    stale += [f"{page}:{number}: {path} has no {', '.join(missing)}"] if missing else []
+    return right, stale
+
+
+def promising(page, section):
+    """The sentences in the lists of a section."""
+    with open(os.path.join(TOP, page), encoding="utf-8") as text:
+        body = text.read().split(f"\n## {section}\n")[1].split("\n## ")[0]
+    for item in re.findall(r"^ *- (.*(?:\n +(?! *- ).*)*)", body, re.M):
+        bold = re.sub(r"^\*\*[^*]*[.]\*\* ", "", item)
+        yield from SENTENCE.split(bold)
+
+
+def without_clause():
+    """The sentences that promise and have no link to a clause."""
+    for page, section in PROMISES.items():
+        sentences = list(promising(page, section))
+        if not sentences:
+            yield f"{page}: {section} promises nothing"
+        yield from (f"{page}: no clause: {it}" for it in sentences if not LINK.search(it) and not NEEDS_NONE.match(it))
+
+
 def judged():
-    """How many clauses stand as the page says, and which doesn't."""
-    parts, right, stale = known(), 0, []
-    with open(PAGE, encoding="utf-8") as page:
-        for number, line in enumerate(page, 1):
-            for owner, part in named_in(line):
-                if part in parts[owner]:
-                    right += 1
-                else:
-                    stale.append(f"docs/PROVED.md:{number}: `{owner}` has no `{part}`")
-            for name in placed_in(line):
-                if stands(name):
-                    right += 1
-                else:
-                    stale.append(f"docs/PROVED.md:{number}: `{name}` doesn't stand there")
+    """How many clauses stand as the pages say, and which doesn't."""
+    parts, (right, stale) = known(), linked()
+    stale += without_clause()
+    for page in PAGES:
+        with open(os.path.join(TOP, page), encoding="utf-8") as lines:
+            for number, line in enumerate(lines, 1):
+                named = [(f"`{owner}` has no `{part}`", part in parts[owner]) for owner, part in named_in(line)]
+                named += [(f"`{name}` doesn't stand there", stands(name)) for name in placed_in(line)]
+                right += sum(good for _, good in named)
+                stale += [f"{page}:{number}: {what}" for what, good in named if not good]
     return right, stale
 
 

@@ -108,7 +108,7 @@ STATED = [
     ("docs/ALIVE.md", r"enough for ([\d,]+) commands by `steps_enough`, ([\d,]+) by `steps_in_any_ring`, "
                       r"([\d,]+) by `finishing_steps` and ([\d,]+) by `finishing_in_any_ring`",
      lambda: [most(it) for it in ("steps_enough", "steps_in_any_ring", "finishing_steps", "finishing_in_any_ring")]),
-    ("docs/ALIVE.md", r"status is 0 up to N = ([\d,]+), and each replica finishes up to N = ([\d,]+)",
+    ("docs/ALIVE.md", r"status is 0 up to N = ([\d,]+), and that each replica finishes up to N = ([\d,]+)",
      lambda: [most("steps_in_any_ring"), most("finishing_in_any_ring")]),
     ("docs/ALIVE.md", r"a budget of 100,000; ([\d,]+) is enough", lambda: [steps("steps_enough", 1, 3, 1, 2)]),
     ("docs/ALIVE.md", r"`stop 0 200` and `pause 1 40 300`: its number is ([\d,]+)",

@@ -7,7 +7,9 @@
 TRACES, JOBS and MORE are folders of cases: a trace or a job in a file NAME, `check` in NAME.args, and
 what an independent program says of it in NAME.stdout. The input gets them, byte for byte, with the
 separator of crates/judge_traces/src/main.rt between two; the output gets one line for each, and
-cases/judged.names its name. The lines are those of the cases, never the program's own. A job that is
+cases/judged.names its name. The lines are those of the cases, never the program's own. Of the cases that are given
+most are left out: a long list that breaks is cut behind the event that breaks it, which leaves its line, and those that
+are long still are left out, but for some legal ones, of which tools/made_lists.py makes others. A job that is
 refused for a line after its `end` is left out: events may follow there in a trace (such jobs stand in
 cases/refusals.table). What stands last shows how an input is cut into traces.
 """
@@ -23,6 +25,9 @@ OUTPUT = TOP / "crates" / "judge_traces" / "stdout"
 NAMES = TOP / "cases" / "judged.names"
 SEPARATOR = b"\n---\n"
 AFTER_END = b" cause 12\n"
+# The most lines of a trace, and those legal ones that have more.
+MOST_LINES = 250
+LONG = {"check/legal003", "check/legal010", "check/rivals016", "check/rivals030"}
 # Traces between which the input is cut at the first separator, and only there: the first of the two has a line feed of
 # its own at its end, which the separator follows, and the last is the rest of the input.
 NO_TRACE, NOTHING = b"refused line 1 cause 1\n", b"refused line 1 cause 11\n"
@@ -34,13 +39,23 @@ CUT = [("cut/two-first", b"mu 1\nreplicas 3\nring 8\nbudget 100\nend\nend\n", b"
        ("cut/separator-unended", b"end\n---", NO_TRACE)]
 
 
+def shortened(trace, line):
+    """A trace without the events behind the one that breaks it, if it is long."""
+    if trace.count(b"\n") <= MOST_LINES or not line.startswith(b"illegal"):
+        return trace
+    lines = trace.split(b"\n")
+    return b"\n".join([*lines[:lines.index(b"end") + 2 + int(line.split()[1])], b"end", b""])
+
+
 def cases(folder):
-    """The names of a folder's cases, with their traces and the lines on them."""
+    """The names of a folder's cases, with their traces and the lines on them: those that aren't too long."""
     folder = pathlib.Path(folder)
     for line in sorted(folder.glob("*.stdout")):
         if line.with_suffix(".args").read_bytes().split() == [b"check"]:
-            name = f"{folder.name}/{line.stem}"
-            yield name, line.with_suffix("").read_bytes(), line.read_bytes()
+            name, told = f"{folder.name}/{line.stem}", line.read_bytes()
+            trace = shortened(line.with_suffix("").read_bytes(), told)
+            if trace.count(b"\n") <= MOST_LINES or name in LONG:
+                yield name, trace, told
 
 
 def judged():

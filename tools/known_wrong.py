@@ -34,6 +34,7 @@ import serve_sessions
 import stop_jobs
 import surface
 import talks
+import try_processes
 import trying
 from beginning import begin
 from judged_table import judged
@@ -81,7 +82,7 @@ BEHIND = ("log 1 entries 3 commits 0 finished\n0 0.1 put a 5\n1 1.1 get a\n2 1.2
 LINE_ANSWERER = "#!/bin/sh\nwhile read -r line; do echo done; done\necho status 0\n"
 END_ANSWERER = "#!/bin/sh\ncat | sed 's/.*/done/'\necho status 0\n"
 # The least that there is of each kind: a judge that looks at nothing finds nothing.
-LEAST_NAMED, LEAST_JUDGED, LEAST_BOUND, LEAST_VERDICTS = 1000, 200, 300, 150
+LEAST_NAMED, LEAST_JUDGED, LEAST_BOUND, LEAST_VERDICTS = 1000, 100, 300, 80
 LEAST_FIGURES, LEAST_SHOWN, LEAST_CLAUSES, LEAST_REASONS = 100, 100, 200, 50
 # Two lemmas, of which nothing cites the first.
 LEMMAS = "pub idle : A\nidle zero = x\nidle (suc n) = idle n\n\npub used : A\nused = x\n\nlast : A\nlast = used\n"
@@ -126,6 +127,27 @@ CLAUSE_ROW = "| a claim | `Node::turn`: `made` (`HasMade`); `first`, `next`: `ke
 CLAUSE_SOURCE = "impl Node {\n    /// A turn.\n    pub fn turn(&mut self)\n        ensures made { true }\n    {\n"
 
 
+def tells_runs_of_processes():
+    """Who was killed may be stopped; `check` has to find the trace legal, and `tell` what the report says."""
+    killed = REPORT.replace("outrun", "stopped")
+    yield try_processes.fault_in(killed, 0, JOB, ["1"]) is None
+    yield try_processes.fault_in(killed, 0, JOB, []) is not None
+    yield try_processes.fault_in(killed.replace("stopped", "unanswered"), 0, JOB, []) is None
+    for end in ("lost", "refused", "running"):
+        yield try_processes.fault_in(killed.replace("stopped", end), 0, JOB, ["1"]) is not None
+    longer = killed.replace("log 1 entries 1", "log 1 entries 2").replace("replies 3", "1 gone 1\nreplies 3")
+
+    def fault(told, verdict="legal 9\n"):
+        return try_processes.fault_in_trace("", killed, lambda words, _: verdict if words == ["check"] else told)
+
+    yield fault(killed) is None
+    yield fault(longer) is None
+    yield fault(killed, "illegal 3 not allowed\n") is not None
+    for there, other in (("2 1.1 swap a 7\nlog", "log"), ("1.1 value 5", "1.1 none"), ("commits 2 finished", "commits 2 running"),
+                         ("stopped\n0 0.1 put a 5\n0 0.2 get a\n", "stopped\n")):
+        yield fault(killed.replace(there, other)) is not None
+
+
 def tells_answers():
     """An answer is right if it ended with just these bytes and this status."""
     case = trying.Case("a case", [], b"", b"right\n", 0)
@@ -167,7 +189,10 @@ def tells_tables():
         case = table_case("t.table", text)
         yield (case.name, case.words) == ("t.table/a", ["replay"])
         yield (case.given, type(case), case.wanted, case.status) == (given, kind, wanted, status)
-    yield table_case("t.table", b"a b\nc\nprints sha256 0123\n").summed == "0123"
+    summed = table_case("t.table", b"a b\nc\nprints sha256 0123 status 3\n")
+    yield (summed.summed, summed.status) == ("0123", 3)
+    like = table_case("t.table", b"b b\nlike a\n2= x\n3-\n4+ y\n4+ z\nprints\nlegal 0\n", [trying.Case("t.table/a", [], b"1\n2\n3\n4\n")])
+    yield like.given == b"1\nx\ny\nz\n4\n"
 
 
 def tells_stops():
@@ -373,7 +398,9 @@ def tells_pages():
     yield pages.leads("README.md", "docs/PACE.md#how-long-things-take", page)
     yield not pages.leads("README.md", "docs/PACE.md#how-long", page)
     yield not pages.leads("docs/PACE.md", "docs/PACE.md", page)
-    yield pages.words_of("# A page\n\nwith words\n\n    an example\n\n| a | table |\n![a picture](here)\n") == 5
+    yield pages.words_of("# A page\n\n| with | 5 |\n|---|---|\n- `words`, - no\n") == 6
+    with mock.patch.object(pages, "MOST_WORDS", 10):
+        yield len(list(pages.too_long())) == len(list(pages.pages())) - 1 + (list(pages.too_long())[0][:6] == "README")
 
 
 def tells_other_words():
@@ -397,6 +424,15 @@ def tells_clauses():
     yield all(map(clauses.stands, ("mu_top.Commands.Books", "mu_top::top::mu", "mu_words::fields_fit")))
     yield not any(map(clauses.stands, ("mu_top.Answers.Books", "mu_top::starting::mu", "mu_words::fields")))
     yield clauses.judged()[0] >= LEAST_CLAUSES
+    code, specs = "    pub fn turn()\n        ensures made { true }\n", "pub record R (n : ℕ) : Type 0 where\n  pub part : n ≡ n\n"
+    for text, right, wrong in ((code, ("`turn`", "`turn`: `made`"), ("`turns`", "`turn`: `maid`", "`turn`: `made`, `more`")),
+                               (specs, ("`R`", "`part`", "`R`: `part`"), ("`S`", "`R`: `whole`"))):
+        yield not any(clauses.unlinked_names(text, it, text == code) for it in right)
+        yield all(clauses.unlinked_names(text, it, text == code) for it in wrong)
+    yield [clauses.LINK.findall(it) for it in ("[`f`: `a`, `b`](x/y.rt)", "[f](x/y.rt)", "[`f`](x/y.md)")] == [
+        [("`f`: `a`, `b`", "x/y.rt")], [], []]
+    with mock.patch.object(clauses, "promising", lambda page, section: ["All is well.", "Nothing is promised."]):
+        yield len(list(clauses.without_clause())) == len(clauses.PROMISES)
 
 
 def ending(names, *ends):
@@ -420,7 +456,7 @@ def tells_failures():
     """./test counts what failed, and ends with status 1 for it."""
     test = SimpleNamespace(**runpy.run_path(os.path.join(TOP, "test")))
     with contextlib.redirect_stdout(io.StringIO()):
-        yield test.told_all([([test.Part("one", 2, ["it failed"]), test.Part("other", 1, [])], 0)]) == (3, 1)
+        yield test.told_all([([test.Part("one", 2, ["it failed"]), test.Part("other", 1, [], skipped=4)], 0)]) == (3, 1, 4)
         yield test.ended(3, 1) == 1 and test.ended(3, 0) == 0 and test.ended(0, 0) == 1
 
 
@@ -494,8 +530,8 @@ def tells_unfair_runs():
 
 
 JUDGES = [
-    tells_failures, tells_answers, tells_sums, tells_parts, tells_tables, tells_stops, tells_edits, tells_faults,
-    tells_missing_answers, tells_statuses, tells_reports, tells_sessions, tells_bounds, tells_other_words,
+    tells_failures, tells_answers, tells_runs_of_processes, tells_sums, tells_parts, tells_tables, tells_stops, tells_edits,
+    tells_faults, tells_missing_answers, tells_statuses, tells_reports, tells_sessions, tells_bounds, tells_other_words,
     tells_own_traces, tells_pages, tells_clauses, tells_figures, tells_uncited_lemmas, tells_idle_imports, tells_made_up,
     tells_stored_inputs, tells_rules, tells_breaks, tells_refused_memory, tells_finishers, tells_costs,
     tells_silent_definitions, tells_hangs, tells_unfair_runs]

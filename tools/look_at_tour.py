@@ -1,12 +1,13 @@
 #!/usr/bin/env python3
-"""Looks at the page that ./tour leaves, in headless Chromium, as wide as a screen and as a phone.
+"""Looks at the page that ./tour leaves, in headless Chromium, as wide as a screen and as a phone, light and dark.
 
     tools/look_at_tour.py [PAGE]      out/tour/index.html; the last line is `N pictures, M wrong`
 
-A picture is wrong if it isn't loaded, if it or what holds it is cut off or has lost its shape, if it
-isn't a link to itself, or if it has no alternative text. A page is wrong if it is wider than the
-window, or if its columns of text are narrow. Without Chromium only links and alternative texts are
-looked at, which is said. The status is 1 if something is wrong.
+A picture is wrong if it isn't loaded, if it is made smaller or has lost its shape, if it is cut off by something that
+doesn't scroll, if it is white in a dark page, if it isn't a link to itself, or if it has no alternative text. A page is
+wrong if it is wider than the window, if its columns of text are narrow, if two entries of its lists overlap, or if
+words are too small. Without Chromium only links and alternative texts are looked at, which is said. The status is 1 if
+something is wrong.
 """
 import html
 import os
@@ -25,8 +26,10 @@ BROWSERS = ("chromium", "chromium-browser", "google-chrome")
 SECONDS = 120
 # Fewer letters tell nothing of a picture.
 LEAST_LETTERS = 40
-# Columns of texts may not be narrower, in pixels.
-LEAST_COLUMN = 280
+# Columns of texts may not be narrower, nor words smaller, in pixels.
+LEAST_COLUMN, LEAST_FONT = 280, 10
+# How much room the number of an entry takes at its left.
+MARKER = 32
 # Says what is wrong with the page, a line each below its width, once all pictures are loaded.
 LOOK = """
 <script>
@@ -37,18 +40,32 @@ addEventListener("load", () => {
     say("the page", "it is " + document.documentElement.scrollWidth + " wide");
   for (const part of document.querySelectorAll(".texts > div"))
     if (part.clientWidth < LEAST_COLUMN) say("a column", "it is only " + part.clientWidth + " wide");
+  const texts = [...document.querySelectorAll("p, li, pre, code, h1, h2, h3, figcaption, summary")];
+  for (const it of texts)
+    if (parseFloat(getComputedStyle(it).fontSize) < LEAST_FONT) say("a text", "it is too small: " + it.textContent);
+  const entries = [...document.querySelectorAll("nav a")].flatMap(it => [...it.getClientRects()].map(box => [it, box]));
+  for (const [one, a] of entries)
+    for (const [other, b] of entries)
+      if (one !== other && a.left < b.left && a.right > b.left - MARKER && a.top < b.bottom - 4 && b.top < a.bottom - 4)
+        say("two entries", "they touch: " + one.textContent + ", " + other.textContent);
+  const isDark = matchMedia("(prefers-color-scheme: dark)").matches;
+  if (isDark !== WANTS_DARK) say("the page", "the browser didn't take the scheme");
   for (const it of document.images) {
     const name = it.getAttribute("src"), box = it.getBoundingClientRect();
     if (!it.naturalWidth) say(name, "it isn't loaded");
-    if (box.left < 0 || box.right > room + 1) say(name, "it is cut off by the window");
+    if (box.width < it.naturalWidth - 1) say(name, "it is made smaller, and its words too");
     if (Math.abs(box.width / box.height - it.naturalWidth / it.naturalHeight) > .02) say(name, "it lost its shape");
-    for (let at = it.parentElement; at; at = at.parentElement) {
+    if (isDark && !getComputedStyle(it).filter.includes("invert")) say(name, "it is white in a dark page");
+    for (let at = it.parentElement, scrolls = false; at && !scrolls; at = at.parentElement) {
       const held = at.getBoundingClientRect();
-      const isOut = at.localName !== "html" && (box.right > held.right + 1 || box.bottom > held.bottom + 1);
-      if (isOut || getComputedStyle(at).overflow !== "visible" && at.scrollWidth > at.clientWidth + 1) {
+      scrolls = /auto|scroll/.test(getComputedStyle(at).overflowX);
+      const isOut = at.localName === "a" || at.localName === "html" || scrolls ? box.bottom > held.bottom + 1
+        : box.right > held.right + 1 || box.bottom > held.bottom + 1;
+      if (isOut) {
         say(name, "it is cut off by its " + at.localName + ", or stands out of it");
         break;
       }
+      if (scrolls && (held.left < 0 || held.right > room + 1)) say(name, "what holds it is wider than the window");
     }
   }
   parent.postMessage([room, ...wrong].join("\\n"), "*");
@@ -86,9 +103,10 @@ def pictures_of(text):
     return len(found), wrong
 
 
-def looked(browser, page, width):
+def looked(browser, page, width, is_dark):
     """What is wrong with a page in a window of a width, as the browser lays it out."""
-    script = LOOK.replace("LEAST_COLUMN", str(LEAST_COLUMN))
+    script = (LOOK.replace("LEAST_COLUMN", str(LEAST_COLUMN)).replace("LEAST_FONT", str(LEAST_FONT)).replace("MARKER", str(MARKER))
+              .replace("WANTS_DARK", str(is_dark).lower()))
     with tempfile.TemporaryDirectory(prefix="profile-") as room, tempfile.NamedTemporaryFile(
             "w", encoding="utf-8", dir=os.path.dirname(os.path.abspath(page)), suffix=".html") as copy:
         copy.write(contents(page).replace("</html>", script + "</html>"))
@@ -97,6 +115,7 @@ def looked(browser, page, width):
         with open(frame, "w", encoding="utf-8") as out:
             out.write(FRAME.replace("PAGE", "file://" + copy.name).replace("WIDTH", str(width)))
         done = subprocess.run([browser, "--headless", "--no-sandbox", "--disable-gpu", "--hide-scrollbars",
+                               f"--blink-settings=preferredColorScheme={0 if is_dark else 1}",
                                f"--user-data-dir={room}", "--window-size=1400,900", "--virtual-time-budget=20000",
                                "--dump-dom", f"file://{frame}"], stdout=subprocess.PIPE, stderr=subprocess.DEVNULL,
                               timeout=SECONDS, check=False)
@@ -117,7 +136,8 @@ def main():
     if browser is None:
         print("look_at_tour.py: there is no Chromium: how the page is laid out isn't looked at")
     else:
-        wrong += [it for width in WIDTHS for it in looked(browser, page, width)]
+        wrong += [f"{'dark' if is_dark else 'light'}, {it}" for is_dark in (False, True) for width in WIDTHS
+                  for it in looked(browser, page, width, is_dark)]
     return programs.tell(wrong, f"{count} pictures, {len(wrong)} wrong")
 
 

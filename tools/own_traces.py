@@ -48,11 +48,15 @@ def cxx_compiler():
 
 
 def header_troubles():
-    """What compilers say of c/mu.h, of its uses and of the heap, as C and as C++; and what is left out for want of one."""
+    """What compilers say of c/mu.h, of its uses and of the other files of c/, as C and as C++; and what is left out
+    for want of one."""
     header = os.path.join(TOP, "c")
-    uses, heap, replicas = (os.path.join(TOP, *path) for path in (("c", "uses.c"), ("c", "heap.c"), ("examples", "own", "replicas.c")))
-    wanted = [("C", c_compiler(), ["-std=c11"], [uses, heap]), ("C, threads", c_compiler(), ["-std=c11", "-DWITH_MU"], [replicas]),
-              ("C++", cxx_compiler(), ["-std=c++11", "-x", "c++"], [uses])]
+    uses, replicas = os.path.join(header, "uses.c"), os.path.join(OWN, "replicas.c")
+    parts = [os.path.join(header, it) for it in ("heap.c", "new.c", "small_stack.c", "sessions.c")]
+    wanted = [("C", c_compiler(), ["-std=c11", "-Wconversion"], [uses, *parts]),
+              ("C, threads", c_compiler(), ["-std=c11", "-DWITH_MU"], [replicas]),
+              ("C++", cxx_compiler(), ["-std=c++11", "-x", "c++"], [uses]),
+              ("C++17", cxx_compiler(), ["-std=c++17", "-Wconversion"], [os.path.join(header, "uses.cc")])]
     troubles, left = [], []
     for language, compiler, words, sources in wanted:
         if compiler is None:

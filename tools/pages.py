@@ -1,6 +1,6 @@
 #!/usr/bin/env python3
 """Checks what the pages name: each path stands, each name is in some source, each link leads somewhere;
-that pages stay short, that each command has its help, that each crate is on the map, and that the reasons
+that pages keep their budgets, that each command has its help, that each crate is on the map, and that the reasons
 of `mu why` have the words that are defined.
 
     tools/pages.py        prints what is stale; the last line is `pages: N named, N stale`
@@ -37,28 +37,9 @@ VALUE = re.compile(r"Value\.\w+ (\w+)")
 # In a row of two sentences: what stands between the first and the end of the second.
 OTHER_END = "; or, if it has none, in place of the last words: "
 
-# The most words of a page, all of them; of these pages without examples, tables and pictures.
-MOST_WORDS = {
-    "README.md": 1_150,
-    "docs/AGREEMENT.md": 1_300,
-    "docs/ALIVE.md": 2_900,
-    "docs/DECISIONS.md": 2_280,
-    "docs/ENGINE.md": 1_260,
-    "docs/FORMATS.md": 3_860,
-    "docs/MEASURED.md": 1_800,
-    "docs/PACE.md": 1_750,
-    "docs/PAPER.md": 950,
-    "docs/PROTOCOL.md": 3_000,
-    "docs/PROVED.md": 4_900,
-    "docs/READING.md": 850,
-    "docs/SCENES.md": 1_820,
-    "docs/THREADS.md": 1_800,
-    "docs/TRACING.md": 3_550,
-    "docs/WORDS.md": 550,
-}
-COUNTED_BARE = {"README.md"}
-# The most words of all pages together, as `wc -w README.md docs/*.md` counts them.
-MOST_IN_SUM = 43_000
+# The budgets of docs/WORKING.md: the most words of a page, and of all together.
+MOST_WORDS, MOST_IN_README, MOST_IN_SUM = 3_600, 1_900, 40_000
+WORD = re.compile(r"\S*\w\S*")
 
 
 def files():
@@ -124,8 +105,8 @@ def leads(page, link, known):
 
 
 def words_of(text):
-    """How many words a page has, without its examples, tables and pictures."""
-    return sum(len(line.split()) for line in text.split("\n") if not line.startswith(("    ", "|", "![")))
+    """How many words a page has: the bars and rules of its tables are none."""
+    return len(WORD.findall(text))
 
 
 def contents(page):
@@ -135,14 +116,13 @@ def contents(page):
 
 def too_long():
     """The pages that are longer than they may be, and all together if they are."""
-    whole = {page: contents(page) for page in pages()}
-    for page, most in MOST_WORDS.items():
-        words = words_of(whole[page]) if page in COUNTED_BARE else len(whole[page].split())
+    whole = {page: words_of(contents(page)) for page in pages()}
+    for page, words in whole.items():
+        most = MOST_IN_README if page == "README.md" else MOST_WORDS
         if words > most:
             yield f"{page}: {words} words, at most {most} are wanted"
-    words = sum(len(text.split()) for text in whole.values())
-    if words > MOST_IN_SUM:
-        yield f"all pages: {words} words, at most {MOST_IN_SUM} are wanted"
+    if sum(whole.values()) > MOST_IN_SUM:
+        yield f"all pages: {sum(whole.values())} words, at most {MOST_IN_SUM} are wanted"
 
 
 def off_the_map():

@@ -243,10 +243,15 @@ class Mark:
         self.resumed = self.deed = self.halt = None
 
     def is_drawn(self, brief):
-        """Whether there is anything to draw; in brief only asks, grants, commits and ends."""
+        """Whether there is anything to draw; in brief only asks, grants, commits, ends, and whom a replica names."""
         if self.resumed or self.halt or not brief:
             return bool(self.resumed or self.halt or self.deed)
-        return self.deed is not None and (self.deed[0] in CHIEF or self.deed[0] in ("putmin", "put") and not self.deed[3])
+        if self.deed is None:
+            return False
+        kind, *told = self.deed
+        if kind == "judge":
+            return told[2] > told[0] if told[1] else told[2] == told[0]
+        return kind in CHIEF or kind in ("putmin", "put") and not told[2]
 
 
 def deed_of(replica, verb, answer, taught, ended, resigned_to, granted, judged):

@@ -1,4 +1,4 @@
-# What ./mu and ./mu_draw say of themselves; tools/run_program reads this file, and has set name and top.
+# What the programs say of themselves; tools/run_program and tools/run_c_program read this file, and have set name and top.
 
 tell_mu() {
     cat <<'END'
@@ -12,7 +12,7 @@ A job, as examples/put-and-get.job, is read by
     run        the same with a thread for each replica
     trace      prints the job and each event of its replay: a trace
     eager trace    the same of the replay by such replicas
-    enough     runs nothing: by which step of its replay all is committed, and finished, and whether the budget is enough
+    enough     runs nothing: by which step of its replay all is committed, and finished, and whether the budget is shown to be enough
     live K     a run, and then K readers of the longest log on threads of their own (K from 1 to 4)
     desk       a run whose clients send their commands from threads
     book       takes commands for orders, and prints the trades and what rests
@@ -41,11 +41,61 @@ mu_draw draws a trace as SVG: who owns each region, who leads, puts, commits, en
 
     mu_draw                    all steps, as far as a page has room
     mu_draw FIRST LAST         the steps from FIRST to LAST, counted from 0
-    mu_draw brief              asks, grants, commits and ends alone
+    mu_draw brief              asks, grants, commits, whom each names, and ends alone
     mu_draw brief FIRST LAST   of these steps
 
 `./mu trace < JOB` prints the trace of a job, as examples/put-and-get.trace; docs/FORMATS.md (The picture)
 says what each mark stands for.
+END
+}
+
+tell_mu_processes() {
+    cat <<'END'
+mu_processes runs a job with a process for each replica, kills and stops some, and reports as ./mu run does.
+
+    ./mu_processes JOB [WORDS]          JOB is a file, or - for what comes in
+
+    kill R@WHEN       kill -9 of replica R, or of `leader`: R@1500 after 1.5 ms, R@#20 once 20 entries are decided
+    stop R@WHEN+US    it is stopped (SIGSTOP), and goes on US microseconds later
+    trace FILE        the events of all in one order, for ./mu check, why, tell and ./mu_draw
+    moments           who asked, was granted, committed, when: lines on standard error, in microseconds
+    nap US            nobody naps longer than US microseconds, 1 to 8192; else naps go by how long cycles take
+    file FILE         the words are in FILE, which other processes may map
+    wait              with `file`: nobody is started here; start each yourself, from any terminal, by
+
+    ./mu_processes replica ID FILE
+    ./mu_processes serve N [WORDS]      N replicas that run live: lines are read one by one, and answered:
+                                        put a 5, kill leader, stop 1, continue 1
+
+You may kill -9 any replica's process yourself, too. While fewer than half are gone, the others finish.
+
+    ./mu_processes examples/put-and-get.job kill leader@#1 moments
+
+The exit status is S of the last line, `status S`: 0 if all commands are in the log, 3 if some aren't; 1 for words
+that are none, 2 for a refused job, 70 if no run came about. docs/PROCESSES.md says what is proved of it.
+END
+}
+
+tell_mu_fabric() {
+    cat <<'END'
+mu_fabric runs replicas over a network by libfabric: on each host a memory, which has its words, and a replica.
+
+    ./mu_fabric memory ID HOSTS [provider NAME]
+    ./mu_fabric replica ID HOSTS JOB [provider NAME] [limit MS] [linger MS] [nap US] [moments]
+    ./mu_fabric JOB [WORDS]             a memory and a replica for each host, all on this machine
+
+HOSTS is a file with a line `ID NODE SERVICE` a host, as `0 10.0.0.1 7470`. Whoever reaches these ports can write any
+word: use a network of your own.
+
+    kill, stop, trace, moments, nap     as for ./mu_processes: on this machine
+    lose H@WHEN       kill -9 of the memory of host H
+    provider NAME     of libfabric; else tcp;ofi_rxm. One that lacks an atomic operation is refused
+    limit MS          how long an access may take, else 2000: one that gets no answer ends its replica, `unanswered`
+    linger MS         how long a replica of its own answers others after it has finished, else 5000
+
+    ./mu_fabric examples/put-and-get.job kill leader@#1 trace run.trace
+
+The exit status is as that of ./mu_processes. docs/PROCESSES.md says what is proved, and what a dead memory does.
 END
 }
 
@@ -58,15 +108,20 @@ program_now() {
     fi
     mark=$top/out/unproved/$name.sum
     if [ -x "$top/out/unproved/$name" ] && [ -f "$mark" ] && ! is_changed; then
-        echo "out/unproved/$name, built without proofs, with checks (./prove proves)"
+        echo "out/unproved/$name, built without proofs, with checks: 100 to 400 times slower than what ./prove leaves"
     else
         echo "none yet, or one of other sources: the next command builds or finds it"
     fi
 }
 
+# The commit, or else the checksum of the sources, as ./prove and a first build note it.
+sources_now() {
+    git -C "$top" describe --always --dirty 2>/dev/null ||
+        python3 -c 'import sys; sys.path.insert(0, sys.argv[1]); import programs; print(programs.sources_sum()[:12])' "$tools"
+}
+
 tell_version() {
-    echo "$name of the sources $(git -C "$top" describe --always --dirty 2>/dev/null || echo 'of a copy without git')," \
-        "for jobs, traces and reports of versions 1 and 2"
+    echo "$name of the sources $(sources_now), for jobs, traces and reports of versions 1 and 2"
     echo "proved with: $(grep -o -m 1 'rattle-kit-[^`]*' "$top/README.md")"
     echo "rt in PATH:  $(rt version 2>/dev/null || echo 'not found')"
     echo "program:     $(program_now)"

@@ -10,8 +10,9 @@ words, one a line, and NAME.stdout with what has to be printed; if there is a fi
 it is a line `case NAME WORD`, the input, and a line `prints` with what has to be printed below it, or
 `begins` or `ends` with what that has to begin or to end with, or `prints sha256 SUM` with its checksum. A
 backslash before that word says that the last line of the input has no line feed. The status that is wanted
-stands behind that word, as `status S`, or is that of the last line, `status S`, or of what is said: usage 1,
-refused 2, illegal 7.
+stands behind that, as `status S`, or is that of the last line, `status S`, or of what is said: usage 1,
+refused 2, illegal 7. The input may be that of an earlier case NAME of the table, by `like NAME`, with lines
+of it changed: `N= LINE` stands in place of its line N, `N+ LINE` before it, and `N-` leaves it out.
 """
 import os
 import re
@@ -22,7 +23,8 @@ import trying
 from telling import telling
 
 # The line of a table between an input and what is printed of it.
-TOLD_LINE = re.compile(rb"^(\\?)(prints|begins|ends)(?: (sha256 [0-9a-f]+|status \d))?(?:\n|\Z)", re.MULTILINE)
+TOLD_LINE = re.compile(rb"^(\\?)(prints|begins|ends)(?: sha256 ([0-9a-f]+))?(?: status (\d))?(?:\n|\Z)", re.MULTILINE)
+CHANGE = re.compile(rb"(\d+)([=+-]) ?(.*)")
 STATUS_OF = {b"usage:": 1, b"refused": 2, b"illegal": 7, b"legal": 0}
 
 
@@ -55,24 +57,42 @@ def stored_cases(folder):
     return cases
 
 
-def table_case(name, text):
-    """A case of a table, from its first line on."""
+def changed(given, changes):
+    """An input with some of its lines changed."""
+    before, instead = {}, {}
+    for change in changes:
+        number, kind, line = CHANGE.fullmatch(change).groups()
+        if kind == b"+":
+            before.setdefault(int(number), []).append(line)
+        else:
+            instead[int(number)] = [line] if kind == b"=" else []
+    return b"\n".join(it for number, line in enumerate(given.split(b"\n"), 1)
+                      for it in (*before.get(number, ()), *instead.get(number, [line])))
+
+
+def table_case(name, text, others=()):
+    """A case of a table, from its first line on; its input may be like that of another."""
     head, rest = text.split(b"\n", 1)
     told = TOLD_LINE.search(rest)
     given, wanted = rest[:told.start()], rest[told.end():]
     title, *words = head.decode().split(" ")
-    kind, value = (told[3] or b"").decode().partition(" ")[::2]
+    if given.startswith(b"like "):
+        base, *changes = given.split(b"\n")[:-1]
+        given = changed(next(it.given for it in others if it.name == f"{name}/{base[5:].decode()}"), changes)
+    summed, status = (told[at].decode() if told[at] else None for at in (3, 4))
     case = {b"prints": trying.Case, b"begins": trying.BeginningCase, b"ends": trying.EndingCase}[told[2]]
     made = [f"{name}/{title}", words, given[:-1] if told[1] else given]
-    if kind == "sha256":
-        return trying.SummedCase(*made, value)
-    return case(*made, wanted, int(value) if kind == "status" else wanted_status(wanted))
+    status = wanted_status(wanted) if status is None else int(status)
+    return trying.SummedCase(*made, summed, status) if summed else case(*made, wanted, status)
 
 
 def table_cases(path):
     """The cases of a table."""
     name, (_, *texts) = os.path.basename(path), re.split(rb"^case ", contents(path), flags=re.MULTILINE)
-    return [table_case(name, text) for text in texts]
+    cases = []
+    for text in texts:
+        cases.append(table_case(name, text, cases))
+    return cases
 
 
 def cases_at(path):

@@ -49,6 +49,7 @@ class Job:
         self.batch = 1
         self.version = self.replicas = 0
         self.stops = {}
+        self.ends = ['finished', 'stopped', 'budget', 'outrun']
         script = False
         for line in text.split('\n'):
             words = line.split(' ')
@@ -201,7 +202,7 @@ def check_sessions(job, log):
 def check_end(job, log):
     """A replica that stopped is one that the script stops; one that finished committed no more than
     it applied."""
-    if log.end not in ('finished', 'stopped', 'budget', 'outrun'):
+    if log.end not in job.ends:
         raise Wrong(f'log {log.replica}: no end: {log.end}')
     if log.end == 'stopped' and log.replica not in job.stops:
         raise Wrong(f'log {log.replica}: stopped without a stop')
@@ -209,8 +210,9 @@ def check_end(job, log):
         raise Wrong(f'log {log.replica}: more commits than entries')
 
 
-def check_report(job, text, status):
-    """Raises `Wrong` if the report is none that the definitions permit."""
+def check_report(job, text, status, tells=lambda log: True):
+    """Raises `Wrong` if the report is none that the definitions permit. The replies are those of the longest log of a
+    replica that tells them."""
     report = Report(text, job)
     if [log.replica for log in report.logs] != list(range(job.replicas)):
         raise Wrong('not a log for each replica, in order')
@@ -223,7 +225,8 @@ def check_report(job, text, status):
             both = min(len(one.entries), len(other.entries))
             if one.entries[:both] != other.entries[:both]:
                 raise Wrong(f'logs {one.replica} and {other.replica}: none begins the other')
-    longest = max(report.logs, key=lambda log: len(log.entries)).commands()
+    telling = [log for log in report.logs if tells(log)]
+    longest = max(telling, key=lambda log: len(log.entries)).commands() if telling else []
     store = Store()
     replies = [f'{client}.{number} {store.reply(command)}' for client, number, command in longest]
     if replies != report.replies:

@@ -3,8 +3,7 @@
 program: `./mu attest` has to say the same.
 
     tools/second_attest.py TRACE ..      judges such traces
-    tools/second_attest.py --write       writes cases/attest.table: lines put into two traces, and what is said of each
-    tools/second_attest.py               compares what it says with the stored table
+    tools/second_attest.py               shows the cases of ./test: lines put into two traces, and what is said of each
 
 It goes through the steps as tools/second_judge.py does, and has a store of its own (tools/moments.py).
 """
@@ -12,14 +11,16 @@ import os
 import re
 import sys
 
+import trying
 from account import Job
 from beginning import begin
 from moments import reply_to
-from programs import EXAMPLES, TOP, tell
-from run_cases import contents
+from programs import EXAMPLES, TOP
+from run_cases import contents, wanted_status
 from second_judge import Steps
 
-TABLE = os.path.join(TOP, "cases", "attest.table")
+# The status of what is wrong.
+ILLEGAL = 7
 NUMBER, TEXT = "(0|[1-9][0-9]{0,19})", "[!-~]{1,64}"
 GOT = re.compile(f"got {NUMBER}")
 TOLD = re.compile(f"{NUMBER} told {NUMBER} = (done|none|value {TEXT}|kept {TEXT})")
@@ -239,17 +240,6 @@ def longer_cases():
     yield "batches_never_put", put_into(short, (end, "got 5"), (end, "got 11"))
 
 
-def table():
-    """The table as it is to be."""
-    parts = []
-    for name, text in cases():
-        if not text:
-            continue
-        said, whole = expected(name, text)
-        parts.append(f"case {name} attest\n{text}{'prints' if whole else 'begins status 7'}\n{said}")
-    return "".join(parts)
-
-
 # What is said of a job that leaves the grammar, by hand.
 JOBS = {"got_before_job": "refused line 1 cause 1\n", "got_in_job": "refused line 8 cause 6\n"}
 
@@ -259,25 +249,25 @@ def expected(name, text):
     return (JOBS[name], True) if name in JOBS else attested(text)
 
 
-def compared():
-    """How many cases there are, and whether the stored table is another one."""
-    wanted = table()
-    same = contents(TABLE).decode() == wanted
-    return wanted.count("\ncase ") + 1, [] if same else [f"{TABLE} is another one: tools/second_attest.py --write"]
+def attest_cases():
+    """The cases: what `mu attest` has to print of each, or, where an event breaks the list, how that begins."""
+    made = []
+    for name, text in filter(lambda it: it[1], cases()):
+        said, whole = expected(name, text)
+        kind = trying.Case if whole else trying.BeginningCase
+        made.append(kind(f"attest {name}", ["attest"], text.encode(), said.encode(), wanted_status(said.encode()) if whole else ILLEGAL))
+    return made
 
 
 def main():
     begin(__doc__)
-    if sys.argv[1:] == ["--write"]:
-        with open(TABLE, "w", encoding="utf-8") as out:
-            out.write(table())
-        return 0
     if sys.argv[1:]:
         for path in sys.argv[1:]:
             print(f"{path}:", attested(contents(path).decode())[0], end="")
         return 0
-    count, wrong = compared()
-    return tell(wrong, f"{count} cases, {len(wrong)} troubles")
+    for case in attest_cases():
+        print(f"{case.name}: {case.wanted.decode()}", end="")
+    return 0
 
 
 if __name__ == "__main__":

@@ -16,6 +16,9 @@ from judged_table import judged
 from programs import EXAMPLES, TOP, tell
 from run_cases import contents, stored_cases
 
+# What a cause begins with if the step may come and finds something else.
+WRONG_ANSWER = "wrong answer: "
+
 
 class Steps:
     """The events of a list, and what they come to, with a rule left out or with all."""
@@ -49,7 +52,7 @@ class Steps:
                 return index, point
             self.step(by, verb, *words)
             if self.events[-1] != event:
-                return index, "wrong answer: " + self.events[-1]
+                return index, WRONG_ANSWER + self.events[-1]
         return None
 
 

@@ -21,6 +21,7 @@ import run_cases
 import trying
 from bound_jobs import bound_cases
 from judged_table import judged
+from made_lists import broken
 from programs import TOP
 from stop_jobs import stop_cases
 
@@ -75,28 +76,6 @@ def random_job(chance):
         lines += [f"client {client}", *(command(chance) for _ in range(chance.randint(0, 12)))]
     told = script(chance, replicas) if chance.random() < 0.8 else []
     return "\n".join([*lines, *(["script", *told] if told else []), "end", ""]).encode()
-
-
-def broken(chance, trace):
-    """The trace with one of its events dropped, repeated, moved behind the next ones, or changed."""
-    lines = trace.decode().split("\n")
-    first = lines.index("end") + 1
-    if len(lines) - first < 4:
-        return trace
-    at = chance.randrange(first, len(lines) - 3)
-    line = lines.pop(at)
-    kind = chance.choice(("dropped", "repeated", "moved", "changed"))
-    if kind == "repeated":
-        lines[at:at] = [line, line]
-    elif kind == "moved":
-        lines.insert(min(at + chance.randint(1, 9), len(lines) - 2), line)
-    elif kind == "changed":
-        words = line.split(" ")
-        numbers = [place for place, word in enumerate(words) if word.isdigit()]
-        place = chance.choice(numbers)
-        words[place] = str(max(0, int(words[place]) + chance.choice((-1, 1))))
-        lines.insert(at, " ".join(words))
-    return "\n".join(lines).encode()
 
 
 def printed(program, words, given):

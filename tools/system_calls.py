@@ -1,6 +1,7 @@
 #!/usr/bin/env python3
 """Runs `mu` and counts its system calls. Over a large input and into a large output it reads in pieces of 64 KiB and
-writes in pieces of 32 KiB, not byte by byte, line by line or event by event. The threads of `mu run` yield for each round
+writes in pieces of 32 KiB, not byte by byte, line by line or event by event; `mu serve` reads a file in pieces of 4 KiB.
+The threads of `mu run` yield for each round
 of a pause, and sleep while nothing gets done, but not long (if there is a C compiler: a C file is loaded that counts).
 
     tools/system_calls.py      the program that ./prove left, or an unproved build; the last line is
@@ -18,7 +19,7 @@ import trying
 from own_traces import preloaded
 from programs import tell
 
-READ_PIECE, WRITE_PIECE = 65_536, 32_768
+READ_PIECE, WRITE_PIECE, SESSION_PIECE = 65_536, 32_768, 4_096
 # Of both together: what a process needs beside its pieces (it begins, looks for its words and its end), and what ends a piece
 # early.
 BESIDE = 40
@@ -30,7 +31,8 @@ PAUSED_JOB = b"mu 1\nreplicas 1\nring 8\nbudget 1000\nclient 0\nput a 5\nscript\
 LEAST_SLEEPS, REST_SECONDS = 100, 60
 LONELY_JOB = b"mu 1\nreplicas 2\nring 8\nbudget 10000\nclient 0\nput a 5\nscript\nstop 1 0\nend\n"
 # How many runs are counted, if there is a C compiler.
-COUNT = 6
+COUNT = 7
+SESSION = b"client 1\n" * 3_000
 JOB = ("mu 1\nreplicas 3\nring 64\nbudget 131071\nclient 0\n" + "put key value\n" * COMMANDS_OF_JOB + "end\n").encode()
 
 
@@ -57,6 +59,13 @@ def trouble(words, given, output, reads, writes):
         return (f"{' '.join(words[1:])}: {reads} reads of {len(given)} bytes and {writes} writes of {len(output)}, "
                 f"at most {most_reads} and {most_writes}")
     return None
+
+
+def session_trouble(path):
+    """What is wrong with the reads of a session, if anything is."""
+    _, reads, _ = counted([path, "serve", "3"], SESSION)
+    most = len(SESSION) // SESSION_PIECE + BESIDE
+    return f"serve: {reads} reads of {len(SESSION)} bytes, at most {most}" if reads > most else None
 
 
 def rests(path, given, loaded):
@@ -86,6 +95,7 @@ def tried(path_of):
     found = [trouble([path, "trace"], JOB, trace, *calls)]
     for words, given in (["check"], trace), (["tell"], trace), (["replay"], JOB):
         found.append(trouble([path, *words], given, *counted([path, *words], given)))
+    found.append(session_trouble(path))
     with tempfile.TemporaryDirectory() as room:
         loaded = preloaded("rests", room)
         if loaded:

@@ -10,12 +10,16 @@ import os
 import select
 import subprocess
 import sys
+import time
 
 import trying
 from programs import tell
 from run_cases import table_cases
 
-TABLE = os.path.join(os.path.dirname(os.path.dirname(os.path.realpath(__file__))), "cases", "serve.table")
+TOP = os.path.dirname(os.path.dirname(os.path.realpath(__file__)))
+TABLE = os.path.join(TOP, "cases", "serve.table")
+# How long nothing comes of a pipe that doesn't block, in seconds; what comes then, and how its answer begins.
+LATE_SECONDS, LATE, ANSWERED = 1, b"put a 5\n", b"0.1 done\n"
 # How long an answer may take, in seconds, and how many bytes are read at once.
 MOST_SECONDS, PIECE = 60, 65_536
 
@@ -67,6 +71,27 @@ def tried(program, table=TABLE):
     """How many talks were held over the cases of a table, and what is wrong with them."""
     cases = table_cases(table)
     return len(cases), [trouble for trouble in (trouble_of(program, case) for case in cases) if trouble]
+
+
+def late_troubles(launcher=os.path.join(TOP, "mu")):
+    """What is wrong with a session that the launcher holds over pipes that don't block, whose line comes late."""
+    reading, writing = os.pipe()
+    answers, out = os.pipe()
+    for end in (reading, out):
+        os.set_blocking(end, False)
+    with subprocess.Popen([launcher, "serve", "3"], stdin=reading, stdout=out, stderr=subprocess.DEVNULL) as process:
+        for end in (reading, out):
+            os.close(end)
+        time.sleep(LATE_SECONDS)
+        try:
+            os.write(writing, LATE)
+        except BrokenPipeError:
+            pass
+        os.close(writing)
+        with os.fdopen(answers, "rb") as told:
+            output = told.read()
+    right = process.returncode == 0 and output.startswith(ANSWERED)
+    return [] if right else [f"pipes that don't block: status {process.returncode}, {output[:40]}"]
 
 
 def main():

@@ -1,9 +1,17 @@
-"""The page that ./tour leaves: each command with its input, what it prints, and the picture of the run.
+"""The page that ./tour leaves: each command with its input, what it prints, and the picture of the run; then the
+scenes of docs/SCENES.md, with the pictures that are stored beside them.
 
 tools/look_at_tour.py looks at it in a browser.
 """
 import html
+import os
 import re
+
+from programs import TOP
+
+SCENES = os.path.join(TOP, "docs", "SCENES.md")
+# A picture of that page, by itself in its line; a heading.
+IMAGE, HEADING = re.compile(r"!\[[^\]]*\]\(\.\./(\S+\.svg)\)"), re.compile(r"(#+) (.*)")
 
 HEAD_LINES = 12
 # A text of more lines is folded.
@@ -26,8 +34,8 @@ TOLD = {
 }
 INTRO = """
 <p>Mu is a replication engine: replicas of a key-value store keep one log of commands each, and a leader writes the
-logs of the others itself, a word of their memory at a time. It is proved that no position of the log ever
-gets two values, whatever the interleaving, and whichever replicas stop or pause. A <em>job</em> says how many replicas there are and
+logs of the others itself, a word of their memory at a time. It is proved that no position of the log is ever
+decided twice, whatever the interleaving, and whichever replicas stop or pause. A <em>job</em> says how many replicas there are and
 what clients send; a <em>trace</em> is a job with each step of a run.</p>
 <p>In a picture time goes down and each replica has a lane, with its region (the memory that others write) to the
 right. A band in a lane is a leadership, a region's bar has the colour of the replica that may write it, a thin arrow
@@ -50,9 +58,12 @@ h2 { font-size: 17px; margin: 1em 0 0 } p { margin: .3em 0 .7em } h3 { font-size
 .texts { display: grid; grid-template-columns: minmax(0, 1fr) minmax(0, 1fr); gap: 1em }
 .texts > div, figure { border: 1px solid var(--line); padding: .6em; margin: 0 0 1em }
 @media (max-width: 900px) { .texts { grid-template-columns: minmax(0, 1fr); gap: 0 } body { margin: 1em auto } }
-img { display: block; max-width: 100%; height: auto; background: #fff }
+figure { overflow-x: auto }
+img { display: block; background: #fff }
+@media (prefers-color-scheme: dark) { img { filter: invert(.89) hue-rotate(180deg) } }
 figcaption, summary { font-size: 13px; color: var(--quiet); margin-top: .4em }
-nav ol { columns: 24em; padding-left: 2em } nav li { margin: .15em 0; break-inside: avoid }
+nav ol { columns: 29em; column-gap: 2em; padding-left: 2em }
+nav li { margin: .15em 0; break-inside: avoid; overflow-wrap: anywhere }
 """
 
 
@@ -90,10 +101,44 @@ class Pictures:
         if trace in self.shown:
             return f"<p>The picture of {trace} stands <a href='#{self.shown[trace]}'>above</a>.</p>\n"
         self.shown[trace] = place
-        width, height = re.search(rb"width='(\d+)' height='(\d+)'", picture).groups()
-        return (f"<figure><a href='{trace}.svg'><img src='{trace}.svg' width='{width.decode()}' "
-                f"height='{height.decode()}' alt='{alternative(trace, picture)}'></a>"
-                f"<figcaption>{trace}, as ./mu_draw draws it</figcaption></figure>\n")
+        return figure(f"{trace}.svg", trace, picture, f"{trace}, as ./mu_draw draws it")
+
+
+def figure(name, of, picture, caption):
+    """A picture, as large as it is, since its words are small: a narrow window scrolls it."""
+    width, height = re.search(rb"width='(\d+)' height='(\d+)'", picture).groups()
+    return (f"<figure><a href='{name}'><img src='{name}' width='{width.decode()}' height='{height.decode()}' "
+            f"alt='{alternative(of, picture)}'></a><figcaption>{html.escape(caption)}</figcaption></figure>\n")
+
+
+def marked_up(text):
+    """A paragraph of a page, with its code, emphasis and links."""
+    text = html.escape(text, quote=False)
+    text = re.sub(r"\[([^\]]*)\]\([^)]*\)", r"\1", text)
+    text = re.sub(r"`([^`]*)`", r"<code>\1</code>", text)
+    text = re.sub(r"\*\*([^*]*)\*\*", r"<strong>\1</strong>", text)
+    return re.sub(r"\*([^*]*)\*", r"<em>\1</em>", text)
+
+
+def scenes():
+    """The scenes: the entries of their titles, what stands in the page, and the stored pictures by name."""
+    with open(SCENES, encoding="utf-8") as text:
+        blocks = text.read().strip().split("\n\n")[1:]
+    entries, parts, pictures = [], [], {}
+    for block in blocks:
+        image, heading = IMAGE.fullmatch(block), HEADING.fullmatch(block)
+        if image:
+            name = os.path.basename(image[1])
+            with open(os.path.join(TOP, image[1]), "rb") as picture:
+                pictures[name] = picture.read()
+            parts.append(figure(name, image[1], pictures[name], image[1]))
+        elif heading:
+            place = f"scene-{len(entries) + 1}"
+            entries.append(f"<li><a href='#{place}'>{marked_up(heading[2])}</a></li>\n")
+            parts.append(f"</section>\n<section id='{place}'>\n<h2>{marked_up(heading[2])}</h2>\n")
+        else:
+            parts.append(f"<p>{marked_up(block)}</p>\n")
+    return entries, f"<section>\n{''.join(parts)}</section>\n", pictures
 
 
 def sentence(told):
@@ -113,14 +158,18 @@ def section(number, stop, answer, picture):
 
 
 def page(seen, answers, drawn, trace_of, built):
-    """The whole page."""
+    """The whole page, and the stored pictures that it shows besides those that are drawn."""
     pictures, sections, entries = Pictures(drawn), [], []
     for number, (stop, answer) in enumerate(zip(seen, answers), 1):
         sections.append(section(number, stop, answer, pictures.of(trace_of(stop.example), f"stop-{number}")))
         entries.append(f"<li><a href='#stop-{number}'><code>{html.escape(stop.command())}</code></a></li>\n")
-    return ("<!doctype html>\n<html lang='en'>\n<meta charset='utf-8'>\n"
+    titles, told, stored = scenes()
+    whole = ("<!doctype html>\n<html lang='en'>\n<meta charset='utf-8'>\n"
             "<meta name='viewport' content='width=device-width, initial-scale=1'>\n<title>Mu: a tour</title>\n"
             f"<style>{STYLE}</style>\n<h1>Mu: a tour</h1>\n{INTRO}"
             f"<p>These are the commands of README.md and the other stored runs of examples/, run by {built}. "
             "The picture beside a job is that of its replay.</p>\n"
-            f"<nav><ol>\n{''.join(entries)}</ol></nav>\n{''.join(sections)}</html>\n")
+            f"<nav><ol>\n{''.join(entries)}</ol></nav>\n"
+            "<p>And these are the scenes of docs/SCENES.md.</p>\n"
+            f"<nav><ol>\n{''.join(titles)}</ol></nav>\n{''.join(sections)}<h1>Scenes</h1>\n{told}</html>\n")
+    return whole, stored

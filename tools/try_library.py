@@ -1,12 +1,15 @@
 #!/usr/bin/env python3
-"""Tries the library for C, out/libmu.a and out/libmu.so, as ./library leaves them.
+"""Tries the library for C, out/libmu.a and out/libmu.so, as ./library leaves them, or those of the folder $LIBMU_AT.
 
-    tools/try_library.py                 each call from C, C++ and Python; sessions of a live engine from
-                                         each, with random commands, stops and pauses; the examples of
-                                         examples/own; and that a list judged event by event gets the
-                                         answer of the whole trace, over the judged traces and the stored
+    tools/try_library.py                 each call from C, C++ and Python, also on a stack of MU_STACK bytes;
+                                         a thousand engines, each let go, in little memory; sessions of a
+                                         live engine from each, with random commands, stops and pauses; the
+                                         examples of examples/own; and that a list judged event by event gets
+                                         the answer of the whole trace, over the judged traces and the stored
                                          ones
     tools/try_library.py FOLDER..        the same also over the traces of these folders of cases
+    tools/try_library.py --quick         the same over no traces, and with few sessions: as ./test does with a library
+                                         without proofs
     tools/try_library.py --memory        how much memory a judge takes over a list of 64 MiB
 
 It needs a C compiler, and for C++ one that takes it.
@@ -24,15 +27,22 @@ from beginning import begin
 from engine_sessions import ByLines, ByTypes, try_sessions
 from judged_table import judged
 from own_traces import OWN, PLACE, RUNS, SEEN, c_compiler, cxx_compiler
-from programs import TOP
+from programs import EXAMPLES, TOP
 from run_cases import contents
 
 sys.path.insert(0, OWN)
-HEADER, ARCHIVE = os.path.join(TOP, "c"), os.path.join(TOP, "out", "libmu.a")
+HEADER, FOLDER = os.path.join(TOP, "c"), os.path.abspath(os.environ.get("LIBMU_AT", os.path.join(TOP, "out")))
+ARCHIVE = os.path.join(FOLDER, "libmu.a")
+os.environ["LIBMU"] = os.path.join(FOLDER, "libmu.so")
 # The causes of a line after the job: it is no event, the last `end` is missing, or lines follow it.
 NO_EVENT, NO_END, AFTER_END = b"13", b"11", b"12"
 MEMORY_BYTES = 64 << 20
-SESSIONS = 20
+SESSIONS, QUICK_SESSIONS = 20, 2
+# How many random schedules of replicas over an array.
+SCHEDULES, QUICK_SCHEDULES = 1000, 20
+# So many engines and judges are let go, or left to Python, and the process takes no more than this many KiB more than
+# after the first few: one of them takes 7 MB.
+ENGINES, FIRST_ENGINES, MORE_KIB = 1_000, 20, 8_192
 # A number that has more than 32 bits, and the greatest that hasn't.
 TOO_LARGE, LARGEST = 4_294_967_296, 4_294_967_295
 # What the example of an engine has to print: its store's replies, and a stop between them.
@@ -79,6 +89,26 @@ def try_calls(tried, folder, compiler):
     for language, program in in_both(folder, compiler, "uses"):
         run = subprocess.run([program], stdout=subprocess.PIPE, check=False)
         tried.expect(f"c/uses.c as {language}", run.stdout, b"mu.h is as it says\n")
+    made = os.path.join(folder, "uses.o")
+    subprocess.run([compiler, "-std=c11", "-O2", "-I", HEADER, "-Dmain=uses_main", "-c", os.path.join(HEADER, "uses.c"), "-o", made], check=True)
+    small = built(compiler, folder, "small_stack", "-std=c11", "-pthread", os.path.join(HEADER, "small_stack.c"), made)
+    run = subprocess.run([small], stdout=subprocess.PIPE, check=False)
+    tried.expect("each call on a small stack", run.stdout, b"mu.h is as it says\n")
+    if cxx_compiler():
+        program = built(cxx_compiler(), folder, "uses_17", "-std=c++17", os.path.join(HEADER, "uses.cc"))
+        run = subprocess.run([program], stdout=subprocess.PIPE, check=False)
+        tried.expect("c/uses.cc", run.stdout, b"mu.hpp is as it says\n")
+
+
+def try_alone(tried, folder, compiler):
+    """Replicas over an array: in turn they make the stored trace, and lists of random schedules are legal."""
+    example = built(compiler, folder, "alone", "-std=c11", os.path.join(OWN, "alone.c"))
+    run = subprocess.run([example], stdout=subprocess.PIPE, timeout=120, check=False)
+    tried.expect("alone.c", (run.returncode, run.stdout), (0, contents(os.path.join(EXAMPLES, "put-and-get.trace")) + b"legal 725\n"))
+    program = built(compiler, folder, "schedules", "-std=c11", "-Wno-format-nonliteral", os.path.join(HEADER, "alone.c"))
+    runs = QUICK_SCHEDULES if "--quick" in sys.argv else SCHEDULES
+    run = subprocess.run([program, str(runs), "1"], stdout=subprocess.PIPE, timeout=600, check=False)
+    tried.expect("c/alone.c", (run.returncode, run.stdout.endswith(b"all lists are legal\n")), (0, True))
 
 
 def try_engines(tried, library, folder, compiler):
@@ -88,8 +118,10 @@ def try_engines(tried, library, folder, compiler):
     tried.expect("engine.c", (run.returncode, run.stdout), (0, EXAMPLE))
     run = subprocess.run([sys.executable, os.path.join(OWN, "engine.py")], stdout=subprocess.PIPE, timeout=120, check=False)
     tried.expect("engine.py", (run.returncode, run.stdout), (0, EXAMPLE + b"legal\n"))
+    try_alone(tried, folder, compiler)
+    sessions = QUICK_SESSIONS if "--quick" in sys.argv else SESSIONS
     engines = [(language, lambda program=program: ByLines(program)) for language, program in in_both(folder, compiler, "sessions")]
-    try_sessions(tried, library, [*engines, ("Python", lambda: ByTypes(library))], SESSIONS)
+    try_sessions(tried, library, [*engines, ("Python", lambda: ByTypes(library))], sessions)
 
 
 def raised(mu_library, call, *given):
@@ -125,6 +157,35 @@ def try_python(tried, mu_library):
         tried.expect("a get of a leader alone", engine.reply_in_time(engine.submit(1, b"get a")), b"value 5")
         engine.stop(0)
         tried.expect("a get of nobody", engine.reply_in_time(engine.submit(2, b"get a"), rounds=50), None)
+    tried.expect("a call on one that was let go", raised(mu_library, engine.round), usage)
+    with mu_library.Engine(replicas=1, commands=2) as engine:
+        tried.expect("a str", engine.reply_in_time(engine.submit(0, "put a 5")), b"done")
+        try:
+            engine.submit(0, "put a ä")
+        except UnicodeEncodeError as cause:
+            tried.expect("a str that isn't ASCII", cause.encoding, "ascii")
+        try:
+            engine.submit(0, "put a")
+        except mu_library.Refused as refused:
+            tried.expect("a refusal's words", str(refused), "MU_REFUSED: the line is no command")
+
+
+def try_letting_go(tried, mu_library):
+    """Engines and judges that are let go, or that nobody has any more, leave their memory."""
+    job = b"mu 1\nreplicas 7\nring 64\nbudget 9999\nend\n"
+    for how in ("with", "left"):
+        first = None
+        for number in range(ENGINES):
+            owned = [mu_library.Engine(replicas=3), mu_library.Judge(job)]
+            owned[0].submit(0, b"put a 5")
+            owned[0].round()
+            if how == "with":
+                for it in owned:
+                    it.close()
+            del owned
+            if number == FIRST_ENGINES:
+                first = resident()
+        tried.expect(f"{ENGINES} engines, {how}: KiB more below {MORE_KIB}", resident() - first < MORE_KIB, True)
 
 
 def try_own(tried, folder, compiler):
@@ -229,7 +290,7 @@ def iter_to_end(lines):
 def main():
     begin(__doc__)
     if not os.path.exists(ARCHIVE):
-        print("try_library: there is no out/libmu.a: ./library builds it")
+        print(f"try_library: there is no {ARCHIVE}: ./library builds it")
         return 1
     import mu_library
     if sys.argv[1:] == ["--memory"]:
@@ -239,8 +300,10 @@ def main():
         try_calls(tried, folder, compiler)
         try_engines(tried, mu_library, folder, compiler)
         try_python(tried, mu_library)
+        try_letting_go(tried, mu_library)
         try_own(tried, folder, compiler)
-    try_traces(tried, mu_library, stored_traces([os.path.join(TOP, "cases", "trace"), *sys.argv[1:]]))
+    if sys.argv[1:] != ["--quick"]:
+        try_traces(tried, mu_library, stored_traces([os.path.join(TOP, "cases", "trace"), *sys.argv[1:]]))
     for wrong in tried.wrong:
         print(wrong)
     print(f"{tried.tried - len(tried.wrong)} passed, {len(tried.wrong)} failed")

@@ -69,8 +69,8 @@ class EndingCase(Case):
 class SummedCase(Case):
     """A run of whose output the checksum alone is known."""
 
-    def __init__(self, name, words, given, summed):
-        super().__init__(name, words, given)
+    def __init__(self, name, words, given, summed, status=None):
+        super().__init__(name, words, given, status=status)
         self.summed = summed
 
     def trouble(self, answer):

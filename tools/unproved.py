@@ -61,6 +61,8 @@ def leave(name, room, checksum, moment):
     path = os.path.join(FOLDER, name)
     shutil.copy(os.path.join(room, name), path + ".new")
     os.replace(path + ".new", path)
+    with contextlib.suppress(FileNotFoundError):
+        os.remove(path + ".told")
     with open(mark_of(name), "w", encoding="ascii") as mark:
         mark.write(checksum + "\n")
     set_mark_time(moment, mark_of(name))

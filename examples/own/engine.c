@@ -24,9 +24,9 @@ static uint32_t reply_in_time(mu_engine *engine, uint32_t row, uint32_t *reply, 
 
 int main(void)
 {
-    mu_engine engine = MU_NO_ENGINE;
+    mu_engine engine;
     size_t count = sizeof COMMANDS / sizeof *COMMANDS;
-    if (mu_engine_new(&engine, 3, 64, 131071, (uint32_t)count) != MU_DONE)
+    if (mu_engine_new(&engine, 3, 1024, 131071, (uint32_t)count) != MU_DONE)
         return 1;
     for (size_t k = 0; k < count; k++) {
         char text[TEXT_BYTES];

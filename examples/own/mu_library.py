@@ -4,6 +4,12 @@ import os
 
 DONE, USAGE, REFUSED, UNFINISHED, NO_MEMORY, ILLEGAL, TOO_LONG = 0, 1, 2, 3, 6, 7, 8
 FULL, STOPPED, MIXED = 9, 10, 11
+# What each status that isn't DONE says, beside its name.
+MEANT = {USAGE: ("USAGE", "no such client, replica, row or number, or it was let go"),
+         REFUSED: ("REFUSED", "the line is no command"), UNFINISHED: ("UNFINISHED", "there is no reply yet"),
+         NO_MEMORY: ("NO_MEMORY", "there was no memory"), ILLEGAL: ("ILLEGAL", "the list isn't legal"),
+         TOO_LONG: ("TOO_LONG", "the input is too long"), FULL: ("FULL", "as many commands were submitted as may be"),
+         STOPPED: ("STOPPED", "the replica is stopped"), MIXED: ("MIXED", "no text of a job has the commands in this order")}
 REPLIES = {1: "done", 2: "value", 3: "none", 4: "kept"}
 TASKS = {"replay": 1, "trace": 2, "check": 3, "why": 4, "book": 5, "bulk": 6, "tell": 7, "attest": 8}
 LAST_STEP, LAST_NUMBER = 9_999_999, 4_294_967_295
@@ -51,6 +57,11 @@ def number(value):
     return value
 
 
+def in_bytes(text):
+    """The bytes of a text; a `str` has to be ASCII, as all that the library reads."""
+    return text.encode("ascii") if isinstance(text, str) else bytes(text)
+
+
 def told(call, *given, room=4096):
     """The status and the whole text of a call, with more room if the first wasn't enough."""
     taken = SIZE()
@@ -63,50 +74,76 @@ def told(call, *given, room=4096):
 
 
 def answer(task, given):
-    """What `mu TASK` says of these bytes, and its status."""
+    """What `mu TASK` says of this text or these bytes, and its status."""
+    given = in_bytes(given)
     return told(library.mu_answer, TASKS[task], given, len(given))
 
 
 def show(given, events=LAST_STEP):
     """What `mu show EVENTS` says of a trace, and its status."""
+    given = in_bytes(given)
     return told(library.mu_show_answer, number(events), given, len(given))
 
 
 def draw(given, first=0, last=LAST_STEP):
     """What `mu_draw FIRST LAST` says of a trace, and its status."""
+    given = in_bytes(given)
     return told(library.mu_draw_answer, number(first), number(last), given, len(given))
 
 
-class Judge:
-    """A judge of a job that takes one line of events after the other. Use it in a `with`."""
+class Owner:
+    """What holds a judge or an engine: it is let go at the end of a `with`, by `close`, or with the object."""
+
+    let_go = None
+
+    def __init__(self):
+        self.held = Held()
+
+    def close(self):
+        """Lets go what is held; what is asked of it later is refused."""
+        self.let_go(self.held)
+
+    def __enter__(self):
+        return self
+
+    def __exit__(self, *raised):
+        self.close()
+
+    def __del__(self):
+        # An object that was never made whole holds nothing.
+        if hasattr(self, "held"):
+            self.close()
+
+
+class Judge(Owner):
+    """A judge of a job that takes one line of events after the other."""
+
+    let_go = staticmethod(library.mu_judge_free)
 
     def __init__(self, job):
-        self.held = Held()
+        super().__init__()
+        job = in_bytes(job)
         status, why = told(library.mu_judge_new, self.held, job, len(job))
         if status != DONE:
             raise ValueError(why.decode().rstrip())
 
     def take(self, line):
         """The status of the list with this line: DONE, ILLEGAL, or REFUSED if the line is no event."""
+        line = in_bytes(line)
         return library.mu_judge_take(self.held, line, len(line))
 
     def why(self):
         """What `mu why` says of the list so far, and its status."""
         return told(library.mu_judge_why, self.held)
 
-    def __enter__(self):
-        return self
-
-    def __exit__(self, *raised):
-        library.mu_judge_free(self.held)
-
 
 class Refused(Exception):
-    """A call on an engine was refused; `status` says why."""
+    """A call on an engine was refused; `status` and `name` say why, as c/mu.h has them."""
 
     def __init__(self, status):
-        super().__init__(f"status {status}")
         self.status = status
+        self.name, meant = MEANT.get(status, (str(status), "a status that c/mu.h doesn't have"))
+        super().__init__(f"MU_{self.name}: {meant}")
 
 
 def accepted(status):
@@ -115,16 +152,18 @@ def accepted(status):
         raise Refused(status)
 
 
-class Engine:
-    """A live engine, whose rounds you play. Use it in a `with`."""
+class Engine(Owner):
+    """A live engine, whose rounds you play."""
 
-    def __init__(self, replicas, ring=64, budget=131_071, commands=1_500):
-        self.held = Held()
+    let_go = staticmethod(library.mu_engine_free)
+
+    def __init__(self, replicas, ring=1_024, budget=131_071, commands=1_500):
+        super().__init__()
         accepted(library.mu_engine_new(self.held, *map(number, (replicas, ring, budget, commands))))
 
     def submit(self, client, line):
         """Takes the next command of a client, and gives its row."""
-        row = NUMBER()
+        row, line = NUMBER(), in_bytes(line)
         accepted(library.mu_engine_submit(self.held, number(client), line, len(line), ctypes.byref(row)))
         return row.value
 
@@ -161,9 +200,3 @@ class Engine:
         status, text = told(library.mu_engine_trace, self.held)
         accepted(status)
         return text
-
-    def __enter__(self):
-        return self
-
-    def __exit__(self, *raised):
-        library.mu_engine_free(self.held)

@@ -31,6 +31,7 @@ pub mod Sessions
 pub mod Possible
 mod Reach
 pub mod Readings
+pub mod FuosRead
 pub mod Fitting
 pub mod Reserve
 pub mod Windows

@@ -1,7 +1,7 @@
 -- While a leader that isn't over writes a member, the member's minimum is the leader's number.
-use Rattle.std.proofs.Common.{◌≡◌, ℕ, ◌%◌, ◌≤◌, Bool, true, false, cond, ◌&&◌, ◌||◌, not, ◌==◌, List, [], ◌∷◌, refl, sym, ◌∙◌, ap, arith, Some, None, subst, eqb-true}
+use Rattle.std.proofs.Common.{◌≡◌, ℕ, ◌%◌, ◌≤◌, Bool, true, false, cond, ◌&&◌, ◌||◌, not, ◌==◌, List, [], ◌∷◌, refl, sym, ◌∙◌, ap, arith, Some, None, subst, eqb-true, true≢false}
 use Rattle.std.specs.declared.option.Option.{Option}
-use Rattle.std.specs.Prelude.{is_some}
+use Rattle.std.specs.Prelude.{if◌then◌else◌, is_some}
 use Rattle.std.proofs.lemmas.Bool.{or_parts}
 use Rattle.mu_model.specs.declared.config.Config.{Config}
 use Rattle.mu_model.specs.declared.event.Event.{Event}
@@ -369,3 +369,13 @@ pub slot_number : (c : Config) (r p i b v : ℕ) (past : List Event) → IsLegal
 slot_number c r p i b v past h may e =
     same_some b (region_min p past) (sym (put_facts c r (part r past) p i b v may).numbered ∙ number-part r past
     ∙ open_place c r p past h (i % c.ring) (sym (open_target-part r p past) ∙ slot_entered c r p i b v (part r past) (put_facts c r (part r past) p i b v may)) (put_done_undrained (drained r p past) e))
+
+-- who joined stays a member
+kept : (t u : Bool) (old new : Option (Option ℕ)) → t ≡ false → is_some old ≡ true → is_some (if t then None else (if u then newer_or old new else old)) ≡ true
+kept true u old new h k = absurd (true≢false h)
+kept false true None new h k = absurd (true≢false (sym k))
+kept false true (Some x) new h k = refl
+kept false false old new h k = k
+
+pub member_on : (r p : ℕ) (e : Event) (past : List Event) → begins_leadership r e ≡ false → is_member r p past ≡ true → is_member r p (e ∷ past) ≡ true
+member_on r p e past b m = kept (begins_leadership r e) (lands_min r p e.by e.verb e.answer) (grant_at_joining r p past) (Some (noted_grant r p past)) b m

@@ -2,6 +2,7 @@ pub mod Agreement
 pub mod Growing
 pub mod Journals
 pub mod Laws
+pub mod Moments
 pub mod Paces
 pub mod Possible
 pub mod Reserve

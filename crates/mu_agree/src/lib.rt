@@ -6,10 +6,9 @@ ghost use Rattle.mu_agree.specs.Agreement.{AtMostOneChosen, FuoIsChosen, FuoIsKe
 ghost use Rattle.mu_agree.specs.Growing.{AnswersStay, AppliedStays, CommitsStay, GrownIsConfig, KnownStays, LaterRowsFollow, LegalStays};
 ghost use Rattle.mu_agree.specs.Journals.{BeginningsAreDiligent, ObeysOnce};
 ghost use Rattle.mu_agree.specs.Laws.{MinimumRises, MissesShutOut, NumbersDiffer, OnlyOwnersPut, SlotNumbersRise};
-ghost use Rattle.mu_agree.specs.Paces.{RecentAsksAreInTime, RecentReadsAreInTime};
-ghost use Rattle.mu_agree.specs.Possible.{PartHeadsClimb, PartNumbersLeaveRoom, PartLooksFind, PartPositionsSuffice, PartsHaveNext, PartFencesNameOwner, PartsInSession, PartLooksAreKept, PartHeadsLeaveRoom, PartsMarkOnce, PartGrantsMove, PartFuosAreWithin, PartRowsReadRight, PartsShorten, PartFencesShowMisses, PartEntriesStand, PartLooksStayFilled, PartLooksStayPast, PartsTrustSelf};
+ghost use Rattle.mu_agree.specs.Possible.{PartFencesNameOwner, PartHeadsLeaveRoom, PartsMarkOnce, PartRowsReadRight, PartsTrustSelf};
 ghost use Rattle.mu_agree.specs.Reserve.{BatchesLeaveRoom, KnownLeavesRoom};
-ghost use Rattle.mu_agree.specs.Sessions.{KnownInSession, KnownMarkedOnce, KnownStands, MarkedOnce, RowsComeFirst, RowsReadRight};
+ghost use Rattle.mu_agree.specs.Sessions.{KnownInSession, MarkedOnce, RowsComeFirst, RowsReadRight};
 
 /// No two leaderships have the same number.
 pub fn numbers_differ()
@@ -77,11 +76,6 @@ pub fn places_are_kept()
     ensures { PlacesAreKept }
 {}
 
-/// Each known entry stands for a batch or a mark.
-pub fn known_stands()
-    ensures { KnownStands }
-{}
-
 /// All rows of a batch are written before it is put.
 pub fn rows_come_first()
     ensures { RowsComeFirst }
@@ -102,11 +96,6 @@ pub fn marked_once()
     ensures { MarkedOnce }
 {}
 
-/// Every known list has at most one mark of each replica.
-pub fn known_marked_once()
-    ensures { KnownMarkedOnce }
-{}
-
 /// A mark of a replica is chosen only after another replica held it to be failed.
 pub fn marks_have_cause()
     ensures { MarksHaveCause }
@@ -122,21 +111,6 @@ pub fn known_leaves_room()
     ensures { KnownLeavesRoom }
 {}
 
-/// What came before the last event of a possible part is possible.
-pub fn parts_shorten()
-    ensures { PartsShorten }
-{}
-
-/// What a possible part knows is in session.
-pub fn parts_in_session()
-    ensures { PartsInSession }
-{}
-
-/// What a possible part knows stands for batches and marks.
-pub fn part_entries_stand()
-    ensures { PartEntriesStand }
-{}
-
 /// A possible part knows at most one mark of each replica.
 pub fn parts_mark_once()
     ensures { PartsMarkOnce }
@@ -145,16 +119,6 @@ pub fn parts_mark_once()
 /// A possible part reads the rows of what it knows correctly.
 pub fn part_rows_read_right()
     ensures { PartRowsReadRight }
-{}
-
-/// A possible part finds entries below the FUOs that it read.
-pub fn part_looks_find()
-    ensures { PartLooksFind }
-{}
-
-/// A possible part of version 1 finds no place used again that it still has to read.
-pub fn part_looks_are_kept()
-    ensures { PartLooksAreKept }
 {}
 
 /// A log is never longer than the FUO of its region and the ring.
@@ -168,16 +132,6 @@ pub fn log_within_reach()
     ensures { LogWithinReach }
 {}
 
-/// A fence read after a past look at what a leader still has to bring shows another grant.
-pub fn part_grants_move()
-    ensures { PartGrantsMove }
-{}
-
-/// While a possible part doesn't know some command, there is a position for it.
-pub fn part_positions_suffice()
-    ensures { PartPositionsSuffice }
-{}
-
 /// A head that a possible part reads leaves a place, if no mark of its replica is known.
 pub fn part_heads_leave_room()
     ensures { PartHeadsLeaveRoom }
@@ -188,44 +142,9 @@ pub fn parts_trust_self()
     ensures { PartsTrustSelf }
 {}
 
-/// Heads that a possible part reads never fall.
-pub fn part_heads_climb()
-    ensures { PartHeadsClimb }
-{}
-
-/// The FUOs that a possible part reads are within the positions.
-pub fn part_fuos_are_within()
-    ensures { PartFuosAreWithin }
-{}
-
 /// A fence that a possible part reads with a grant that it noted names it.
 pub fn part_fences_name_owner()
     ensures { PartFencesNameOwner }
-{}
-
-/// The numbers that a possible part reads and puts leave room for a next one.
-pub fn part_numbers_leave_room()
-    ensures { PartNumbersLeaveRoom }
-{}
-
-/// What a possible part saw past stays past.
-pub fn part_looks_stay_past()
-    ensures { PartLooksStayPast }
-{}
-
-/// If a possible part saw an entry, it sees no empty place at or below its position again.
-pub fn part_looks_stay_filled()
-    ensures { PartLooksStayFilled }
-{}
-
-/// While a possible part doesn't know some command, some client has a next batch.
-pub fn parts_have_next()
-    ensures { PartsHaveNext }
-{}
-
-/// After a put that missed, each fence of its region shows that it closed or was granted on.
-pub fn part_fences_show_misses()
-    ensures { PartFencesShowMisses }
 {}
 
 /// Each beginning of a diligent journal is diligent.
@@ -236,16 +155,6 @@ pub fn beginnings_are_diligent()
 /// A journal that obeys its script has no shorter beginning that does.
 pub fn obeys_once()
     ensures { ObeysOnce }
-{}
-
-/// A replica that has read recently at each moment reads in time in each stretch.
-pub fn recent_reads_are_in_time()
-    ensures { RecentReadsAreInTime }
-{}
-
-/// A replica that has asked recently at each moment asks in time in each stretch.
-pub fn recent_asks_are_in_time()
-    ensures { RecentAsksAreInTime }
 {}
 
 /// A configuration with one row more is a configuration, if the row is a batch of its own and the

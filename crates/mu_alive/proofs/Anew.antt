@@ -9,21 +9,23 @@ use Rattle.mu_model.specs.Contents.{IsConfig, row_count}
 use Rattle.mu_model.specs.Diligence.{AsksInTime, has_to_ask, was_unnamed}
 use Rattle.mu_model.specs.Ends.{outrun}
 use Rattle.mu_model.specs.Histories.{has}
+use Rattle.mu_model.specs.Knowledge.{known}
 use Rattle.mu_model.specs.Leaderships.{begins_leadership, has_begun, is_over, leadership, ends_leadership}
 use Rattle.mu_model.specs.Parts.{IsPossible}
 use Rattle.mu_model.specs.Room.{reserve}
 use Rattle.mu_model.specs.Steps.{has_min, is_asking, is_min, is_named, knows_all}
 use Rattle.mu_model.specs.Stretches.{each_step, is_odd, is_replication}
 use Rattle.mu_pace.specs.Collecting.{LeaderKeepsBy}
-use Rattle.mu_pace.specs.Counters.{AtEachMoment, AtEachStep}
+use Rattle.mu_agree.specs.Moments.{AtEachMoment, AtEachStep}
 use Rattle.mu_pace.proofs.Counting.{last_moment, moments_before, steps_before}
 use Rattle.mu_pace.proofs.Pasts.{cut, Cut}
 use Rattle.mu_agree.proofs.Fitting.{part_positions_suffice_law}
 use Rattle.mu_pace.proofs.Positions.{known_fits}
 use Rattle.mu_alive.specs.Enough.{HasLargeRing, asking_steps}
-use Rattle.mu_alive.specs.Calm.{calm_steps}
-use Rattle.mu_alive.specs.Resuming.{FollowsListing, waiting_steps}
-use Rattle.mu_alive.proofs.Calm.{AreCalmTurns, quiet_commits}
+use Rattle.mu_alive.specs.Missing.{missing_steps, waiting_for}
+use Rattle.mu_alive.specs.Resuming.{FollowsListing}
+use Rattle.mu_alive.proofs.Calm.{AreCalmTurns}
+use Rattle.mu_alive.proofs.Missing.{known_more, quiet_missing}
 use Rattle.mu_alive.proofs.Cutting.{none_newer, none_older}
 use Rattle.mu_alive.proofs.Enough.{asks_before, begins_verb, first_is_milestone, not_lagging, progress_moments, puts_inside}
 use Rattle.mu_alive.proofs.Moments.{From, at_least_halves, halves, last_from, some_event}
@@ -280,8 +282,8 @@ calm_back c a start (e ∷ window) base good large k none on named =
     turns false u b hb h = (λ t. absurd (true≢false (sym t)), sym (ap (λ t. if t then false else was_unnamed c a past) hb) ∙ h)
 
 -- in this many steps it asks anew
-pub asks_anew : (c : Config) (a start : ℕ) (window base : List Event) → IsConfig c → HasLargeRing c → Lacking c a start (window ++ base) → start ≤ length base → 0 < c.replicas → waiting_steps c ≤ length window → has (is_asking 0) window ≡ true
-asks_anew c a start window base good large k late some long = go (has (is_asking 0) window) refl
+pub asks_anew : (c : Config) (already missing a start : ℕ) (window base : List Event) → IsConfig c → HasLargeRing c → Lacking c a start (window ++ base) → start ≤ length base → 0 < c.replicas → already ≤ length (known c a base) → length (known c a (window ++ base)) ≤ already + missing → waiting_for c already missing ≤ length window → has (is_asking 0) window ≡ true
+asks_anew c already missing a start window base good large k late some knew lacks long = go (has (is_asking 0) window) refl
   where
     go : (t : Bool) → has (is_asking 0) window ≡ t → t ≡ true
     go true is = refl
@@ -296,10 +298,10 @@ asks_anew c a start window base good large k late some long = go (has (is_asking
             one_length : length window ≡ length one.newer + asking_steps c
             one_length = let n = one.count in let sum = ap length one.is ∙ length-append one.newer one.rest in omega (arith, n, sum)
 
-            two : Cut (2 * calm_steps c (row_count c + reserve c)) one.newer
-            two = cut (2 * calm_steps c (row_count c + reserve c)) one.newer (let l = one_length in omega (arith, long, l))
+            two : Cut (2 * missing_steps c already missing (row_count c + reserve c)) one.newer
+            two = cut (2 * missing_steps c already missing (row_count c + reserve c)) one.newer (let l = one_length in omega (arith, long, l))
 
-            two_length : length one.newer ≡ length two.newer + 2 * calm_steps c (row_count c + reserve c)
+            two_length : length one.newer ≡ length two.newer + 2 * missing_steps c already missing (row_count c + reserve c)
             two_length = let n = two.count in let sum = ap length two.is ∙ length-append two.newer two.rest in omega (arith, n, sum)
 
             three : Cut (asking_steps c) two.newer
@@ -376,11 +378,17 @@ asks_anew c a start window base good large k late some long = go (has (is_asking
                     let at : l.below ++ under ≡ (stretch ++ m.newer) ++ m.first ∷ m.older = moment ∙ ap (λ x. stretch ++ x) m.is ∙ sym (append_assoc stretch m.newer (m.first ∷ m.older)) in
                     let here = subst (Lacking c a start) at there in
                     let calm = calm_back c a start (stretch ++ m.newer) (m.first ∷ m.older) good large here (none_both (begins_leadership a) stretch m.newer silent m.same) (sym (ap (is_over a) at) ∙ l.on) (sym (ap (was_unnamed c a) at) ∙ unnamed) in
-                    let few = quiet_commits c a (row_count c + reserve c) m.first (stretch ++ m.newer) m.older (progress_moments true c a ((stretch ++ m.newer) ++ m.first ∷ m.older) here.led) (first_is_milestone c a m.first m.older m.min m.begun m.none) calm
-                    (known_fits c a ((stretch ++ m.newer) ++ m.first ∷ m.older) good (last_moment (IsPossible c a) ((stretch ++ m.newer) ++ m.first ∷ m.older) here.possible)) in
-                    let half = at_least_halves (stretch ++ m.newer) (m.first ∷ m.older) in
-                    let x = length-append stretch m.newer in
+                    let last_known : length (known c a (stretch ++ (m.newer ++ m.first ∷ m.older))) ≤ length (known c a (window ++ base)) =
+                    subst (λ x. length (known c a x) ≤ length (known c a (window ++ base))) (moment ∙ ap (λ x. stretch ++ x) m.is)
+                    (subst (λ x. length (known c a (l.below ++ under)) ≤ length (known c a x)) (sym (whole ∙ ap (λ x. three.newer ++ x) (ap (λ x. x ++ under) l.is ∙ append_assoc l.top l.below under) ∙ sym (append_assoc three.newer l.top (l.below ++ under)))) (known_more c a (three.newer ++ l.top) (l.below ++ under))) in
+                    let at2 : l.below ++ under ≡ stretch ++ (m.newer ++ m.first ∷ m.older) = moment ∙ ap (λ x. stretch ++ x) m.is in
+                    let here2 = subst (Lacking c a start) at2 there in
+                    let first = known_more c a s.below base in
+                    let same = ap (λ x. length (known c a x)) m.is in
+                    let few = quiet_missing c a (row_count c + reserve c) already missing m.first stretch m.newer m.older (progress_moments true c a (stretch ++ (m.newer ++ m.first ∷ m.older)) here2.led) (first_is_milestone c a m.first m.older m.min m.begun m.none) calm
+                    (known_fits c a (stretch ++ (m.newer ++ m.first ∷ m.older)) good (last_moment (IsPossible c a) (stretch ++ (m.newer ++ m.first ∷ m.older)) here2.possible)) (omega (arith, knew, first, same)) (omega (arith, lacks, last_known)) in
+                    let half = at_least_halves stretch (m.newer ++ m.first ∷ m.older) in
                     let y = length-append l.below (two.rest ++ s.top) in
                     let z = length-append two.rest s.top in
                     let n = two.count in
-                    omega (arith, few, half, x, y, z, n)
+                    omega (arith, few, half, y, z, n)

@@ -16,7 +16,8 @@ use Rattle.mu_model.specs.Steps.{has_min, is_any_fencing, is_any_fencing_verb, i
 use Rattle.mu_model.specs.Stretches.{is_replication}
 use Rattle.mu_agree.proofs.Members.{over-part}
 use Rattle.mu_pace.specs.Collecting.{LeaderKeeps}
-use Rattle.mu_pace.specs.Counters.{AtEachMoment, AtEachStep, fewer, left_after, steps_left}
+use Rattle.mu_pace.specs.Counters.{fewer, left_after, steps_left}
+use Rattle.mu_agree.specs.Moments.{AtEachMoment, AtEachStep}
 use Rattle.mu_pace.specs.Watches.{confirming, is_confirming}
 use Rattle.mu_pace.proofs.Counting.{last_moment, moments_before, steps_before, both_moments}
 use Rattle.mu_alive.specs.Alone.{AsksAlone}

@@ -26,10 +26,12 @@ use Rattle.mu_agree.proofs.Legal.{legal_older}
 use Rattle.mu_agree.proofs.Possible.{parts_shorten_law}
 use Rattle.mu_agree.proofs.Prefixes.{greatest_along}
 use Rattle.mu_pace.specs.Collecting.{LeaderKeeps}
-use Rattle.mu_pace.specs.Counters.{AtEachMoment, AtEachStep, IsInTime, Watch, paid}
+use Rattle.mu_pace.specs.Counters.{IsInTime, Watch, paid}
+use Rattle.mu_agree.specs.Moments.{AtEachMoment, AtEachStep}
 use Rattle.mu_pace.specs.Watches.{asking_after, bringing_up, earns, falls_behind, is_answer_to_welcome, is_brought_up, is_full_raise, is_welcoming, joining, leaves, limit, limit_now, raising}
 use Rattle.mu_pace.proofs.Counting.{allowed_here, allowed_now, last_moment, moments_before, steps_before}
-use Rattle.mu_pace.proofs.Growing.{greatest_on, known_grows, member_on, member_stays, stays_less, twice_paid}
+use Rattle.mu_pace.proofs.Growing.{greatest_on, known_grows, member_stays, stays_less, twice_paid}
+use Rattle.mu_agree.proofs.Members.{member_on}
 use Rattle.mu_pace.proofs.Positions.{known_fits}
 use Rattle.mu_alive.specs.Bringing.{FollowersAreBroughtUp, IsGranted, LeadsOn, bringing_steps}
 use Rattle.mu_alive.proofs.Calm.{PutsInside, count_few, limit_fits, paid_few}

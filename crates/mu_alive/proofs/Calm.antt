@@ -21,7 +21,8 @@ use Rattle.mu_model.specs.Stretches.{is_replication, replications, steps}
 use Rattle.mu_model.proofs.Basics.{same_number}
 use Rattle.mu_agree.proofs.Counting.{count_more}
 use Rattle.mu_agree.proofs.Tame.{known_longer}
-use Rattle.mu_pace.specs.Counters.{AtEachMoment, IsInTime, fewer, left_after, paid, steps_left}
+use Rattle.mu_pace.specs.Counters.{IsInTime, fewer, left_after, paid, steps_left}
+use Rattle.mu_agree.specs.Moments.{AtEachMoment}
 use Rattle.mu_pace.specs.Watches.{earns, leaves, limit, limit_now, progressing}
 use Rattle.mu_pace.proofs.Counting.{goes_on, last_moment, opened}
 use Rattle.mu_pace.proofs.Growing.{earned, stays_less}
@@ -59,7 +60,7 @@ abbrev copies : Config → ℕ → ℕ → ℕ → List Event → ℕ
 copies c r most zero now = 0
 copies c r most (suc n) now = copies c r most n now + count_below most (λ j. was_copied c r n j now)
 
-copies_few : (c : Config) (r most n : ℕ) (now : List Event) → copies c r most n now ≤ n * most
+pub copies_few : (c : Config) (r most n : ℕ) (now : List Event) → copies c r most n now ≤ n * most
 copies_few c r most zero now = omega arith
 copies_few c r most (suc n) now = let a = copies_few c r most n now in let b = count_few most (λ j. was_copied c r n j now) in omega (arith, a, b)
 
@@ -131,7 +132,7 @@ step_more true s = refl
 step_more false s = omega arith
 
 -- along a calm stretch
-learnt : (c : Config) (r : ℕ) (window older : List Event) → steps (commits_more c r) window older + steps (is_learning c r) window older + length (known c r older) ≤ length (known c r (window ++ older))
+pub learnt : (c : Config) (r : ℕ) (window older : List Event) → steps (commits_more c r) window older + steps (is_learning c r) window older + length (known c r older) ≤ length (known c r (window ++ older))
 learnt c r [] older = omega arith
 learnt c r (e ∷ window) older =
     let ih = learnt c r window older in
@@ -154,7 +155,7 @@ abbrev pub AreCalmTurns : Config → ℕ → List Event → List Event → Type 
 AreCalmTurns c r [] older = Unit {0}
 AreCalmTurns c r (e ∷ window) older = AreCalmTurns c r window older × IsCalmTurn c r (window ++ older) e
 
-calm_stays : (c : Config) (r : ℕ) (window older : List Event) → AreCalmTurns c r window older → stays r window ≡ true
+pub calm_stays : (c : Config) (r : ℕ) (window older : List Event) → AreCalmTurns c r window older → stays r window ≡ true
 calm_stays c r [] older calm = refl
 calm_stays c r (e ∷ window) older calm = go (begins_leadership r e) calm.1.same (calm_stays c r window older calm.0)
   where
@@ -167,11 +168,11 @@ abbrev pub PutsInside : Config → List Event → Type 0
 PutsInside c [] = Unit {0}
 PutsInside c (e ∷ window) = PutsInside c window × ((p i b v : ℕ) → e.verb ≡ Verb.PutSlot p i b v → p < c.replicas)
 
-calm_puts : (c : Config) (r : ℕ) (window older : List Event) → AreCalmTurns c r window older → PutsInside c window
+pub calm_puts : (c : Config) (r : ℕ) (window older : List Event) → AreCalmTurns c r window older → PutsInside c window
 calm_puts c r [] older calm = tt
 calm_puts c r (e ∷ window) older calm = (calm_puts c r window older calm.0, calm.1.inside)
 
-copied_pairs : (c : Config) (r most : ℕ) (window older : List Event) → stays r window ≡ true → PutsInside c window → length (known c r (window ++ older)) ≤ most → steps (is_copying c r) window older + copies c r most c.replicas older ≤ copies c r most c.replicas (window ++ older)
+pub copied_pairs : (c : Config) (r most : ℕ) (window older : List Event) → stays r window ≡ true → PutsInside c window → length (known c r (window ++ older)) ≤ most → steps (is_copying c r) window older + copies c r most c.replicas older ≤ copies c r most c.replicas (window ++ older)
 copied_pairs c r most [] older same inside few = omega arith
 copied_pairs c r most (e ∷ window) older same inside few =
     let longer = known_longer c r e (window ++ older) in
@@ -208,7 +209,7 @@ closing b n o l k x true m hb hn ho hl hk hx = rw (hb, hn refl, ho, hl, hk, hx) 
     go false = refl
 closing b n o l k x false m hb hn ho hl hk hx = rw hb refl
 
-closes_at : (c : Config) (r : ℕ) (past : List Event) (e : Event) → IsCalmTurn c r past e → leaves c r (is_progress c r) past e ≡ (is_replication past e && commits_more c r past e)
+pub closes_at : (c : Config) (r : ℕ) (past : List Event) (e : Event) → IsCalmTurn c r past e → leaves c r (is_progress c r) past e ≡ (is_replication past e && commits_more c r past e)
 closes_at c r past e calm = closing (begins_leadership r e) (is_named c r past) (is_over_after r past e) (is_lagging c r past e) (knows_all c r past) (is_some (outrun c r (e ∷ past))) (is_replication past e) (commits_more c r past e) calm.same calm.named calm.leads_on calm.has_room calm.lacks calm.going
 
 pub limit_fits : (c : Config) (r : ℕ) (now : List Event) → limit_now c r now ≤ limit c c.replicas
@@ -220,7 +221,7 @@ record Tally (c : Config) (r : ℕ) (window older : List Event) : Type 0 where
   is : steps_left (progressing c r) (window ++ older) ≡ Some left
   within : replications window older + left ≤ limit c c.replicas * (steps (commits_more c r) window older + 1) + paid (earns c r) window older
 
-reopens : (c : Config) (r : ℕ) (past : List Event) (e : Event) (left : ℕ) → commits_more c r past e ≡ true → (progressing c r).closes past e ≡ true → steps_left (progressing c r) past ≡ Some left → steps_left (progressing c r) (e ∷ past) ≡ Some (limit_now c r (e ∷ past))
+pub reopens : (c : Config) (r : ℕ) (past : List Event) (e : Event) (left : ℕ) → commits_more c r past e ≡ true → (progressing c r).closes past e ≡ true → steps_left (progressing c r) past ≡ Some left → steps_left (progressing c r) (e ∷ past) ≡ Some (limit_now c r (e ∷ past))
 reopens c r past e left commits closes is = shut (is_milestone c r past e) (milestone (is_min e && not (has is_min (leadership r past))) (is_replication past e && is_lagging c r past e)) (leaves c r (is_progress c r) past e) closes (steps_left (progressing c r) past) is
   where
     milestone : (t u : Bool) → (t || (commits_more c r past e || u)) ≡ true
@@ -300,7 +301,7 @@ quiet_commits c r most first window older held milestone calm fits =
     (members c r (first ∷ older)) (members c r (window ++ first ∷ older)) (copied c r window (first ∷ older))
     (omega arith) t.within some e refl (count_few c.replicas (λ p. is_member r p (window ++ first ∷ older))) l fits (omega (arith, y)) few
 
-calm_turns : (c : Config) (r : ℕ) (window older : List Event) → IsCalm c r window older → AreCalmTurns c r window older
+pub calm_turns : (c : Config) (r : ℕ) (window older : List Event) → IsCalm c r window older → AreCalmTurns c r window older
 calm_turns c r [] older calm = tt
 calm_turns c r (e ∷ window) older calm = (calm_turns c r window older calm.0, (let k = calm.1 in record { same = k.same; named = λ _. k.named; leads_on = k.leads_on; has_room = k.has_room; lacks = k.lacks; going = k.going; inside = k.inside }))
 

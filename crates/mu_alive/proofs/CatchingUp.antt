@@ -16,7 +16,8 @@ use Rattle.mu_model.proofs.Parts.{filter-append, part_is_possible}
 use Rattle.mu_agree.proofs.Legal.{legal_older}
 use Rattle.mu_agree.proofs.Prefixes.{greatest_along}
 use Rattle.mu_pace.specs.Blocking.{is_blocking}
-use Rattle.mu_pace.specs.Counters.{AtEachMoment, AtEachStep, IsInTime}
+use Rattle.mu_pace.specs.Counters.{IsInTime}
+use Rattle.mu_agree.specs.Moments.{AtEachMoment, AtEachStep}
 use Rattle.mu_pace.specs.Watches.{advancing, limit}
 use Rattle.mu_pace.proofs.Counting.{moments_before}
 use Rattle.mu_alive.specs.Bringing.{most_paid}

@@ -22,7 +22,7 @@ use Rattle.mu_model.proofs.Parts.{filter-append}
 use Rattle.mu_agree.proofs.Access.{grant_needs}
 use Rattle.mu_agree.proofs.Counting.{count_more}
 use Rattle.mu_agree.proofs.Legal.{event_after, legal_older}
-use Rattle.mu_pace.specs.Counters.{AtEachStep}
+use Rattle.mu_agree.specs.Moments.{AtEachStep}
 use Rattle.mu_pace.proofs.Counting.{steps_before}
 use Rattle.mu_pace.proofs.Pasts.{cut}
 use Rattle.mu_alive.specs.Alone.{AsksAlone}

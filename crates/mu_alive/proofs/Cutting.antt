@@ -1,7 +1,7 @@
 -- Cutting lists of events, and finding events in them.
 use Rattle.std.proofs.Common.{◌≡◌, ℕ, ◌+◌, ◌≤◌, ◌==◌, Bool, true, false, cond, List, [], ◌∷◌, ◌++◌, refl, sym, ◌∙◌, ap, arith, eqb-true, subst, true≢false, append_assoc}
 use Rattle.mu_model.specs.declared.event.Event.{Event}
-use Rattle.mu_pace.specs.Counters.{AtEachMoment}
+use Rattle.mu_agree.specs.Moments.{AtEachMoment}
 use Rattle.mu_model.specs.Histories.{has, how_many, part}
 use Rattle.mu_model.specs.Stretches.{IsStretch}
 use Rattle.mu_pace.proofs.Pasts.{has_later}

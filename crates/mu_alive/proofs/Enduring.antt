@@ -2,7 +2,7 @@
 use Rattle.std.proofs.Common.{◌≡◌, ◌⊎◌, ℕ, ◌<◌, ◌≤◌, ◌==◌, ◌&&◌, ◌||◌, not, inl, inr, Bool, true, false, cond, Some, None, List, [], ◌∷◌, ◌++◌, refl, sym, ◌∙◌, ap, arith, subst, eqb-true, true≢false, append_assoc}
 use Rattle.std.specs.declared.option.Option.{Option}
 use Rattle.std.specs.Prelude.{is_some}
-use Rattle.std.proofs.lemmas.Bool.{and_parts, cases_lt, eq-eqb, ne_eqb}
+use Rattle.std.proofs.lemmas.Bool.{and_parts, cases_lt, eq-eqb, ne_eqb, not-true}
 use Rattle.mu_model.specs.declared.config.Config.{Config}
 use Rattle.mu_model.specs.declared.event.Answer.{Answer}
 use Rattle.mu_model.specs.declared.event.Event.{Event}
@@ -24,9 +24,8 @@ use Rattle.mu_agree.specs.Laws.{is_landing}
 use Rattle.mu_agree.proofs.Access.{entered_facts, landed, no_target, open_target-part}
 use Rattle.mu_agree.proofs.Legal.{event_after, legal_older}
 use Rattle.mu_agree.proofs.Numbers.{number-part}
-use Rattle.mu_pace.specs.Counters.{AtEachStep}
+use Rattle.mu_agree.specs.Moments.{AtEachStep}
 use Rattle.mu_pace.proofs.Counting.{steps_before}
-use Rattle.mu_pace.proofs.Pasts.{not_true}
 use Rattle.mu_alive.specs.Clearing.{Clears}
 use Rattle.mu_alive.specs.Resuming.{FollowsListing, PutsFirst, is_min_of}
 use Rattle.mu_alive.specs.Settling.{KeepGoing}
@@ -299,7 +298,7 @@ record Grants (a p : ℕ) (past : List Event) : Type 0 where
 grants_parts : (a p : ℕ) (past : List Event) → grants_to a p past ≡ true → Grants a p past
 grants_parts a p past is =
     let parts = and_parts (not (fence_closing p past)) (owner_is a (fence_owner p past)) is in
-    record { owns = owner_named a (fence_owner p past) parts.1; open_now = not_true (fence_closing p past) parts.0 }
+    record { owns = owner_named a (fence_owner p past) parts.1; open_now = not-true (fence_closing p past) parts.0 }
 
 -- the first ask of a leadership
 begins_fresh : (a : ℕ) (e : Event) (past : List Event) → begins_leadership a e ≡ true → leadership a (e ∷ past) ≡ []

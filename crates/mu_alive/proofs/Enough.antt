@@ -26,7 +26,8 @@ use Rattle.mu_agree.proofs.Fitting.{part_positions_suffice_law}
 use Rattle.mu_agree.proofs.Knowing.{known_stays}
 use Rattle.mu_agree.proofs.Possible.{parts_shorten_law}
 use Rattle.mu_pace.specs.Collecting.{LeaderKeeps, LeaderKeepsBy}
-use Rattle.mu_pace.specs.Counters.{AtEachMoment, AtEachStep, IsInTime}
+use Rattle.mu_pace.specs.Counters.{IsInTime}
+use Rattle.mu_agree.specs.Moments.{AtEachMoment, AtEachStep}
 use Rattle.mu_pace.specs.Watches.{progressing}
 use Rattle.mu_pace.proofs.Counting.{last_moment, both_moments, moments_before}
 use Rattle.mu_pace.proofs.Positions.{known_fits}

@@ -26,7 +26,7 @@ use Rattle.mu_model.proofs.Parts.{filter-append, part_is_possible}
 use Rattle.mu_agree.proofs.Legal.{legal_older}
 use Rattle.mu_agree.proofs.Possible.{parts_shorten_law}
 use Rattle.mu_agree.proofs.Prefixes.{greatest_along}
-use Rattle.mu_pace.specs.Counters.{AtEachMoment, AtEachStep}
+use Rattle.mu_agree.specs.Moments.{AtEachMoment, AtEachStep}
 use Rattle.mu_pace.proofs.Counting.{moments_before, steps_before}
 use Rattle.mu_alive.specs.Following.{FollowersCatchUp, FollowsOn, RaisesToAll, catching_steps}
 use Rattle.mu_alive.proofs.Cutting.{Located, Met, located, met}

@@ -19,7 +19,7 @@ use Rattle.mu_model.proofs.Basics.{same_some}
 use Rattle.mu_model.proofs.Lists.{get_front}
 use Rattle.mu_agree.proofs.Knowing.{known_stays}
 use Rattle.mu_agree.proofs.Prefixes.{known_agree}
-use Rattle.mu_pace.specs.Counters.{AtEachStep}
+use Rattle.mu_agree.specs.Moments.{AtEachStep}
 use Rattle.mu_alive.specs.Stopping.{ReadsInOrder}
 use Rattle.mu_alive.proofs.Fetching.{applied_grows, got_both, more_got, more_of_entry, one_more, row_on, rows_got, rows_of_entry}
 use Rattle.mu_alive.proofs.Gaining.{all_rows, full_count, gain}

@@ -24,7 +24,7 @@ use Rattle.mu_agree.proofs.Legal.{event_after, legal_older, legal_induction}
 use Rattle.mu_agree.proofs.Room.{length_put_room}
 use Rattle.mu_agree.proofs.Slots.{put_in'}
 use Rattle.mu_agree.proofs.Tame.{known_longer}
-use Rattle.mu_pace.specs.Counters.{AtEachStep}
+use Rattle.mu_agree.specs.Moments.{AtEachStep}
 use Rattle.mu_alive.proofs.TurnOwners.{IsLone, lone_before, owner_begun}
 use Rattle.mu_alive.proofs.Bringing.{Ahead}
 use Rattle.mu_alive.proofs.Cutting.{Located, located}

@@ -11,7 +11,7 @@ use Rattle.mu_model.specs.Leaderships.{is_member}
 use Rattle.mu_model.specs.Room.{reserve}
 use Rattle.mu_model.specs.Steps.{knows_all}
 use Rattle.mu_model.proofs.Parts.{filter-append}
-use Rattle.mu_pace.specs.Counters.{AtEachMoment, AtEachStep}
+use Rattle.mu_agree.specs.Moments.{AtEachMoment, AtEachStep}
 use Rattle.mu_pace.specs.Watches.{limit}
 use Rattle.mu_pace.proofs.Growing.{member_stays}
 use Rattle.mu_alive.specs.Alone.{WritesAlone}

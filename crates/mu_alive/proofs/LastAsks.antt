@@ -1,29 +1,34 @@
 -- The ask after which a leadership endures, and after which none comes.
 use Rattle.std.proofs.Common.{◌≡◌, ◌≢◌, ◌⊎◌, ℕ, suc, ◌+◌, ◌*◌, ◌<◌, ◌≤◌, ◌==◌, ◌&&◌, ◌||◌, not, inl, inr, Bool, true, false, cond, List, [], ◌∷◌, ◌++◌, length, refl, sym, ◌∙◌, ap, arith, subst, true≢false, append_assoc, nat_le}
 use Rattle.std.specs.Prelude.{if◌then◌else◌}
-use Rattle.std.proofs.lemmas.Bool.{cases_eq, eq-eqb}
+use Rattle.std.proofs.lemmas.Bool.{cases_eq, cases_lt, eq-eqb}
 use Rattle.std.proofs.lemmas.List.{length-append}
 use Rattle.mu_model.specs.declared.config.Config.{Config}
 use Rattle.mu_model.specs.declared.event.Event.{Event}
 use Rattle.mu_model.specs.Again.{asks_again}
-use Rattle.mu_model.specs.Contents.{IsConfig}
+use Rattle.mu_model.specs.Contents.{IsConfig, row_count}
 use Rattle.mu_model.specs.Diligence.{AsksInTime, has_to_ask, was_unnamed, is_confirmed}
 use Rattle.mu_model.specs.Ends.{outrun}
 use Rattle.mu_model.specs.Histories.{has, how_many, part, all_below}
+use Rattle.mu_model.specs.Knowledge.{known}
 use Rattle.mu_model.specs.Leaderships.{begins_leadership, has_begun, is_over, leadership}
+use Rattle.mu_model.specs.Parts.{IsPossible}
+use Rattle.mu_model.specs.Room.{reserve}
 use Rattle.mu_model.specs.Scores.{leader}
 use Rattle.mu_model.specs.Steps.{has_min, is_asking, is_min, is_named, knows_all, is_fencing}
 use Rattle.mu_model.specs.Stretches.{each_step, is_replication}
 use Rattle.mu_model.proofs.Parts.{filter-append}
 use Rattle.mu_agree.proofs.Members.{over-part}
 use Rattle.mu_pace.specs.Collecting.{LeaderKeepsBy}
-use Rattle.mu_pace.specs.Counters.{AtEachMoment, AtEachStep}
-use Rattle.mu_pace.proofs.Counting.{moments_before, steps_before}
+use Rattle.mu_agree.specs.Moments.{AtEachMoment, AtEachStep}
+use Rattle.mu_pace.proofs.Counting.{last_moment, moments_before, steps_before}
 use Rattle.mu_pace.proofs.Cycles.{steps_give}
+use Rattle.mu_pace.proofs.Positions.{known_fits}
 use Rattle.mu_pace.proofs.Pasts.{has_later, has_newer, min_on}
 use Rattle.mu_alive.specs.Enough.{HasLargeRing, asking_steps}
 use Rattle.mu_alive.specs.Failing.{failing_steps}
-use Rattle.mu_alive.specs.Resuming.{FollowsListing, LeadsAfter, waiting_steps}
+use Rattle.mu_alive.specs.Missing.{waiting_for}
+use Rattle.mu_alive.specs.Resuming.{FollowsListing, LeadsAfter}
 use Rattle.mu_alive.specs.Settling.{KeepGoing}
 use Rattle.mu_alive.proofs.Again.{keeps_wider, unless_again}
 use Rattle.mu_alive.proofs.Anew.{Lacking, LeadsIn, asks_anew, asks_or_leads, min_here, named_on, none_begins, none_first, lacking_before}
@@ -32,6 +37,7 @@ use Rattle.mu_alive.proofs.Beginning.{CutAt, HasNoMin, begins_now, cause_is, cut
 use Rattle.mu_alive.proofs.Cutting.{moments_of, Located, located}
 use Rattle.mu_alive.proofs.Enduring.{Begins, endures, notes_live, upto}
 use Rattle.mu_alive.proofs.Enough.{asks_before, going_moments, lacks_moments, outrun_before, possible_moments}
+use Rattle.mu_alive.proofs.Missing.{above_it, known_more}
 use Rattle.mu_alive.proofs.Moments.{From, halves, last_from, some_event}
 use Rattle.mu_alive.proofs.Noting.{confirmed}
 use Rattle.mu_alive.proofs.Settling.{goes_on_before, least_named}
@@ -124,8 +130,8 @@ first_met test (e ∷ events) some = go (has test events) refl (first_met test e
     go true is ih = let k = ih is in record { newer = e ∷ k.newer; event = k.event; older = k.older; is = ap (λ l. e ∷ l) k.is; passes = k.passes; none = k.none }
     go false is ih = record { newer = []; event = e; older = events; is = refl; passes = here (test e) (has test events) is some; none = is }
 
--- the first time that a asks anew
-pub record Asked (c : Config) (a : ℕ) (up : List Event) : Type 0 where
+-- the first time that a asks anew, and how much it got to know until then
+pub record Asked (c : Config) (already a : ℕ) (up base : List Event) : Type 0 where
   pub above : List Event
   pub event : Event
   pub below : List Event
@@ -133,27 +139,39 @@ pub record Asked (c : Config) (a : ℕ) (up : List Event) : Type 0 where
   pub own : event.by ≡ a
   pub asks : is_asking 0 event ≡ true
   pub none : has (is_asking 0) (part a below) ≡ false
-  pub left : length (part a up) ≤ length (part a above) + waiting_steps c
+  pub gain : ℕ
+  pub gained : length (known c a (part a (below ++ base))) ≡ already + gain
+  pub fits : already + gain ≤ row_count c + reserve c
+  pub left : length (part a up) ≤ length (part a above) + waiting_for c already gain
 
-pub ask_next : (c : Config) (live : ℕ → Bool) (ratio lag a : ℕ) (up low older : List Event) → IsConfig c → HasLargeRing c → LeadsAfter true c live ratio lag a (up ++ low) older → knows_all c a (part a ((up ++ low) ++ older)) ≡ false → settled_at c a older ≤ length (part a (low ++ older)) → waiting_steps c ≤ length (part a up) → Asked c a up
-ask_next c live ratio lag a up low older good large k lacks late long = there first (located a at.rest first.newer first.older first.event first.is)
+pub ask_next : (c : Config) (already missing : ℕ) (live : ℕ → Bool) (ratio lag a : ℕ) (up low older : List Event) → IsConfig c → HasLargeRing c → LeadsAfter true c live ratio lag a (up ++ low) older → knows_all c a (part a ((up ++ low) ++ older)) ≡ false → settled_at c a older ≤ length (part a (low ++ older)) → already ≤ length (known c a (part a (low ++ older))) → row_count c + reserve c ≤ already + missing → waiting_for c already missing ≤ length (part a up) → Asked c already a up (low ++ older)
+ask_next c already missing live ratio lag a up low older good large k lacks late knew lacking_few long = there first (located a at.rest first.newer first.older first.event first.is)
   where
-    at : CutAt a (waiting_steps c) up
-    at = cut_at a (waiting_steps c) up long
+    at : CutAt a (waiting_for c already missing) up
+    at = cut_at a (waiting_for c already missing) up long
 
-    split : part a ((up ++ low) ++ older) ≡ part a at.newer ++ (part a at.rest ++ part a (low ++ older))
+    base : List Event
+    base = part a (low ++ older)
+
+    split : part a ((up ++ low) ++ older) ≡ part a at.newer ++ (part a at.rest ++ base)
     split =
         ap (part a) (append_assoc up low older) ∙ filter-append (λ e. e.by == a) up (low ++ older)
         ∙ ap (λ l. l ++ part a (low ++ older)) (ap (part a) at.is ∙ filter-append (λ e. e.by == a) at.newer at.rest)
         ∙ append_assoc (part a at.newer) (part a at.rest) (part a (low ++ older))
 
-    lacking : Lacking c a (settled_at c a older) (part a at.rest ++ part a (low ++ older))
-    lacking = lacking_before c a (settled_at c a older) (part a at.newer) (part a at.rest ++ part a (low ++ older)) (subst (Lacking c a (settled_at c a older)) split (lacking_of c live ratio lag a (up ++ low) older k lacks))
+    lacking : Lacking c a (settled_at c a older) (part a at.rest ++ base)
+    lacking = lacking_before c a (settled_at c a older) (part a at.newer) (part a at.rest ++ base) (subst (Lacking c a (settled_at c a older)) split (lacking_of c live ratio lag a (up ++ low) older k lacks))
+
+    some : 0 < c.replicas
+    some = let l = k.on.inside in omega (arith, l)
+
+    fits_in : (now : List Event) → Lacking c a (settled_at c a older) now → length (known c a now) ≤ row_count c + reserve c
+    fits_in now l = known_fits c a now good (last_moment (IsPossible c a) now l.possible)
 
     first : FirstMet (is_asking 0) (part a at.rest)
-    first = first_met (is_asking 0) (part a at.rest) (asks_anew c a (settled_at c a older) (part a at.rest) (part a (low ++ older)) good large lacking late (let l = k.on.inside in omega (arith, l)) (let n = at.count in omega (arith, n)))
+    first = first_met (is_asking 0) (part a at.rest) (asks_anew c already missing a (settled_at c a older) (part a at.rest) base good large lacking late some knew (let f = fits_in (part a at.rest ++ base) lacking in omega (arith, f, lacking_few)) (let n = at.count in omega (arith, n)))
 
-    there : (m : FirstMet (is_asking 0) (part a at.rest)) → Located a at.rest m.event m.older → Asked c a up
+    there : (m : FirstMet (is_asking 0) (part a at.rest)) → Located a at.rest m.event m.older → Asked c already a up (low ++ older)
     there m l = record {
       above = at.newer ++ l.newer;
       event = m.event;
@@ -161,13 +179,42 @@ ask_next c live ratio lag a up low older good large k lacks late long = there fi
       is = at.is ∙ ap (λ x. at.newer ++ x) l.is ∙ sym (append_assoc at.newer l.newer (m.event ∷ l.older));
       own = l.own;
       asks = m.passes;
-      none = ap (has (is_asking 0)) l.before ∙ m.none;
+      none = none;
+      gain = more.0;
+      gained = ap (λ x. length (known c a x)) same ∙ more.1;
+      fits = (let f = fits_in now before in let g = more.1 in omega (arith, f, g));
       left =
-          (let n = at.count in
-          let sum = ap (λ x. length (part a x)) at.is ∙ ap length (filter-append (λ e. e.by == a) at.newer at.rest) ∙ length-append (part a at.newer) (part a at.rest) in
-          let more = ap length (filter-append (λ e. e.by == a) at.newer l.newer) ∙ length-append (part a at.newer) (part a l.newer) in
-          omega (arith, n, sum, more));
+          (let sum = ap (λ x. length (part a x)) at.is ∙ ap length (filter-append (λ e. e.by == a) at.newer at.rest) ∙ length-append (part a at.newer) (part a at.rest) in
+          let rest = ap length parts ∙ length-append (part a (l.newer ++ m.event ∷ [])) (part a l.older) in
+          let one = ap length (filter-append (λ e. e.by == a) l.newer (m.event ∷ [])) ∙ length-append (part a l.newer) (part a (m.event ∷ [])) in
+          let own = ap (λ t. length (cond t (m.event ∷ []) [])) (eq-eqb m.event.by a l.own) in
+          let top = ap length (filter-append (λ e. e.by == a) at.newer l.newer) ∙ length-append (part a at.newer) (part a l.newer) in
+          omega (arith, sum, rest, one, own, top, few));
     }
+      where
+        now : List Event
+        now = part a l.older ++ base
+
+        none : has (is_asking 0) (part a l.older) ≡ false
+        none = ap (has (is_asking 0)) l.before ∙ m.none
+
+        parts : part a at.rest ≡ part a (l.newer ++ m.event ∷ []) ++ part a l.older
+        parts = ap (part a) (l.is ∙ sym (append_assoc l.newer (m.event ∷ []) l.older)) ∙ filter-append (λ e. e.by == a) (l.newer ++ m.event ∷ []) l.older
+
+        before : Lacking c a (settled_at c a older) now
+        before = lacking_before c a (settled_at c a older) (part a (l.newer ++ m.event ∷ [])) now (subst (Lacking c a (settled_at c a older)) (ap (λ x. x ++ base) parts ∙ append_assoc (part a (l.newer ++ m.event ∷ [])) (part a l.older) base) lacking)
+
+        same : part a (l.older ++ (low ++ older)) ≡ now
+        same = filter-append (λ e. e.by == a) l.older (low ++ older)
+
+        more : (d : ℕ) × (length (known c a now) ≡ already + d)
+        more = above_it already (length (known c a now)) (let n = known_more c a (part a l.older) base in omega (arith, n, knew))
+
+        few : length (part a l.older) < waiting_for c already more.0
+        few = elim (cases_lt (length (part a l.older)) (waiting_for c already more.0)) [
+          | inl less ↦ less
+          | inr long_enough ↦ absurd (true≢false (sym (asks_anew c already more.0 a (settled_at c a older) (part a l.older) base good large before late some knew (let g = more.1 in omega (arith, g)) long_enough) ∙ none))
+        ]
 
 -- within the pace of asks each region is asked
 pub since_within : (a : ℕ) (test : Event → Bool) (xs base : List Event) (e : Event) → begins_leadership a e ≡ true → has test (leadership a (xs ++ e ∷ base)) ≡ true → has test xs ≡ true

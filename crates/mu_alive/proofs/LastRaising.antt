@@ -20,7 +20,7 @@ use Rattle.mu_model.specs.Stretches.{is_replication}
 use Rattle.mu_model.proofs.Parts.{filter-append, part_is_possible}
 use Rattle.mu_agree.proofs.Landings.{has_of_part}
 use Rattle.mu_agree.proofs.Legal.{event_after, legal_induction, legal_older}
-use Rattle.mu_pace.specs.Counters.{AtEachMoment, AtEachStep}
+use Rattle.mu_agree.specs.Moments.{AtEachMoment, AtEachStep}
 use Rattle.mu_pace.proofs.Counting.{moments_before, both_moments, steps_before}
 use Rattle.mu_alive.specs.Following.{catching_steps, RaisesToAll}
 use Rattle.mu_alive.specs.Bringing.{IsGranted, LeadsOn}

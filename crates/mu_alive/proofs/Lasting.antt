@@ -16,7 +16,7 @@ use Rattle.mu_model.specs.Steps.{has_min, is_asking, is_min, is_named, knows_all
 use Rattle.mu_model.proofs.Parts.{filter-append}
 use Rattle.mu_agree.proofs.Legal.{legal_older}
 use Rattle.mu_pace.specs.Collecting.{LeaderKeeps}
-use Rattle.mu_pace.specs.Counters.{AtEachMoment, AtEachStep}
+use Rattle.mu_agree.specs.Moments.{AtEachMoment, AtEachStep}
 use Rattle.mu_pace.proofs.Counting.{last_moment, moments_before, steps_before, both_moments}
 use Rattle.mu_alive.specs.Enough.{asking_steps}
 use Rattle.mu_alive.specs.Last.{LastLeadersKnowAll, LeadsLast, NamesItself, last_granting_steps}

@@ -25,7 +25,9 @@ pub mod Lagging
 pub mod LastRaising
 mod LastAsks
 mod Lasting
+mod Missing
 mod Moments
+mod Newer
 mod Noting
 mod Opening
 mod Reaching

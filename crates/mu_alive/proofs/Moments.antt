@@ -9,7 +9,7 @@ use Rattle.mu_model.specs.Diligence.{AsksInTime, has_to_ask}
 use Rattle.mu_model.specs.Histories.{has}
 use Rattle.mu_model.specs.Steps.{is_asking, replicates}
 use Rattle.mu_model.specs.Stretches.{IsStretch, each_step, is_odd, is_replication, replications}
-use Rattle.mu_pace.specs.Counters.{AtEachMoment}
+use Rattle.mu_agree.specs.Moments.{AtEachMoment}
 use Rattle.mu_alive.specs.Enough.{asking_steps}
 use Rattle.mu_pace.proofs.Counting.{last_moment, moments_before}
 use Rattle.mu_pace.proofs.Pasts.{cut}

@@ -28,7 +28,8 @@ use Rattle.mu_agree.proofs.Legal.{legal_older}
 use Rattle.mu_agree.proofs.Possible.{parts_shorten_law}
 use Rattle.mu_agree.proofs.Prefixes.{greatest_along}
 use Rattle.mu_pace.specs.Blocking.{is_progress_by}
-use Rattle.mu_pace.specs.Counters.{AtEachMoment, AtEachStep, IsInTime, paid}
+use Rattle.mu_pace.specs.Counters.{IsInTime, paid}
+use Rattle.mu_agree.specs.Moments.{AtEachMoment, AtEachStep}
 use Rattle.mu_pace.specs.Watches.{earns, limit, limit_now, progressing, progressing_by}
 use Rattle.mu_pace.proofs.Counting.{allowed_here, last_moment, moments_before, shorter, steps_before}
 use Rattle.mu_pace.proofs.Growing.{known_grows}

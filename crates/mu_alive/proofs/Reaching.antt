@@ -12,7 +12,7 @@ use Rattle.mu_model.specs.Steps.{commits_more, has_min, is_lagging}
 use Rattle.mu_model.specs.Stretches.{is_replication}
 use Rattle.mu_model.proofs.Scans.{all_at, each_all}
 use Rattle.mu_pace.specs.Blocking.{can_be_marked, is_blocking}
-use Rattle.mu_pace.specs.Counters.{AtEachMoment, AtEachStep}
+use Rattle.mu_agree.specs.Moments.{AtEachMoment, AtEachStep}
 use Rattle.mu_pace.specs.Watches.{advancing, limit_now}
 use Rattle.mu_pace.proofs.Counting.{allowed_here, last_moment, moments_before, steps_before}
 use Rattle.mu_pace.proofs.Growing.{known_grows}

@@ -1,22 +1,26 @@
 -- After the last disturbance the least that goes on knows every command in time.
 use Rattle.std.proofs.Common.{◌≡◌, ℕ, ◌+◌, ◌*◌, ◌<◌, ◌≤◌, ◌==◌, Bool, true, false, cond, Some, List, [], ◌∷◌, ◌++◌, length, refl, sym, ◌∙◌, ap, arith, subst, append_assoc, append-nil}
+use Rattle.std.proofs.Math.Nat.{mul-le-mul_left}
 use Rattle.std.proofs.lemmas.Bool.{eq-eqb}
 use Rattle.std.proofs.lemmas.List.{length-append}
 use Rattle.mu_model.specs.declared.config.Config.{Config}
 use Rattle.mu_model.specs.declared.event.Event.{Event}
 use Rattle.mu_model.specs.Bounds.{cycle}
-use Rattle.mu_model.specs.Contents.{IsConfig, holds_all}
+use Rattle.mu_model.specs.Contents.{IsConfig, holds_all, row_count}
 use Rattle.mu_model.specs.Histories.{has, part, IsPrefixOf}
 use Rattle.mu_model.specs.Knowledge.{applied, front, has_entry, known}
 use Rattle.mu_model.specs.Regions.{fence_owner}
+use Rattle.mu_model.specs.Room.{reserve}
 use Rattle.mu_model.specs.Steps.{is_asking, knows_all}
 use Rattle.mu_model.proofs.Parts.{filter-append, part_is_possible}
 use Rattle.mu_agree.proofs.Knowing.{known_stays}
-use Rattle.mu_pace.specs.Counters.{AtEachStep}
+use Rattle.mu_agree.specs.Moments.{AtEachStep}
+use Rattle.mu_pace.specs.Watches.{limit}
 use Rattle.mu_alive.specs.Clearing.{Clears, clearing_steps}
 use Rattle.mu_alive.specs.Enough.{HasLargeRing, asking_steps}
 use Rattle.mu_alive.specs.Failing.{failing_steps}
-use Rattle.mu_alive.specs.Resuming.{FollowsListing, LeadsAfter, ResumedLeadersApplyAll, ResumedLeadersKnowAll, resuming_steps, waiting_steps}
+use Rattle.mu_alive.specs.Missing.{Knew, ResumedLeadersKnowMissing, waiting_for}
+use Rattle.mu_alive.specs.Resuming.{FollowsListing, LeadsAfter, ResumedLeadersApplyAll, ResumedLeadersKnowAll, resuming_steps}
 use Rattle.mu_alive.specs.Settling.{HaveTaken, KeepGoing}
 use Rattle.mu_alive.proofs.Anew.{Lacking, lacking_before}
 use Rattle.mu_alive.proofs.Beginning.{CutAt, begins_now, cut_at}
@@ -25,6 +29,7 @@ use Rattle.mu_alive.proofs.Cutting.{Located, located, met, Met}
 use Rattle.mu_alive.proofs.Enduring.{Begins, upto}
 use Rattle.mu_alive.proofs.Enough.{holds_more, asks_verb, lacks_older}
 use Rattle.mu_alive.proofs.Fetching.{fetched, front_begins}
+use Rattle.mu_alive.proofs.Missing.{above_it, knew_later, known_up}
 use Rattle.mu_alive.proofs.Settling.{goes_on_before}
 use Rattle.mu_alive.proofs.LastAsks.{Asked, ask_next, asked_each, lacking_of, leads_after_before, leads_wider, no_more, settled_at}
 
@@ -33,11 +38,11 @@ abbrev steps_of_each : ℕ → ℕ → ℕ → ℕ
 steps_of_each ratio lag k = ratio * k + lag
 
 -- the steps after which a was granted all regions that go on
-abbrev granting_steps : Config → ℕ → ℕ → ℕ
-granting_steps c ratio lag = steps_of_each ratio lag (failing_steps c) + steps_of_each ratio lag (clearing_steps c) + waiting_steps c + asking_steps c + steps_of_each ratio lag (2 * cycle c)
+abbrev granting_steps : Config → ℕ → ℕ → ℕ → ℕ → ℕ
+granting_steps c already missing ratio lag = steps_of_each ratio lag (failing_steps c) + steps_of_each ratio lag (clearing_steps c) + waiting_for c already missing + asking_steps c + steps_of_each ratio lag (2 * cycle c)
 
 -- the events since the last disturbance, cut at a's steps: the scores settle (n), the hosts serve old asks (l), a asks (e), asks all (w) and is granted all (v)
-record Granted (c : Config) (live : ℕ → Bool) (ratio lag a : ℕ) (newer older : List Event) : Type 0 where
+record Granted (c : Config) (already : ℕ) (live : ℕ → Bool) (ratio lag a : ℕ) (newer older : List Event) : Type 0 where
   up : List Event
   later : List Event
   first : List Event
@@ -45,7 +50,10 @@ record Granted (c : Config) (live : ℕ → Bool) (ratio lag a : ℕ) (newer old
   settled : settled_at c a older ≤ length (part a (first ++ older))
   clear : (p : ℕ) → p < c.replicas → live p ≡ true → Clears c live a p later first older
   owns : (p : ℕ) → p < c.replicas → live p ≡ true → fence_owner p (later ++ (first ++ older)) ≡ Some a
-  left : length (part a newer) ≤ length (part a up) + granting_steps c ratio lag
+  gain : ℕ
+  knew : already + gain ≤ length (known c a (part a ((later ++ first) ++ older)))
+  fits : already + gain ≤ row_count c + reserve c
+  left : length (part a newer) ≤ length (part a up) + granting_steps c already gain ratio lag
 
 cut_sum : (a k : ℕ) (events : List Event) (at : CutAt a k events) → length (part a events) ≡ length (part a at.newer) + k
 cut_sum a k events at = let n = at.count in let sum = ap (λ l. length (part a l)) at.is ∙ ap length (filter-append (λ e. e.by == a) at.newer at.rest) ∙ length-append (part a at.newer) (part a at.rest) in omega (arith, n, sum)
@@ -106,10 +114,9 @@ late_cut c a between rest older many = let s = settled_cut c a rest older many i
 settling_take : (c : Config) (live : ℕ → Bool) (ratio lag a : ℕ) (newer older : List Event) → LeadsAfter true c live ratio lag a newer older → (n : CutAt a (steps_of_each ratio lag (failing_steps c)) newer) → HaveTaken c live (failing_steps c) n.rest
 settling_take c live ratio lag a newer older k n = all_take c live ratio lag a (failing_steps c) newer older n.newer n.rest [] k (n.is ∙ ap (λ m. n.newer ++ m) (sym (append-nil n.rest))) n.count
 
-granted_by : (c : Config) (live : ℕ → Bool) (ratio lag a : ℕ) (newer older : List Event) → IsConfig c → HasLargeRing c → LeadsAfter true c live ratio lag a newer older → knows_all c a (part a (newer ++ older)) ≡ false
-    → granting_steps c ratio lag ≤ length (part a newer)
-    → (n : CutAt a (steps_of_each ratio lag (failing_steps c)) newer) → (l : CutAt a (steps_of_each ratio lag (clearing_steps c)) n.newer) → (asked : Asked c a l.newer) → (w : CutAt a (asking_steps c) asked.above) → (v : CutAt a (steps_of_each ratio lag (2 * cycle c)) w.newer) → Granted c live ratio lag a newer older
-granted_by c live ratio lag a newer older good large k lacks long n l asked w v = record {
+granted_by : (c : Config) (already : ℕ) (live : ℕ → Bool) (ratio lag a : ℕ) (newer older : List Event) → IsConfig c → HasLargeRing c → LeadsAfter true c live ratio lag a newer older → knows_all c a (part a (newer ++ older)) ≡ false
+    → (n : CutAt a (steps_of_each ratio lag (failing_steps c)) newer) → (l : CutAt a (steps_of_each ratio lag (clearing_steps c)) n.newer) → (asked : Asked c already a l.newer ((l.rest ++ n.rest) ++ older)) → (w : CutAt a (asking_steps c) asked.above) → (v : CutAt a (steps_of_each ratio lag (2 * cycle c)) w.newer) → Granted c already live ratio lag a newer older
+granted_by c already live ratio lag a newer older good large k lacks n l asked w v = record {
   up = v.newer;
   later = later;
   first = n.rest;
@@ -117,6 +124,9 @@ granted_by c live ratio lag a newer older good large k lacks long n l asked w v 
   settled = settled;
   clear = clear;
   owns = owns;
+  gain = asked.gain;
+  knew = knows;
+  fits = asked.fits;
   left = (let s1 = cut_sum a (steps_of_each ratio lag (failing_steps c)) newer n in let s2 = cut_sum a (steps_of_each ratio lag (clearing_steps c)) n.newer l in let s3 = asked.left in let s4 = cut_sum a (asking_steps c) asked.above w in let s5 = cut_sum a (steps_of_each ratio lag (2 * cycle c)) w.newer v in omega (arith, s1, s2, s3, s4, s5));
 }
   where
@@ -139,6 +149,20 @@ granted_by c live ratio lag a newer older good large k lacks long n l asked w v 
     whole =
         n.is ∙ ap (λ m. m ++ n.rest) (l.is ∙ ap (λ m. m ++ l.rest) (asked.is ∙ ap (λ m. m ++ asked.event ∷ asked.below) (w.is ∙ ap (λ m. m ++ w.rest) v.is)))
         ∙ six v.newer v.rest w.rest asked.below l.rest n.rest asked.event
+
+    knows : already + asked.gain ≤ length (known c a (part a ((later ++ n.rest) ++ older)))
+    knows =
+        let top = v.rest ++ (w.rest ++ asked.event ∷ []) in
+        let same : (later ++ n.rest) ++ older ≡ top ++ (asked.below ++ ((l.rest ++ n.rest) ++ older)) =
+        append_assoc later n.rest older
+        ∙ append_assoc v.rest ((w.rest ++ asked.event ∷ []) ++ (asked.below ++ l.rest)) (n.rest ++ older)
+        ∙ ap (λ m. v.rest ++ m) (append_assoc (w.rest ++ asked.event ∷ []) (asked.below ++ l.rest) (n.rest ++ older))
+        ∙ sym (append_assoc v.rest (w.rest ++ asked.event ∷ []) ((asked.below ++ l.rest) ++ (n.rest ++ older)))
+        ∙ ap (λ m. top ++ m) (append_assoc asked.below l.rest (n.rest ++ older) ∙ ap (λ m. asked.below ++ m) (sym (append_assoc l.rest n.rest older))) in
+        let more = known_up c a top (asked.below ++ ((l.rest ++ n.rest) ++ older)) in
+        let is = ap (λ m. length (known c a (part a m))) same in
+        let g = asked.gained in
+        omega (arith, more, is, g)
 
     on : KeepGoing c live a (later ++ n.rest) older
     on = goes_on_before c live a v.newer (later ++ n.rest) older (subst (λ m. KeepGoing c live a m older) whole k.on)
@@ -193,11 +217,11 @@ granted_by c live ratio lag a newer older good large k lacks long n l asked w v 
         (all_take c live ratio lag a (2 * cycle c) newer older v.newer v.rest (((w.rest ++ asked.event ∷ []) ++ (asked.below ++ l.rest)) ++ n.rest) k (whole ∙ ap (λ m. v.newer ++ m) (append_assoc v.rest ((w.rest ++ asked.event ∷ []) ++ (asked.below ++ l.rest)) n.rest)) v.count p inside lives)
         (each p inside)
 
-grants_all : (c : Config) (live : ℕ → Bool) (ratio lag a : ℕ) (newer older : List Event) → IsConfig c → HasLargeRing c → LeadsAfter true c live ratio lag a newer older → knows_all c a (part a (newer ++ older)) ≡ false
-    → granting_steps c ratio lag ≤ length (part a newer)
-    → Granted c live ratio lag a newer older
-grants_all c live ratio lag a newer older good large k lacks long = granted_by c live ratio lag a newer older good large k lacks long n l asked w
-    (cut_at a (steps_of_each ratio lag (2 * cycle c)) w.newer (let s1 = cut_sum a (steps_of_each ratio lag (failing_steps c)) newer n in let s2 = cut_sum a (steps_of_each ratio lag (clearing_steps c)) n.newer l in let s3 = asked.left in let s4 = cut_sum a (asking_steps c) asked.above w in omega (arith, s1, s2, s3, s4, long)))
+grants_all : (c : Config) (already missing : ℕ) (live : ℕ → Bool) (ratio lag a : ℕ) (newer older : List Event) → IsConfig c → HasLargeRing c → Knew c already missing a older → LeadsAfter true c live ratio lag a newer older → knows_all c a (part a (newer ++ older)) ≡ false
+    → granting_steps c already missing ratio lag ≤ length (part a newer)
+    → Granted c already live ratio lag a newer older
+grants_all c already missing live ratio lag a newer older good large knew k lacks long = granted_by c already live ratio lag a newer older good large k lacks n l asked w
+    (cut_at a (steps_of_each ratio lag (2 * cycle c)) w.newer (let s1 = cut_sum a (steps_of_each ratio lag (failing_steps c)) newer n in let s2 = cut_sum a (steps_of_each ratio lag (clearing_steps c)) n.newer l in let s3 = asked.left in let s4 = cut_sum a (asking_steps c) asked.above w in let s5 = shorter_wait in omega (arith, s1, s2, s3, s4, s5, long)))
   where
     n : CutAt a (steps_of_each ratio lag (failing_steps c)) newer
     n = cut_at a (steps_of_each ratio lag (failing_steps c)) newer (omega (arith, long))
@@ -205,28 +229,42 @@ grants_all c live ratio lag a newer older good large k lacks long = granted_by c
     l : CutAt a (steps_of_each ratio lag (clearing_steps c)) n.newer
     l = cut_at a (steps_of_each ratio lag (clearing_steps c)) n.newer (let s1 = cut_sum a (steps_of_each ratio lag (failing_steps c)) newer n in omega (arith, s1, long))
 
-    asked : Asked c a l.newer
+    asked : Asked c already a l.newer ((l.rest ++ n.rest) ++ older)
     asked =
-        ask_next c live ratio lag a l.newer (l.rest ++ n.rest) older good large (subst (λ m. LeadsAfter true c live ratio lag a m older) (low_cut a newer n l) k) (sym (ap (λ m. knows_all c a (part a (m ++ older))) (low_cut a newer n l)) ∙ lacks) (late_cut c a l.rest n.rest older (settling_take c live ratio lag a newer older k n a k.on.inside k.on.lives))
+        ask_next c already missing live ratio lag a l.newer (l.rest ++ n.rest) older good large (subst (λ m. LeadsAfter true c live ratio lag a m older) (low_cut a newer n l) k) (sym (ap (λ m. knows_all c a (part a (m ++ older))) (low_cut a newer n l)) ∙ lacks) (late_cut c a l.rest n.rest older (settling_take c live ratio lag a newer older k n a k.on.inside k.on.lives)) (knew_later c already missing a (l.rest ++ n.rest) older knew) knew.lacks
         (let s1 = cut_sum a (steps_of_each ratio lag (failing_steps c)) newer n in let s2 = cut_sum a (steps_of_each ratio lag (clearing_steps c)) n.newer l in omega (arith, s1, s2, long))
 
+    shorter_wait : waiting_for c already asked.gain ≤ waiting_for c already missing
+    shorter_wait =
+        let f = asked.fits in
+        let l = knew.lacks in
+        let m : limit c c.replicas * (asked.gain + 1) ≤ limit c c.replicas * (missing + 1) = mul-le-mul_left (limit c c.replicas) (omega (arith, f, l)) in
+        omega (arith, m)
+
     w : CutAt a (asking_steps c) asked.above
-    w = cut_at a (asking_steps c) asked.above (let s1 = cut_sum a (steps_of_each ratio lag (failing_steps c)) newer n in let s2 = cut_sum a (steps_of_each ratio lag (clearing_steps c)) n.newer l in let s3 = asked.left in omega (arith, s1, s2, s3, long))
+    w = cut_at a (asking_steps c) asked.above (let s1 = cut_sum a (steps_of_each ratio lag (failing_steps c)) newer n in let s2 = cut_sum a (steps_of_each ratio lag (clearing_steps c)) n.newer l in let s3 = asked.left in let s5 = shorter_wait in omega (arith, s1, s2, s3, s5, long))
 
 -- so in the end a leadership begins that is never over, and after which it can't ask: by then it knows all
-pub resumed_knows : ResumedLeadersKnowAll
-resumed_knows again c live ratio lag a newer older good large leads many = go (knows_all c a (part a (newer ++ older))) refl
+pub resumed_missing : ResumedLeadersKnowMissing
+resumed_missing again c already missing live ratio lag a newer older good large leads knew many = go (knows_all c a (part a (newer ++ older))) refl
   where
     k : LeadsAfter true c live ratio lag a newer older
     k = leads_wider again c live ratio lag a newer older leads
 
     go : (t : Bool) → knows_all c a (part a (newer ++ older)) ≡ t → t ≡ true
     go true is = refl
-    go false lacks = absurd (late (grants_all c live ratio lag a newer older good large k lacks (omega (arith, many))))
+    go false lacks = absurd (late (grants_all c already missing live ratio lag a newer older good large knew k lacks (omega (arith, many))))
       where
-        late : Granted c live ratio lag a newer older → ⊥
-        late g = second (ask_next c live ratio lag a g.up (g.later ++ g.first) older good large k2 lacks2 settled2 (let left = g.left in omega (arith, left, many)))
+        late : Granted c already live ratio lag a newer older → ⊥
+        late g = second (ask_next c (already + g.gain) rest.0 live ratio lag a g.up (g.later ++ g.first) older good large k2 lacks2 settled2 g.knew (let is = rest.1 in let l = knew.lacks in omega (arith, is, l)) (let left = g.left in let p = rest_times in omega (arith, left, many, p)))
           where
+            -- what is missing after the first wait
+            rest : (d : ℕ) × (missing ≡ g.gain + d)
+            rest = above_it g.gain missing (let f = g.fits in let l = knew.lacks in omega (arith, f, l))
+
+            rest_times : limit c c.replicas * missing ≡ limit c c.replicas * g.gain + limit c c.replicas * rest.0
+            rest_times = ap (λ m. limit c c.replicas * m) rest.1 ∙ omega arith
+
             k2 : LeadsAfter true c live ratio lag a (g.up ++ (g.later ++ g.first)) older
             k2 = subst (λ m. LeadsAfter true c live ratio lag a m older) g.is k
 
@@ -236,11 +274,25 @@ resumed_knows again c live ratio lag a newer older good large leads many = go (k
             settled2 : settled_at c a older ≤ length (part a ((g.later ++ g.first) ++ older))
             settled2 = let s = g.settled in let sum = ap (λ m. length (part a m)) (append_assoc g.later g.first older) ∙ ap length (filter-append (λ e. e.by == a) g.later (g.first ++ older)) ∙ length-append (part a g.later) (part a (g.first ++ older)) in omega (arith, s, sum)
 
-            second : Asked c a g.up → ⊥
-            second x = third (ask_next c live ratio lag a x.above low older good large k3 lacks3 settled3 (let left = g.left in let less = x.left in omega (arith, left, less, many)))
+            second : Asked c (already + g.gain) a g.up ((g.later ++ g.first) ++ older) → ⊥
+            second x = third (ask_next c (already + g.gain + x.gain) last.0 live ratio lag a x.above low older good large k3 lacks3 settled3 knew3 (let is = rest.1 in let more = last.1 in let l = knew.lacks in omega (arith, is, more, l)) (let left = g.left in let less = x.left in let p = rest_times in let q = last_times in omega (arith, left, less, many, p, q)))
               where
+                -- and after the second
+                last : (d : ℕ) × (rest.0 ≡ x.gain + d)
+                last = above_it x.gain rest.0 (let f = x.fits in let is = rest.1 in let l = knew.lacks in omega (arith, f, is, l))
+
+                last_times : limit c c.replicas * rest.0 ≡ limit c c.replicas * x.gain + limit c c.replicas * last.0
+                last_times = ap (λ m. limit c c.replicas * m) last.1 ∙ omega arith
+
                 low : List Event
                 low = x.event ∷ (x.below ++ (g.later ++ g.first))
+
+                knew3 : already + g.gain + x.gain ≤ length (known c a (part a (low ++ older)))
+                knew3 =
+                    let g3 = x.gained in
+                    let more = known_up c a (x.event ∷ []) (x.below ++ ((g.later ++ g.first) ++ older)) in
+                    let same = ap (λ m. length (known c a (part a (x.event ∷ m)))) (append_assoc x.below (g.later ++ g.first) older) in
+                    omega (arith, g3, more, same)
 
                 cut_here : g.up ++ (g.later ++ g.first) ≡ x.above ++ low
                 cut_here = ap (λ m. m ++ (g.later ++ g.first)) x.is ∙ append_assoc x.above (x.event ∷ x.below) (g.later ++ g.first)
@@ -258,7 +310,7 @@ resumed_knows again c live ratio lag a newer older good large leads many = go (k
                     let sum = ap (λ m. length (part a m)) same ∙ ap length (filter-append (λ e. e.by == a) (x.event ∷ x.below) ((g.later ++ g.first) ++ older)) ∙ length-append (part a (x.event ∷ x.below)) (part a ((g.later ++ g.first) ++ older)) in
                     omega (arith, s, sum)
 
-                third : Asked c a x.above → ⊥
+                third : Asked c (already + g.gain + x.gain) a x.above (low ++ older) → ⊥
                 third y = no_more c live a (settled_at c a older) y.below x.event (x.below ++ g.later) g.first older y.event begins y.own y.asks y.none lacking settled4
                   where
                     rest : List Event
@@ -303,6 +355,12 @@ resumed_knows again c live ratio lag a newer older good large leads many = go (k
                       asks = x.asks;
                       listed = subst (λ m. AtEachStep (FollowsListing c a) (part a m)) whole k5.listed;
                     }
+
+-- also if it knew nothing
+pub resumed_knows : ResumedLeadersKnowAll
+resumed_knows again c live ratio lag a newer older good large leads many =
+    resumed_missing again c 0 (row_count c + reserve c) live ratio lag a newer older good large leads (record { knew = omega arith; lacks = omega arith })
+    (omega (arith, many))
 
 -- and fetches what it lacks
 pub resumed_applies : ResumedLeadersApplyAll

@@ -20,7 +20,8 @@ use Rattle.mu_model.proofs.Owned.{greatest-part}
 use Rattle.mu_model.proofs.Parts.{filter-append, part_is_possible}
 use Rattle.mu_agree.proofs.Fitting.{part_positions_suffice_law}
 use Rattle.mu_agree.proofs.Prefixes.{greatest_along}
-use Rattle.mu_pace.specs.Counters.{AtEachMoment, AtEachStep, IsInTime}
+use Rattle.mu_pace.specs.Counters.{IsInTime}
+use Rattle.mu_agree.specs.Moments.{AtEachMoment, AtEachStep}
 use Rattle.mu_pace.specs.Watches.{raising}
 use Rattle.mu_pace.proofs.Counting.{last_moment, moments_before}
 use Rattle.mu_pace.proofs.Growing.{known_grows, member_stays}

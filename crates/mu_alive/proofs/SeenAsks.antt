@@ -19,7 +19,7 @@ use Rattle.mu_model.specs.Steps.{is_ask_read}
 use Rattle.mu_model.proofs.Basics.{same_number, same_some}
 use Rattle.mu_model.proofs.Parts.{filter-append}
 use Rattle.mu_agree.proofs.Legal.{event_after, legal_induction, legal_older}
-use Rattle.mu_pace.specs.Counters.{AtEachStep}
+use Rattle.mu_agree.specs.Moments.{AtEachStep}
 use Rattle.mu_pace.proofs.Counting.{steps_before}
 use Rattle.mu_pace.proofs.Pasts.{cut, reads_ask, Cut}
 use Rattle.mu_alive.specs.Alone.{AsksAlone}

@@ -14,10 +14,12 @@ use Rattle.mu_model.specs.Steps.{commits_more, is_named}
 use Rattle.mu_model.specs.Stretches.{is_replication, replications}
 use Rattle.mu_agree.proofs.Landings.{greatest_since}
 use Rattle.mu_agree.proofs.Prefixes.{greatest_along}
-use Rattle.mu_pace.specs.Counters.{AtEachMoment, AtEachStep, IsInTime}
+use Rattle.mu_pace.specs.Counters.{IsInTime}
+use Rattle.mu_agree.specs.Moments.{AtEachMoment, AtEachStep}
 use Rattle.mu_pace.specs.Watches.{is_full_raise, raising}
 use Rattle.mu_pace.proofs.Counting.{allowed_here, steps_before}
-use Rattle.mu_pace.proofs.Growing.{known_grows, member_on, member_stays, stays_less}
+use Rattle.mu_pace.proofs.Growing.{known_grows, member_stays, stays_less}
+use Rattle.mu_agree.proofs.Members.{member_on}
 use Rattle.mu_alive.specs.Bringing.{LeadsOn, bringing_steps}
 use Rattle.mu_alive.proofs.Bringing.{member_in_time}
 use Rattle.mu_alive.proofs.Steady.{Steady, away_by, member_numbered, raises_brought, same_known, steady_steps}

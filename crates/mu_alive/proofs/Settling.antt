@@ -16,7 +16,7 @@ use Rattle.mu_model.proofs.Least.{least_found, least_none}
 use Rattle.mu_model.proofs.Owned.{IsOwn, newest-part}
 use Rattle.mu_model.proofs.Parts.{filter-append}
 use Rattle.mu_agree.proofs.Legal.{legal_older}
-use Rattle.mu_pace.specs.Counters.{AtEachStep}
+use Rattle.mu_agree.specs.Moments.{AtEachStep}
 use Rattle.mu_pace.proofs.Counting.{steps_before}
 use Rattle.mu_alive.specs.Failing.{failing_steps}
 use Rattle.mu_alive.specs.Settling.{KeepGoing, LeastIsNamed, OnlyLeastAsks, ReadsOpen}

@@ -13,7 +13,8 @@ use Rattle.mu_model.specs.Steps.{is_named, is_over_after}
 use Rattle.mu_model.specs.Stretches.{each_step, is_replication}
 use Rattle.mu_agree.proofs.Landings.{greatest_since}
 use Rattle.mu_agree.proofs.Prefixes.{greatest_along}
-use Rattle.mu_pace.specs.Counters.{AtEachStep, Watch, paid}
+use Rattle.mu_pace.specs.Counters.{Watch, paid}
+use Rattle.mu_agree.specs.Moments.{AtEachStep}
 use Rattle.mu_pace.specs.Watches.{bringing_up, earns, is_brought_up, is_full_raise, leaves, limit, raising}
 use Rattle.mu_pace.proofs.Counting.{steps_before}
 use Rattle.mu_pace.proofs.Growing.{known_grows, member_stays, stays_less}

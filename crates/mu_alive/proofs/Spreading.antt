@@ -27,7 +27,7 @@ use Rattle.mu_agree.proofs.Knowing.{known_stays}
 use Rattle.mu_agree.proofs.Legal.{legal_older}
 use Rattle.mu_agree.proofs.Prefixes.{known_agree}
 use Rattle.mu_agree.proofs.Room.{covers_below}
-use Rattle.mu_pace.specs.Counters.{AtEachMoment, AtEachStep}
+use Rattle.mu_agree.specs.Moments.{AtEachMoment, AtEachStep}
 use Rattle.mu_pace.proofs.Counting.{last_moment, moments_before}
 use Rattle.mu_model.specs.Bounds.{cycle}
 use Rattle.mu_alive.specs.Bringing.{IsGranted, LeadsOn, joining_steps}

@@ -10,7 +10,8 @@ use Rattle.mu_model.specs.Knowledge.{applied, known}
 use Rattle.mu_model.specs.Parts.{IsPossible}
 use Rattle.mu_model.specs.Steps.{has_min, knows_all}
 use Rattle.mu_model.proofs.Parts.{filter-append, part_is_possible}
-use Rattle.mu_pace.specs.Counters.{AtEachMoment, AtEachStep, paid}
+use Rattle.mu_pace.specs.Counters.{paid}
+use Rattle.mu_agree.specs.Moments.{AtEachMoment, AtEachStep}
 use Rattle.mu_pace.specs.Watches.{earns}
 use Rattle.mu_pace.proofs.Counting.{steps_before}
 use Rattle.mu_pace.proofs.Growing.{known_grows}

@@ -10,7 +10,7 @@ use Rattle.mu_model.specs.Histories.{earlier_or, has, oldest, part}
 use Rattle.mu_model.specs.Leaderships.{begins_leadership, leadership, number_put, proposal_number}
 use Rattle.mu_model.specs.Steps.{has_min, is_asking}
 use Rattle.mu_agree.proofs.Landings.{has_more, has_since}
-use Rattle.mu_pace.specs.Counters.{AtEachStep}
+use Rattle.mu_agree.specs.Moments.{AtEachStep}
 use Rattle.mu_pace.proofs.Growing.{stays_less}
 use Rattle.mu_alive.proofs.Steady.{numbered_on}
 use Rattle.mu_alive.proofs.Enough.{Leads}

@@ -17,7 +17,7 @@ use Rattle.mu_model.specs.Picks.{is_joining}
 use Rattle.mu_model.specs.Placing.{fuo_read_or_raised}
 use Rattle.mu_model.specs.Steps.{commits_more, has_min, is_named, is_over_after}
 use Rattle.mu_agree.proofs.Possible.{parts_shorten_law}
-use Rattle.mu_pace.specs.Counters.{AtEachMoment, AtEachStep}
+use Rattle.mu_agree.specs.Moments.{AtEachMoment, AtEachStep}
 use Rattle.mu_pace.specs.Watches.{is_brought_up, is_raise_to_verb}
 use Rattle.mu_pace.proofs.Counting.{last_moment}
 use Rattle.mu_pace.proofs.Growing.{stays_less}

@@ -19,7 +19,7 @@ use Rattle.mu_model.specs.Stretches.{IsStretch}
 use Rattle.mu_model.proofs.Parts.{filter-append, part_is_possible}
 use Rattle.mu_model.proofs.Scans.{each_all}
 use Rattle.mu_pace.specs.Blocking.{can_be_marked, is_blocking}
-use Rattle.mu_pace.specs.Counters.{AtEachMoment, AtEachStep}
+use Rattle.mu_agree.specs.Moments.{AtEachMoment, AtEachStep}
 use Rattle.mu_pace.proofs.Counting.{moments_before, steps_before}
 use Rattle.mu_alive.specs.Enough.{asking_steps}
 use Rattle.mu_alive.specs.Last.{LeadsLast, last_granting_steps}

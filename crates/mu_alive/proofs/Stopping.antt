@@ -17,7 +17,7 @@ use Rattle.mu_model.proofs.Parts.{filter-append, part_is_possible}
 use Rattle.mu_agree.proofs.Fitting.{part_positions_suffice_law}
 use Rattle.mu_agree.proofs.Prefixes.{greatest_along}
 use Rattle.mu_pace.specs.Collecting.{LeaderKeeps}
-use Rattle.mu_pace.specs.Counters.{AtEachMoment, AtEachStep}
+use Rattle.mu_agree.specs.Moments.{AtEachMoment, AtEachStep}
 use Rattle.mu_pace.specs.Watches.{bringing_up, limit, raising}
 use Rattle.mu_pace.proofs.Counting.{last_moment}
 use Rattle.mu_alive.specs.Bringing.{most_paid}

@@ -7,7 +7,8 @@ use Rattle.mu_model.specs.declared.config.Config.{Config}
 use Rattle.mu_model.specs.declared.event.Event.{Event}
 use Rattle.mu_model.specs.Histories.{part}
 use Rattle.mu_model.specs.Stretches.{each_step, replications, steps}
-use Rattle.mu_pace.specs.Counters.{AtEachMoment, IsInTime, Watch, paid}
+use Rattle.mu_pace.specs.Counters.{IsInTime, Watch, paid}
+use Rattle.mu_agree.specs.Moments.{AtEachMoment}
 use Rattle.mu_pace.specs.Watches.{earns, limit}
 use Rattle.mu_pace.proofs.Counting.{shorter}
 use Rattle.mu_alive.proofs.Moments.{at_least_halves}

@@ -22,7 +22,7 @@ use Rattle.mu_agree.proofs.Access.{entered_facts, last_close, must_drain-part, n
 use Rattle.mu_agree.proofs.Entering.{slot_entered}
 use Rattle.mu_agree.proofs.Legal.{event_after, legal_older}
 use Rattle.mu_agree.proofs.Members.{joined_under-part, over-part}
-use Rattle.mu_pace.specs.Counters.{AtEachMoment}
+use Rattle.mu_agree.specs.Moments.{AtEachMoment}
 use Rattle.mu_alive.specs.Turns.{AreInTurn, IsInTurn, TurnsLeadOn}
 use Rattle.mu_alive.proofs.TurnOwners.{IsHighest, NotesStanding, StaysOpen, no_grant, notes_standing, stays_open, seen_again, top_induction}
 use Rattle.mu_alive.proofs.Turns.{turn_induction, turns_before}

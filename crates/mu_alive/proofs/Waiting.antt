@@ -6,7 +6,8 @@ use Rattle.mu_model.specs.Bounds.{stays}
 use Rattle.mu_model.specs.Histories.{has}
 use Rattle.mu_model.specs.Leaderships.{begins_leadership}
 use Rattle.mu_model.specs.Stretches.{each_step, steps}
-use Rattle.mu_pace.specs.Counters.{AtEachMoment, IsInTime, Watch, paid}
+use Rattle.mu_pace.specs.Counters.{IsInTime, Watch, paid}
+use Rattle.mu_agree.specs.Moments.{AtEachMoment}
 use Rattle.mu_pace.specs.Watches.{nothing}
 use Rattle.mu_pace.proofs.Counting.{shorter}
 use Rattle.mu_pace.proofs.Growing.{stays_less}

@@ -14,7 +14,7 @@ use Rattle.mu_model.specs.Placing.{fuo_read_or_raised}
 use Rattle.mu_model.specs.Room.{reserve}
 use Rattle.mu_model.specs.Steps.{has_min, is_fencing, is_named}
 use Rattle.mu_pace.specs.Collecting.{LeaderKeeps}
-use Rattle.mu_pace.specs.Counters.{AtEachMoment, AtEachStep}
+use Rattle.mu_agree.specs.Moments.{AtEachMoment, AtEachStep}
 use Rattle.mu_pace.specs.Watches.{limit}
 
 -- no leadership of a is ever over; a names itself while it has a number, and keeps a leader's paces

@@ -10,7 +10,8 @@ use Rattle.mu_model.specs.Knowledge.{known}
 use Rattle.mu_model.specs.Leaderships.{begins_leadership}
 use Rattle.mu_model.specs.Steps.{is_lagging, is_named, is_over_after, knows_all}
 use Rattle.mu_model.specs.Stretches.{replications}
-use Rattle.mu_pace.specs.Counters.{AtEachMoment, IsInTime}
+use Rattle.mu_pace.specs.Counters.{IsInTime}
+use Rattle.mu_agree.specs.Moments.{AtEachMoment}
 use Rattle.mu_pace.specs.Watches.{limit, progressing}
 
 -- the event interrupts no leadership: r is named, leads on, and meets neither a head without room

@@ -12,7 +12,7 @@ use Rattle.mu_model.specs.Histories.{has, part}
 use Rattle.mu_model.specs.Knowledge.{applied}
 use Rattle.mu_model.specs.Regions.{region_head}
 use Rattle.mu_model.specs.Steps.{has_min, is_asking, is_min, is_named}
-use Rattle.mu_pace.specs.Counters.{AtEachMoment, AtEachStep}
+use Rattle.mu_agree.specs.Moments.{AtEachMoment, AtEachStep}
 use Rattle.mu_alive.specs.Bringing.{joining_steps}
 use Rattle.mu_alive.specs.Enough.{HasLargeRing, steps_enough}
 use Rattle.mu_alive.specs.Following.{RaisesToAll, following_steps}

@@ -15,7 +15,7 @@ use Rattle.mu_model.specs.Placing.{fuo_read_or_raised}
 use Rattle.mu_model.specs.Regions.{region_fuo, region_head}
 use Rattle.mu_model.specs.Room.{reserve}
 use Rattle.mu_model.specs.Steps.{is_named}
-use Rattle.mu_pace.specs.Counters.{AtEachMoment, AtEachStep}
+use Rattle.mu_agree.specs.Moments.{AtEachMoment, AtEachStep}
 
 -- a raise of r's own head goes at least to all that is applied and within its own FUO
 abbrev pub RaisesToAll : Config → ℕ → List Event → Event → Type 0

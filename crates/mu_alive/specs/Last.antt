@@ -15,7 +15,7 @@ use Rattle.mu_model.specs.Room.{reserve}
 use Rattle.mu_model.specs.Steps.{is_named, knows_all}
 use Rattle.mu_model.specs.Stretches.{IsStretch, some_step}
 use Rattle.mu_pace.specs.Collecting.{LeaderKeeps}
-use Rattle.mu_pace.specs.Counters.{AtEachMoment, AtEachStep}
+use Rattle.mu_agree.specs.Moments.{AtEachMoment, AtEachStep}
 use Rattle.mu_alive.specs.Calm.{calm_steps}
 use Rattle.mu_alive.specs.Enough.{HasLargeRing, asking_steps}
 use Rattle.mu_alive.specs.Near.{IsNear}

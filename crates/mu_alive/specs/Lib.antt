@@ -9,7 +9,9 @@ pub mod Finishing
 pub mod Following
 pub mod Lagging
 pub mod Last
+pub mod Missing
 pub mod Near
+pub mod Newer
 pub mod Opens
 pub mod Resuming
 pub mod Settling

@@ -7,7 +7,7 @@ use Rattle.mu_model.specs.Histories.{has}
 use Rattle.mu_model.specs.Leaderships.{is_over}
 use Rattle.mu_model.specs.Steps.{has_min, is_asking, is_min, is_named, named_throughout, replicates}
 use Rattle.mu_model.specs.Stretches.{IsStretch, replications}
-use Rattle.mu_pace.specs.Counters.{AtEachMoment}
+use Rattle.mu_agree.specs.Moments.{AtEachMoment}
 use Rattle.mu_pace.specs.Watches.{puts_number}
 
 -- in any 17 n + 1 replication events throughout which r names itself each region is asked, if it

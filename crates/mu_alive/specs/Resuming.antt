@@ -16,8 +16,8 @@ use Rattle.mu_model.specs.Room.{reserve}
 use Rattle.mu_model.specs.Steps.{has_min, is_asking, is_fencing, is_min, is_named, knows_all}
 use Rattle.mu_model.specs.Stretches.{is_replication}
 use Rattle.mu_pace.specs.Collecting.{LeaderKeepsBy}
-use Rattle.mu_pace.specs.Counters.{AtEachStep}
-use Rattle.mu_alive.specs.Calm.{calm_steps}
+use Rattle.mu_agree.specs.Moments.{AtEachStep}
+use Rattle.mu_pace.specs.Watches.{limit}
 use Rattle.mu_alive.specs.Clearing.{clearing_steps}
 use Rattle.mu_alive.specs.Enough.{HasLargeRing, asking_steps}
 use Rattle.mu_alive.specs.Failing.{failing_steps}
@@ -69,9 +69,14 @@ pub record LeadsAfter (again : Bool) (c : Config) (live : ℕ → Bool) (ratio l
   pub listed : AtEachStep (FollowsListing c a) (part a (newer ++ older))
   pub going : outrun c a (part a (newer ++ older)) ≡ None
 
--- the steps within which a asks anew, if it doesn't know all by then
+-- the steps in which a asks anew three times, if it doesn't know all by then: what became known before
+-- one ask isn't missing after it
 abbrev pub waiting_steps : Config → ℕ
-waiting_steps c = 2 * asking_steps c + 2 * calm_steps c (row_count c + reserve c)
+waiting_steps c =
+    6 * asking_steps c
+    + 2
+    * (limit c c.replicas * (row_count c + reserve c + 3) + 18 * c.replicas
+    + 24 * (row_count c + reserve c + c.replicas * (row_count c + reserve c)))
 
 -- the steps after the last disturbance until it knows every command: the scores settle, the hosts
 -- serve old asks, a leadership ends that began before, another asks for the regions again, it ends
@@ -79,7 +84,7 @@ waiting_steps c = 2 * asking_steps c + 2 * calm_steps c (row_count c + reserve c
 abbrev pub resuming_steps : Config → ℕ → ℕ → ℕ
 resuming_steps c ratio lag =
     ratio * (failing_steps c + clearing_steps c + 2 * cycle c) + 3 * lag + asking_steps c
-    + 3 * waiting_steps c
+    + waiting_steps c
 
 -- after the last disturbance the least that goes on knows every command in time, in a large ring,
 -- whether it may ask again or not

@@ -11,7 +11,7 @@ use Rattle.mu_model.specs.Leaderships.{majority_of}
 use Rattle.mu_model.specs.Legal.{IsLegalHistory}
 use Rattle.mu_model.specs.Regions.{fence_closing}
 use Rattle.mu_model.specs.Scores.{is_failed, leader}
-use Rattle.mu_pace.specs.Counters.{AtEachStep}
+use Rattle.mu_agree.specs.Moments.{AtEachStep}
 use Rattle.mu_alive.specs.Alone.{AsksAlone}
 use Rattle.mu_alive.specs.Failing.{failing_steps}
 

@@ -13,7 +13,7 @@ use Rattle.mu_model.specs.Histories.{part}
 use Rattle.mu_model.specs.Knowledge.{applied, known}
 use Rattle.mu_model.specs.Room.{reserve}
 use Rattle.mu_model.specs.Scores.{is_failed}
-use Rattle.mu_pace.specs.Counters.{AtEachMoment, AtEachStep}
+use Rattle.mu_agree.specs.Moments.{AtEachMoment, AtEachStep}
 use Rattle.mu_pace.specs.Watches.{limit}
 use Rattle.mu_alive.specs.Bringing.{most_paid}
 use Rattle.mu_alive.specs.Enough.{asking_steps}

@@ -11,6 +11,8 @@ ghost use Rattle.mu_alive.specs.Finishing.{LastLeadersRaiseAll};
 ghost use Rattle.mu_alive.specs.Following.{FollowersCatchUp};
 ghost use Rattle.mu_alive.specs.Lagging.{LoneLeadersApplyAllInAnyRing, LoneLeadersRaiseAllInAnyRing};
 ghost use Rattle.mu_alive.specs.Last.{LastLeadersApplyAll, LastLeadersKnowAll, LoneWritersApplyAll};
+ghost use Rattle.mu_alive.specs.Missing.{CalmLeadersCommitMissing, ResumedLeadersKnowMissing};
+ghost use Rattle.mu_alive.specs.Newer.{CalmLeadersCommitNewer};
 ghost use Rattle.mu_alive.specs.Resuming.{ResumedLeadersApplyAll, ResumedLeadersKnowAll};
 ghost use Rattle.mu_alive.specs.Settling.{LeastIsNamed, OnlyLeastAsks};
 ghost use Rattle.mu_alive.specs.Stopping.{LastLeadersApplyAllInAnyRing, LastLeadersRaiseAllInAnyRing};
@@ -20,6 +22,16 @@ ghost use Rattle.mu_alive.specs.Unhindered.{UnhinderedCommit};
 /// A leader that nothing interrupts commits in time.
 pub fn calm_leaders_commit()
     ensures { CalmLeadersCommit }
+{}
+
+/// And what is missing at some moment of it in time by how much that is.
+pub fn calm_leaders_commit_missing()
+    ensures { CalmLeadersCommitMissing }
+{}
+
+/// And from a moment on that opens its count anew, whatever was open before.
+pub fn calm_leaders_commit_newer()
+    ensures { CalmLeadersCommitNewer }
 {}
 
 /// If replicas ask in turn, no leadership ends.
@@ -142,6 +154,11 @@ pub fn fast_ones_are_found()
 /// command in time, whether it may ask again or not.
 pub fn resumed_leaders_know_all()
     ensures { ResumedLeadersKnowAll }
+{}
+
+/// And knows it the sooner, the fewer commands it lacked then.
+pub fn resumed_leaders_know_missing()
+    ensures { ResumedLeadersKnowMissing }
 {}
 
 /// And has applied every command in time, if it fetches the rows that others wrote.

@@ -1,6 +1,8 @@
 -- attested: a list of events and of what clients see of the service is right: its events are legal,
--- no entry with a row is put before its command is got, and each reply that a replica tells is the
--- store's over what that replica has applied.
+-- no command is got twice, or after an entry with its row was put, and each reply that a replica
+-- tells is the store's over what that replica has applied.
+--
+-- Of a row that has no `got` nothing is asked.
 use Rattle.std.specs.Prelude.{ℕ, ◌++◌, ◌==◌, ◌≡◌, ◌≢◌, List, [], ◌∷◌, None, Some, false, if◌then◌else◌, reverse, true}
 use Rattle.std.specs.declared.option.Option.{Option}
 pub use Rattle.kv_store.specs.Beside.{beside}

@@ -5,7 +5,7 @@ use Rattle.std.specs.Prelude.{drop, if◌then◌else◌, max, nat_le, nat_lt, no
 use Rattle.std.specs.List.{slice_get}
 use Rattle.std.proofs.Math.Nat.{le-max_left, le-max_right, mul-le-mul_right}
 use Rattle.std.proofs.Math.Seq.{take-append-add}
-use Rattle.std.proofs.lemmas.Bool.{and_parts, cases_eq, cases_lt, leb-false, leb-true, lt-ltb, true≢false}
+use Rattle.std.proofs.lemmas.Bool.{and_parts, cases_eq, cases_lt, leb-false, leb-true, lt-ltb, true≢false, not-false, not-true}
 use Rattle.std.proofs.lemmas.List.{length-reverse, reverse-append, reverse-reverse, take-append-drop, take_all}
 use Rattle.mu_agree.proofs.Counting.{count_more, some_below}
 use Rattle.mu_follow.proofs.Due.{least_below_fails}
@@ -32,7 +32,6 @@ use Rattle.mu_model.proofs.Parts.{filter-append}
 use Rattle.mu_outcome.specs.declared.outcome.Outcome.{Outcome}
 use Rattle.mu_outcome.specs.Outcomes.{IsRun, journal_of, journals_of}
 use Rattle.mu_outcome.proofs.Completing.{all_from_log, least_passes}
-use Rattle.mu_pace.proofs.Pasts.{not_false, not_true}
 use Rattle.mu_alive.specs.Enough.{HasLargeRing, steps_enough}
 use Rattle.mu_alive.specs.Failing.{failing_steps}
 use Rattle.mu_alive.specs.Lagging.{steps_in_any_ring}
@@ -149,7 +148,7 @@ pub record LeastOn (o : Outcome) : Type 0 where
   pub low : who ≤ least_left o.job.config o.job.script
 
 pub least_on : (o : Outcome) → IsRun o → is_majority_left o.job.config o.job.script ≡ true → LeastOn o
-least_on o run left = record { who = s; on = record { inside = inside; left = not_true (was_stopped o s) (least_passes n live inside); lower = lower; majority = majority }; low = low }
+least_on o run left = record { who = s; on = record { inside = inside; left = not-true (was_stopped o s) (least_passes n live inside); lower = lower; majority = majority }; low = low }
   where
     n : ℕ
     n = o.job.config.replicas
@@ -167,7 +166,7 @@ least_on o run left = record { who = s; on = record { inside = inside; left = no
     inside = let some = some_below n live (let many = majority in omega (arith, many)) in let most = least_most n some.who live some.below some.passes in let below = some.below in omega (arith, most, below)
 
     lower : (r : ℕ) → r < s → was_stopped o r ≡ true
-    lower r below = not_false (was_stopped o r) (least_below_fails n live r below (let i = inside in omega (arith, below, i)))
+    lower r below = not-false (was_stopped o r) (least_below_fails n live r below (let i = inside in omega (arith, below, i)))
 
     low : s ≤ least_left o.job.config o.job.script
     low =
@@ -323,7 +322,7 @@ journal_long o run r low = ap length (sym (journal_part o run r low)) ∙ length
 
 -- whoever was stopped took at most so many steps
 pub stopped_by : (o : Outcome) (run : IsRun o) → StopBy o.job.config (λ r. not (was_stopped o r)) run.order.events (last_stop_step o.job.script.stops)
-stopped_by o run q low gone = let few = (stopped_there o run q low (not_false (was_stopped o q) gone)).1 in let same = journal_long o run q low in omega (arith, few, same)
+stopped_by o run q low gone = let few = (stopped_there o run q low (not-false (was_stopped o q) gone)).1 in let same = journal_long o run q low in omega (arith, few, same)
 
 -- and whoever is below the least that goes on, at most so many
 pub lower_stopped : (o : Outcome) (run : IsRun o) (s : LeastOn o) (q : ℕ) → q < s.who → length (part_of q run.order.events) ≤ last_stop_below o.job.script.stops (least_left o.job.config o.job.script)
@@ -382,7 +381,7 @@ all_by_then o order seats rounds good run given played diligent m is within = by
       | inr none ↦ absurd (true≢false (sym (ap not least.on.left) ∙ none least.who least.on.inside))
       | inl q ↦ elim (cases_lt (slice_index lengths q.at) m) [
         | inr more ↦ all_by o run least.who m least.on (then_holds (λ r low lives. let l = q.least r low lives in omega (arith, l, more)))
-        | inl early ↦ early_by o run q.at m (none_outrun_in_large o order seats rounds good run given played) large paused q.low (not_true (was_stopped o q.at) q.lives) (let same = taken q.at q.low in omega (arith, same, early)) within
+        | inl early ↦ early_by o run q.at m (none_outrun_in_large o order seats rounds good run given played) large paused q.low (not-true (was_stopped o q.at) q.lives) (let same = taken q.at q.low in omega (arith, same, early)) within
       ]
     ]
       where
@@ -406,7 +405,7 @@ all_by_then o order seats rounds good run given played diligent m is within = by
               lower = λ r below. ap not (least.on.lower r below);
               majority = least.on.majority;
               late = λ r low lives. (let l = late r low lives in omega (arith, l, number));
-              stopped = λ r low gone. (let few = (stopped_there o run r low (not_false (was_stopped o r) gone)).1 in let same = taken r low in let by = stops_by in omega (arith, few, same, by));
+              stopped = λ r low gone. (let few = (stopped_there o run r low (not-false (was_stopped o r) gone)).1 in let same = taken r low in let by = stops_by in omega (arith, few, same, by));
               pauses_by = pauses_within script.pauses (last_line_step script) (le-max_right (last_stop_step script.stops) (last_pause_step script.pauses));
               rounds = λ r low. rounds_within script.pauses c.replicas r low;
             }))

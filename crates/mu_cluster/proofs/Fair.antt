@@ -14,13 +14,13 @@ use Rattle.mu_model.specs.Regions.{fence_closing}
 use Rattle.mu_model.proofs.Basics.{same_number}
 use Rattle.mu_model.proofs.Parts.{filter-append, part_is_possible}
 use Rattle.mu_agree.proofs.Legal.{legal_older}
-use Rattle.mu_grant.specs.Pace.{InCycleOrder}
-use Rattle.mu_grant.proofs.Rounds.{reads_open}
+use Rattle.mu_lively.specs.Order.{InCycleOrder}
+use Rattle.mu_lively.proofs.HostRounds.{reads_open}
 use Rattle.mu_node.specs.Journal.{WasMade}
-use Rattle.mu_node.proofs.Anew.{asked_before_min, fenced_before_number, is_min_at, read_before_number, returns_by_asking}
-use Rattle.mu_node.proofs.Fetching.{rows_fetched}
+use Rattle.mu_lively.proofs.Anew.{asked_before_min, fenced_before_number, is_min_at, read_before_number, returns_by_asking}
+use Rattle.mu_lively.proofs.Fetching.{rows_fetched}
 use Rattle.mu_pace.specs.Collecting.{LeaderKeepsBy}
-use Rattle.mu_pace.specs.Counters.{AtEachStep}
+use Rattle.mu_agree.specs.Moments.{AtEachStep}
 use Rattle.mu_pace.proofs.Counting.{steps_before}
 use Rattle.mu_alive.specs.Enough.{HasLargeRing}
 use Rattle.mu_alive.specs.Last.{FetchesInTime, fetching_steps}

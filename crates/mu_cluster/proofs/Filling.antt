@@ -34,7 +34,11 @@ use Rattle.mu_node.specs.declared.result.NodeResult.{NodeResult}
 use Rattle.mu_node.specs.declared.zeal.Zeal.{Zeal}
 use Rattle.mu_model.specs.Diligence.{IsDiligentBy}
 use Rattle.mu_node.specs.Due.{is_eager}
-use Rattle.mu_node.specs.Turns.{IsResult, TellsEnd}
+use Rattle.mu_node.specs.Turns.{IsLeft, TellsEnd}
+use Rattle.mu_node.specs.declared.node.Node.{Node}
+use Rattle.mu_node.specs.Node.{StandsForNode}
+use Rattle.mu_model.specs.Parts.{IsPossible}
+use Rattle.mu_lively.proofs.Diligent.{listed_is_diligent}
 use Rattle.mu_cluster.specs.declared.lists.Lists.{Lists}
 use Rattle.mu_outcome.specs.declared.outcome.Outcome.{Outcome}
 use Rattle.mu_cluster.specs.declared.rounds.Seat.{Seat}
@@ -42,7 +46,7 @@ use Rattle.mu_outcome.specs.Entries.{commands_in, commands_of, longest}
 use Rattle.mu_cluster.specs.Lists.{Adds, AreOf, HasRoom, HoldsLists, Leaves}
 use Rattle.mu_cluster.specs.Paces.{AreDiligentBy, AreNodesOf}
 use Rattle.mu_node.specs.Journal.{IsListed}
-use Rattle.mu_pace.specs.Counters.{AtEachStep}
+use Rattle.mu_agree.specs.Moments.{AtEachStep}
 use Rattle.mu_outcome.specs.Outcomes.{IsRun, journal_of, journals_of, or_empty}
 use Rattle.mu_outcome.specs.Runs.{IsRunOver}
 use Rattle.mu_cluster.specs.Rounds.{EndsNowhereBefore, MayTake, PlayedBy, Sits, part_of}
@@ -81,6 +85,17 @@ leaves_in : (again : Bool) (c : Config) (script : Script) (r : ℕ) (mine : List
 leaves_in again c script r mine ls ms cs ds rs ts es fs b d t e was =
     subst (λ x. Leaves again c script r mine ms ds ts x) (sym e) (subst (λ x. Leaves again c script r mine ms ds x es) (sym t)
     (subst (λ x. Leaves again c script r mine ms x rs es) (sym d) (subst (λ x. Leaves again c script r mine x cs rs es) (sym b) was)))
+
+-- what a replica left, and that its events are diligent
+pub record IsResult (again : Bool) (c : Config) (r : ℕ) (mine : List Event) (result : NodeResult) : Type 0 where
+  pub left : IsLeft c r mine result
+  pub diligent : IsDiligentBy again c r mine
+
+pub result_of : (kind : Zeal) (c : Config) (r : ℕ) (mine : List Event) (node : Node) (result : NodeResult) → IsConfig c → IsPossible c r mine → StandsForNode c r mine node → node.zeal ≡ kind → IsLeft c r mine result → IsResult (is_eager kind) c r mine result
+result_of kind c r mine node result good possible stands zeal left = record {
+  left = left;
+  diligent = listed_is_diligent kind c r mine good stands.beside.follow.inside possible (stands.made refl) (subst (λ z. AtEachStep (IsListed z c r) mine) zeal (stands.listed refl));
+}
 
 -- one more replica
 pub held_left : (again : Bool) (c : Config) (script : Script) (events : List Event) (n : ℕ) (old new : Lists) (result : NodeResult) → HoldsLists again c script events n old → Adds old new result → EndsNowhereBefore c script n (part_of n events)
@@ -132,8 +147,8 @@ held_left again c script events n old new result was adds before ends is told = 
 
 -- the same if the replica sits in rounds
 pub held_next : {kind : Zeal} (c : Config) (script : Script) (events : List Event) (n rounds : ℕ) (old new : Lists) (result : NodeResult) (seat : Seat) → HoldsLists (is_eager kind) c script events n old → Adds old new result
-    → Sits kind c script n (part_of n events) seat rounds → seat.ended ≡ true → IsResult (is_eager seat.node.zeal) c n (part_of n events) result → TellsEnd c script n (part_of n events) result.end → HoldsLists (is_eager kind) c script events (n + 1) new
-held_next {kind} c script events n rounds old new result seat was adds sits ended is told = held_left (is_eager kind) c script events n old new result was adds sits.before (sits.ended ended) (subst (λ z. IsResult (is_eager z) c n (part_of n events) result) sits.zeal is) told
+    → Sits kind c script n (part_of n events) seat rounds → seat.ended ≡ true → IsResult (is_eager kind) c n (part_of n events) result → TellsEnd c script n (part_of n events) result.end → HoldsLists (is_eager kind) c script events (n + 1) new
+held_next {kind} c script events n rounds old new result seat was adds sits ended is told = held_left (is_eager kind) c script events n old new result was adds sits.before (sits.ended ended) is told
 
 pub get_map : {A : Type 0} {B : Type 0} (f : A → B) (xs : List A) (i : ℕ) (x : A) → slice_get xs i ≡ Some x → slice_get (map f xs) i ≡ Some (f x)
 get_map f [] i x at = cc

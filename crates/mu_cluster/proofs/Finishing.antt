@@ -3,7 +3,7 @@ use Rattle.std.proofs.Common.{◌≡◌, ◌∙◌, ◌≢◌, ◌⊎◌, ℕ, z
 use Rattle.std.specs.declared.option.Option.{Option}
 use Rattle.std.specs.Prelude.{nat_le, not, slice_index}
 use Rattle.std.specs.List.{slice_get}
-use Rattle.std.proofs.lemmas.Bool.{and_from, and_parts, cases_eq, cases_lt, eq-eqb, eqb-true, le-leb, true≢false}
+use Rattle.std.proofs.lemmas.Bool.{and_from, and_parts, cases_eq, cases_lt, eq-eqb, eqb-true, le-leb, true≢false, not-true}
 use Rattle.std.proofs.lemmas.List.{length-append, length-reverse, length-take}
 use Rattle.mu_agree.proofs.Knowing.{known_stays}
 use Rattle.mu_agree.proofs.Legal.{legal_older}
@@ -52,7 +52,7 @@ use Rattle.mu_cluster.proofs.Raised.{RaisedBy, full_holds, holds_whole, late_or_
 use Rattle.mu_cluster.proofs.Taken.{GoOn}
 use Rattle.mu_cluster.proofs.Turning.{least_most}
 use Rattle.mu_agree.proofs.Sessions.{same_list}
-use Rattle.mu_pace.proofs.Pasts.{cut, not_true, has_later}
+use Rattle.mu_pace.proofs.Pasts.{cut, has_later}
 use Rattle.mu_alive.proofs.Settling.{score-part}
 
 -- what a log held it holds later
@@ -257,7 +257,7 @@ goes_on_of o order seats rounds s good run given played diligent unpaused on = r
     ended q inside goes = go (run.ended q inside).0 (run.ended q inside).1 (run.ended q inside).2.ends
       where
         go : (end : End) → slice_get o.ends q ≡ Some end → EndsBy c o.job.script q (history (journal_of o q)) end → (length (part_of q events) ≡ c.budget) ⊎ (is_finished c q (part_of q events) ≡ true)
-        go End.Stopped is ends = absurd (true≢false (sym (ap is_stop is) ∙ not_true (was_stopped o q) goes))
+        go End.Stopped is ends = absurd (true≢false (sym (ap is_stop is) ∙ not-true (was_stopped o q) goes))
         go End.Budget is ends = inl (ap length (sym (journal_part o run q inside)) ∙ ends.1)
         go (End.Outrun p i) is ends = absurd (none_outrun c events (map length (journals_of o)) run.turns.rounds q p i good (unpaused_of o order seats rounds run given played unpaused) inside (ap (outrun c q) (sym (journal_part o run q inside)) ∙ ends.1))
         go (End.Finished heads) is ends = inr (ap (is_finished c q) (sym (journal_part o run q inside)) ∙ ends.2)

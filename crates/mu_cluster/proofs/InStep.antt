@@ -6,7 +6,7 @@ use Rattle.std.proofs.lemmas.Bool.{cases_eq, cases_lt, le-ltb, lt-ltb, ltb-true,
 use Rattle.std.proofs.lemmas.List.{map-append, reverse-append}
 use Rattle.mu_model.specs.declared.event.Event.{Event}
 use Rattle.mu_model.specs.Histories.{history, part}
-use Rattle.mu_pace.specs.Counters.{AtEachStep}
+use Rattle.mu_agree.specs.Moments.{AtEachStep}
 use Rattle.mu_cluster.specs.Rounds.{id_of}
 use Rattle.mu_outcome.specs.Turns.{Pace, ids_after, ids_in_round, is_due, pace, pace_after}
 use Rattle.mu_cluster.proofs.Paused.{count_of, count_part}

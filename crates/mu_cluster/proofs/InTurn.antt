@@ -17,7 +17,7 @@ use Rattle.mu_model.specs.Steps.{is_asking, is_asking_verb}
 use Rattle.mu_model.proofs.Basics.{same_number}
 use Rattle.mu_model.proofs.Parts.{filter-append}
 use Rattle.mu_alive.proofs.Cutting.{met}
-use Rattle.mu_pace.specs.Counters.{AtEachStep}
+use Rattle.mu_agree.specs.Moments.{AtEachStep}
 use Rattle.mu_pace.proofs.Counting.{steps_before}
 use Rattle.mu_cluster.specs.Rounds.{part_of}
 use Rattle.mu_cluster.proofs.InStep.{StaysAhead, in_step}

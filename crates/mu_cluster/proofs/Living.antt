@@ -13,8 +13,8 @@ use Rattle.mu_model.specs.Histories.{has, history, part}
 use Rattle.mu_model.specs.Scores.{leader}
 use Rattle.mu_model.specs.Steps.{is_named}
 use Rattle.mu_node.specs.Journal.{WasMade}
-use Rattle.mu_node.proofs.Naming.{first_named, is_row_write, writer_named}
-use Rattle.mu_pace.specs.Counters.{AtEachMoment, AtEachStep}
+use Rattle.mu_lively.proofs.Naming.{first_named, is_row_write, writer_named}
+use Rattle.mu_agree.specs.Moments.{AtEachMoment, AtEachStep}
 use Rattle.mu_alive.specs.Alone.{WritesAlone}
 use Rattle.mu_cluster.specs.Naming.{IsReached, NamesFirst}
 use Rattle.mu_cluster.proofs.InStep.{StaysAhead}

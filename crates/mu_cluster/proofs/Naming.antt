@@ -16,12 +16,12 @@ use Rattle.mu_model.proofs.Basics.{same_number, same_some}
 use Rattle.mu_model.proofs.Parts.{filter-append}
 use Rattle.mu_node.specs.declared.zeal.Zeal.{Zeal}
 use Rattle.mu_node.specs.Journal.{IsListed, WasMade}
-use Rattle.mu_node.proofs.Naming.{asker_named, first_named}
+use Rattle.mu_lively.proofs.Naming.{asker_named, first_named}
 use Rattle.mu_outcome.specs.declared.outcome.Outcome.{Outcome}
 use Rattle.mu_outcome.specs.Outcomes.{IsRun, journals_of}
 use Rattle.mu_outcome.specs.Turns.{ids_after}
 use Rattle.mu_outcome.proofs.Journals.{length_at, length_of_part}
-use Rattle.mu_pace.specs.Counters.{AtEachStep}
+use Rattle.mu_agree.specs.Moments.{AtEachStep}
 use Rattle.mu_pace.proofs.Counting.{steps_before}
 use Rattle.mu_cluster.specs.declared.rounds.Seat.{Seat}
 use Rattle.mu_cluster.specs.Naming.{IsBeforeEnd, IsReached, NamesFirst, NamesFirstUnpaused}

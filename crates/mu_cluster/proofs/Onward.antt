@@ -25,17 +25,19 @@ use Rattle.mu_model.specs.Stretches.{is_replication}
 use Rattle.mu_model.proofs.Basics.{same_number, same_some}
 use Rattle.mu_model.proofs.Least.{least_found, least_none}
 use Rattle.mu_model.proofs.Lists.{item_below}
-use Rattle.mu_model.proofs.Parts.{history-part}
+use Rattle.mu_model.proofs.Parts.{history-part, part_is_possible}
 use Rattle.mu_detect.proofs.Leaders.{failed_follows, may_lead, own_leads}
 use Rattle.mu_detect.specs.Stands.{last_count}
-use Rattle.mu_grant.specs.Pace.{InCycleOrder}
-use Rattle.mu_node.specs.Due.{is_eager}
-use Rattle.mu_node.specs.Journal.{WasMade}
-use Rattle.mu_node.proofs.Naming.{asker_named}
+use Rattle.mu_lively.specs.Order.{InCycleOrder}
+use Rattle.mu_node.specs.declared.zeal.Zeal.{Zeal}
+use Rattle.mu_node.specs.Journal.{IsListed, WasMade}
+use Rattle.mu_lively.proofs.Listed.{listed_is_paced}
+use Rattle.mu_lively.proofs.Order.{in_order}
+use Rattle.mu_lively.proofs.Naming.{asker_named}
 use Rattle.mu_outcome.specs.declared.outcome.Outcome.{Outcome}
 use Rattle.mu_outcome.specs.Outcomes.{IsRun, journal_of, journals_of, or_empty}
-use Rattle.mu_pace.specs.Collecting.{LeaderKeeps, LeaderKeepsBy}
-use Rattle.mu_pace.specs.Counters.{AtEachMoment, AtEachStep}
+use Rattle.mu_pace.specs.Collecting.{LeaderKeeps}
+use Rattle.mu_agree.specs.Moments.{AtEachMoment, AtEachStep}
 use Rattle.mu_pace.proofs.Counting.{last_moment, moments_before, steps_before}
 use Rattle.mu_alive.specs.Turns.{AreInTurn, is_own_min}
 use Rattle.mu_alive.proofs.Beginning.{begins_now, cause_is}
@@ -47,7 +49,7 @@ use Rattle.mu_alive.proofs.Turns.{begun-part, min_begun, min_leads}
 use Rattle.mu_cluster.specs.declared.rounds.Seat.{Seat}
 use Rattle.mu_cluster.specs.Leading.{LeadOnUnpaused}
 use Rattle.mu_cluster.specs.Paces.{AreDiligent}
-use Rattle.mu_cluster.specs.Rounds.{Played, part_of}
+use Rattle.mu_cluster.specs.Rounds.{Played, Sits, part_of}
 use Rattle.mu_cluster.proofs.Naming.{AreUnpaused, part_before, part_step, unpaused_of}
 use Rattle.mu_cluster.proofs.Turning.{asks_late, names_failed, outlasted}
 use Rattle.mu_cluster.proofs.InTurn.{Asked, asked, insider, none_below, none_left}
@@ -276,12 +278,27 @@ journal_part o run r low = ap (λ l. history (or_empty l)) (run.parts.each r low
 pub nodes_of : (o : Outcome) (order : Record) (seats : List Seat) (rounds : ℕ) (run : IsRun o) → o.order ≡ Some order → Played o.job.config o.job.script order.events seats rounds 0 → AreDiligent o → AreNodes o.job.config run.order.events
 nodes_of o order seats rounds run given played diligent = record {
   reads = λ p low. subst (ReadsInTime o.job.config p) (journal_part o run p low) (diligent p low).heartbeat_pace;
-  order = λ p low. let found = item_below seats p (omega (arith, low, count)) in subst (λ (x : Record). InCycleOrder o.job.config p (part_of p x.events)) (same_some order run.order (sym given ∙ run.given)) ((played.waits p found.0 found.1 (omega arith)).stands.cycle refl);
-  led = λ p low. let found = item_below seats p (omega (arith, low, count)) in subst (λ (x : Record). AtEachStep (LeaderKeeps o.job.config p) (part_of p x.events)) (same_some order run.order (sym given ∙ run.given)) (let sits = played.waits p found.0 found.1 (omega arith) in subst (λ z. AtEachStep (LeaderKeepsBy (is_eager z) o.job.config p) (part_of p order.events)) sits.zeal (sits.stands.led refl));
+  order = λ p low. in_order c p (part_of p run.order.events) (made p low);
+  led = λ p low. (listed_is_paced Zeal.Plain c p (part_of p run.order.events) (good p low) low (part_is_possible c p (history run.order.events) run.legal) (made p low) (listed p low)).led;
 }
   where
-    count : length seats ≡ o.job.config.replicas
-    count = played.count
+    c : Config
+    c = o.job.config
+
+    same : order ≡ run.order
+    same = same_some order run.order (sym given ∙ run.given)
+
+    here : (p : ℕ) → p < c.replicas → (seat : Seat) × Sits Zeal.Plain c o.job.script p (part_of p order.events) seat rounds
+    here p low = let count = played.count in let found = item_below seats p (omega (arith, low, count)) in (found.0, played.waits p found.0 found.1 (omega arith))
+
+    good : (p : ℕ) → p < c.replicas → IsConfig c
+    good p low = let lead = (here p low).1.stands.lead in subst IsConfig lead.config lead.stands.config
+
+    made : (p : ℕ) → p < c.replicas → AtEachStep (WasMade c p) (part_of p run.order.events)
+    made p low = subst (λ (x : Record). AtEachStep (WasMade c p) (part_of p x.events)) same ((here p low).1.stands.made refl)
+
+    listed : (p : ℕ) → p < c.replicas → AtEachStep (IsListed Zeal.Plain c p) (part_of p run.order.events)
+    listed p low = let sits = (here p low).1 in subst (λ (x : Record). AtEachStep (IsListed Zeal.Plain c p) (part_of p x.events)) same (subst (λ z. AtEachStep (IsListed z c p) (part_of p order.events)) sits.zeal (sits.stands.listed refl))
 
 -- in what a replay leaves
 pub leads_of : (o : Outcome) (order : Record) (seats : List Seat) (rounds : ℕ) → IsConfig o.job.config → (run : IsRun o) → o.order ≡ Some order → Played o.job.config o.job.script order.events seats rounds 0 → AreDiligent o → LeadOnUnpaused o

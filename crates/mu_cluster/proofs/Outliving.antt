@@ -16,9 +16,9 @@ use Rattle.mu_model.specs.Legal.{IsLegalHistory}
 use Rattle.mu_model.specs.Scores.{is_failed, leader, score}
 use Rattle.mu_model.proofs.Parts.{filter-append}
 use Rattle.mu_node.specs.Journal.{WasMade}
-use Rattle.mu_node.proofs.Naming.{asker_named}
+use Rattle.mu_lively.proofs.Naming.{asker_named}
 use Rattle.mu_pace.specs.Collecting.{LeaderKeeps}
-use Rattle.mu_pace.specs.Counters.{AtEachStep, AtEachMoment}
+use Rattle.mu_agree.specs.Moments.{AtEachStep, AtEachMoment}
 use Rattle.mu_pace.proofs.Counting.{steps_before}
 use Rattle.mu_alive.specs.Failing.{failing_steps}
 use Rattle.mu_alive.specs.Last.{LeadsLast, NamesItself}

@@ -26,7 +26,7 @@ use Rattle.mu_model.proofs.Basics.{same_some}
 use Rattle.mu_model.proofs.Parts.{filter-append, history-part}
 use Rattle.mu_node.specs.declared.zeal.Zeal.{Zeal}
 use Rattle.mu_node.specs.Journal.{WasMade}
-use Rattle.mu_pace.specs.Counters.{AtEachStep}
+use Rattle.mu_agree.specs.Moments.{AtEachStep}
 use Rattle.mu_outcome.specs.declared.outcome.Outcome.{Outcome}
 use Rattle.mu_outcome.specs.Completion.{Completes, HasAllCommands, IsCutShort}
 use Rattle.mu_outcome.specs.Outcomes.{IsRun, journal_of, journals_of, or_empty}

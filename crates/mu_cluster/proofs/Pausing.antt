@@ -22,7 +22,7 @@ use Rattle.mu_model.proofs.Basics.{same_some}
 use Rattle.mu_model.proofs.Parts.{filter-append, part_is_possible}
 use Rattle.mu_node.specs.Journal.{WasMade}
 use Rattle.mu_outcome.specs.Turns.{ids_after, pace}
-use Rattle.mu_pace.specs.Counters.{AtEachStep}
+use Rattle.mu_agree.specs.Moments.{AtEachStep}
 use Rattle.mu_alive.specs.Enough.{HasLargeRing}
 use Rattle.mu_alive.specs.Resuming.{LeadsAfter}
 use Rattle.mu_alive.specs.Fair.{KeepsStep}

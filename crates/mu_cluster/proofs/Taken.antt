@@ -19,10 +19,10 @@ use Rattle.mu_model.specs.Steps.{is_named}
 use Rattle.mu_model.proofs.Parts.{filter-append, part_is_possible}
 use Rattle.mu_node.specs.declared.zeal.Zeal.{Zeal}
 use Rattle.mu_node.specs.Journal.{IsListed, WasMade}
-use Rattle.mu_node.proofs.Asked.{MadePlain, asks_all_first}
-use Rattle.mu_node.proofs.HeadRaises.{raises_to_all}
+use Rattle.mu_lively.proofs.Asked.{MadePlain, asks_all_first}
+use Rattle.mu_lively.proofs.HeadRaises.{raises_to_all}
 use Rattle.mu_pace.specs.Collecting.{LeaderKeeps}
-use Rattle.mu_pace.specs.Counters.{AtEachMoment, AtEachStep}
+use Rattle.mu_agree.specs.Moments.{AtEachMoment, AtEachStep}
 use Rattle.mu_pace.proofs.Counting.{steps_before, both_moments}
 use Rattle.mu_alive.specs.Finishing.{KeepUp}
 use Rattle.mu_alive.specs.Following.{RaisesToAll}
@@ -32,9 +32,9 @@ use Rattle.mu_cluster.proofs.InStep.{StaysAhead, in_step}
 use Rattle.mu_cluster.proofs.Living.{each_near, near_one, near_self}
 use Rattle.mu_cluster.proofs.Naming.{AreUnpaused, few_steps, part_before, trusts_then}
 use Rattle.mu_detect.proofs.Leaders.{alive_leads, may_lead}
-use Rattle.mu_node.proofs.Asked.{asks_until_min}
-use Rattle.mu_node.proofs.Numbered.{numbers_in_time}
-use Rattle.mu_node.proofs.Fetching.{rows_fetched}
+use Rattle.mu_lively.proofs.Asked.{asks_until_min}
+use Rattle.mu_lively.proofs.Numbered.{numbers_in_time}
+use Rattle.mu_lively.proofs.Fetching.{rows_fetched}
 use Rattle.mu_node.proofs.Reading.{reads_in_order}
 use Rattle.mu_alive.specs.Finishing.{AsksAllFirst}
 use Rattle.mu_alive.specs.Last.{FetchesInTime}

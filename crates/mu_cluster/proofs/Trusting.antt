@@ -13,9 +13,9 @@ use Rattle.mu_model.specs.Scores.{beat_read, score}
 use Rattle.mu_model.specs.Steps.{is_beat, is_beat_read, is_beat_read_verb, is_beat_verb}
 use Rattle.mu_detect.specs.Stands.{last_count}
 use Rattle.mu_node.specs.Journal.{WasMade}
-use Rattle.mu_node.proofs.Rounding.{read_here}
-use Rattle.mu_node.proofs.Naming.{beats_part, count_read, count_unread, full_kept, has_beaten, more_beaten, reads_apart, reads_beats, reads_no_beat, score_unread}
-use Rattle.mu_pace.specs.Counters.{AtEachStep}
+use Rattle.mu_lively.proofs.Rounding.{read_here}
+use Rattle.mu_lively.proofs.Naming.{beats_part, count_read, count_unread, full_kept, has_beaten, more_beaten, reads_apart, reads_beats, reads_no_beat, score_unread}
+use Rattle.mu_agree.specs.Moments.{AtEachStep}
 use Rattle.mu_cluster.proofs.InStep.{StaysAhead}
 
 -- r, whose events are mine, has read no count of q

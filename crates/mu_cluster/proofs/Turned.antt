@@ -18,8 +18,8 @@ use Rattle.mu_model.specs.Serving.{seen_asks}
 use Rattle.mu_model.specs.Steps.{is_ask_read}
 use Rattle.mu_model.proofs.Basics.{same_number}
 use Rattle.mu_model.proofs.Parts.{filter-append}
-use Rattle.mu_grant.specs.Pace.{InCycleOrder}
-use Rattle.mu_grant.proofs.Rounds.{reads_open}
+use Rattle.mu_lively.specs.Order.{InCycleOrder}
+use Rattle.mu_lively.proofs.HostRounds.{reads_open}
 use Rattle.mu_alive.proofs.Cutting.{Located, located, met}
 use Rattle.mu_alive.proofs.TurnOwners.{closing-part}
 use Rattle.mu_cluster.specs.Rounds.{part_of}

@@ -20,8 +20,8 @@ use Rattle.mu_model.proofs.Parts.{filter-append}
 use Rattle.mu_model.proofs.Scans.{least_below_fits}
 use Rattle.mu_detect.proofs.Leaders.{alive_leads, may_lead}
 use Rattle.mu_node.specs.Journal.{WasMade}
-use Rattle.mu_node.proofs.Naming.{asker_named, reads_apart}
-use Rattle.mu_pace.specs.Counters.{AtEachStep}
+use Rattle.mu_lively.proofs.Naming.{asker_named, reads_apart}
+use Rattle.mu_agree.specs.Moments.{AtEachStep}
 use Rattle.mu_pace.proofs.Counting.{steps_before}
 use Rattle.mu_alive.proofs.Beginning.{CutAt, cut_at}
 use Rattle.mu_cluster.specs.Rounds.{part_of}

@@ -7,7 +7,7 @@ use Rattle.mu_node.specs.declared.zeal.Zeal.{Zeal}
 use Rattle.mu_node.specs.Journal.{IsListed}
 use Rattle.mu_outcome.specs.declared.outcome.Outcome.{Outcome}
 use Rattle.mu_outcome.specs.Outcomes.{journal_of}
-use Rattle.mu_pace.specs.Counters.{AtEachStep}
+use Rattle.mu_agree.specs.Moments.{AtEachStep}
 
 -- the journal of each replica is diligent, and asks again if it may
 abbrev pub AreDiligentBy : Bool → Outcome → Type 0

@@ -7,8 +7,7 @@ ghost use Rattle.mu_model.specs.Contents.{IsConfig};
 ghost use Rattle.mu_model.specs.Parts.{IsPossible};
 ghost use Rattle.mu_node.specs.Node.{StandsForNode};
 ghost use Rattle.mu_node.specs.declared.zeal.Zeal.{Zeal as SomeZeal};
-ghost use Rattle.mu_node.specs.Due.{is_eager};
-ghost use Rattle.mu_node.specs.Turns.{IsResult, TellsEnd};
+ghost use Rattle.mu_node.specs.Turns.{IsLeft, TellsEnd};
 ghost use Rattle.mu_cluster.specs.declared.rounds.Seat.{Seat};
 ghost use Rattle.mu_cluster.specs.Rounds.{PlayedBy, Plays, Sits, all_left, left_of, one_if_going, part_of};
 
@@ -52,9 +51,8 @@ impl Seat {
     pub(crate) fn into_result(self) -> NodeResult
         requires stands { (c : Config) × (r : ℕ) × (mine : List Event) × IsConfig c
             × IsPossible c r mine × StandsForNode c r mine self.node }
-        ensures is { (c : Config) → (r : ℕ) → (mine : List Event) → IsConfig c → IsPossible c r mine
-            → StandsForNode c r mine self.node
-            → IsResult (is_eager self.node.zeal) c r mine result }
+        ensures left { (c : Config) → (r : ℕ) → (mine : List Event) → IsConfig c → IsPossible c r mine
+            → StandsForNode c r mine self.node → IsLeft c r mine result }
         ensures end { (c : Config) → (script : Script) → (r : ℕ) → (mine : List Event)
             → script.stops ≡ self.node.stops.items → IsConfig c → IsPossible c r mine
             → StandsForNode c r mine self.node → TellsEnd c script r mine result.end }

@@ -101,7 +101,7 @@ handed_stays c more older newer r good grown legal =
     )
 
 -- what a replica has handed on begins what it has at a later moment
-handed_goes : (job : Job) (events : List Event) (later : Job) (after : List Event) (r : ℕ)
+pub handed_goes : (job : Job) (events : List Event) (later : Job) (after : List Event) (r : ℕ)
     → IsMoment job events → IsMoment later after → GoesOn job events later after
     → IsPrefixOf (handed_log job.config events r) (handed_log later.config after r)
 handed_goes job events later after r was is goes =
@@ -113,7 +113,7 @@ handed_goes job events later after r was is goes =
     (handed_stays job.config goes.rows events goes.steps r was.config
     (subst IsConfig goes.config_is is.config) was.legal))
 
-handed_entries : (job : Job) (events : List Event) (r : ℕ) → IsMoment job events
+pub handed_entries : (job : Job) (events : List Event) (r : ℕ) → IsMoment job events
     → AreEntries job.config (handed_log job.config events r)
 handed_entries job events r at =
     taken_entries job.config (handed_before job.config r (part r (history events)))

@@ -39,20 +39,20 @@ use Rattle.mu_engine.proofs.Going.{commands_stay, get_begun, log_goes, over_stay
 log_entries : (job : Job) (events : List Event) (r : ℕ) → IsMoment job events → AreEntries job.config (log_after job.config events r)
 log_entries job events r at i v there = (logs_agree_law job events at.config at.heads at.legal).entries r i v there
 
-longest_entries : (job : Job) (events : List Event) → IsMoment job events → AreEntries job.config (longest_after job.config events)
+pub longest_entries : (job : Job) (events : List Event) → IsMoment job events → AreEntries job.config (longest_after job.config events)
 longest_entries job events at = elim (longest_among job.config events) [
   | inl none ↦ subst (AreEntries job.config) (sym none) (λ i v there. cc)
   | inr some ↦ subst (AreEntries job.config) some.2 (log_entries job events some.0 at)
 ]
 
 -- what is handed on begins the log
-handed_begins : (job : Job) (events : List Event) (r : ℕ) → IsPrefixOf (handed_log job.config events r) (log_after job.config events r)
+pub handed_begins : (job : Job) (events : List Event) (r : ℕ) → IsPrefixOf (handed_log job.config events r) (log_after job.config events r)
 handed_begins job events r =
     let n = handed_before job.config r (part r (history events)) in
     let log = log_after job.config events r in
     (drop n log, sym (take-append-drop n log))
 
-begins_on : {A : Type 0} (xs ys zs : List A) → IsPrefixOf xs ys → IsPrefixOf ys zs → IsPrefixOf xs zs
+pub begins_on : {A : Type 0} (xs ys zs : List A) → IsPrefixOf xs ys → IsPrefixOf ys zs → IsPrefixOf xs zs
 begins_on xs ys zs first second = (first.0 ++ second.0, second.1 ∙ ap (λ l. l ++ second.0) first.1 ∙ append_assoc xs first.0 second.0)
 
 -- a reply that is told is the store's over the log, and over the longest
@@ -64,7 +64,7 @@ told_over job events r row reply at low told =
     reply_along job (log_after job.config events r) (longest_after job.config events) row reply (begins_longest job.config events r at.legal low) (told_by job events r row reply told)
 
 -- the place of a reply
-place_of : (row : ℕ) (rows : List ℕ) (told : List Reply) (reply : Reply) → beside row rows told ≡ Some reply → (k : ℕ) × (slice_get rows k ≡ Some row) × (slice_get told k ≡ Some reply)
+pub place_of : (row : ℕ) (rows : List ℕ) (told : List Reply) (reply : Reply) → beside row rows told ≡ Some reply → (k : ℕ) × (slice_get rows k ≡ Some row) × (slice_get told k ≡ Some reply)
 place_of row [] told reply at = cc
 place_of row (first ∷ rows) [] reply at = cc
 place_of row (first ∷ rows) (x ∷ told) reply at = go (first == row) refl (place_of row rows told reply) at
@@ -116,7 +116,7 @@ replies_stay_law job events later after r s row first second was is goes low the
     same_some first second (sym (over_goes job events later after row first was is goes (told_over job events r row first was low one)) ∙ told_over later after s row second is there two)
 
 -- the order goes on
-order_goes : (job : Job) (events : List Event) (later : Job) (after : List Event) → IsMoment job events → IsMoment later after → GoesOn job events later after
+pub order_goes : (job : Job) (events : List Event) (later : Job) (after : List Event) → IsMoment job events → IsMoment later after → GoesOn job events later after
     → IsPrefixOf (order_after job events) (order_after later after)
 order_goes job events later after was is goes =
     let old = longest_after job.config events in

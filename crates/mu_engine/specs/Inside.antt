@@ -14,13 +14,14 @@ live_of e = record {
   holds = map hold_of e.seats.items;
 }
 
--- the memory has the configuration, and room for the commands that may come; the events are a
--- legal list of the commands, each of which is a batch of its own; and the nodes live for them
+-- the memory has the configuration, and exactly the room for the commands that may come; the
+-- events are a legal list of the commands, each of which is a batch of its own; and the nodes live
+-- for them
 pub record IsEngine (e : engine.Inside) : Type 0 where
   pub moment : IsMoment (live_of e).job e.port.events
   pub width : e.config.width ≡ 1
   pub same : e.port.config ≡ e.config
   pub seated : AreSeated e.config e.port.events e.seats.items
-  pub space : length e.commands.items + e.room ≤ vec_capacity e.commands
+  pub space : length e.commands.items + e.room ≡ vec_capacity e.commands
   pub few : length e.commands.items + e.room ≤ 1500
-  pub limit : length e.commands.items + e.room ≤ e.port.row_limit
+  pub limit : length e.commands.items + e.room ≡ e.port.row_limit

@@ -65,6 +65,10 @@ stopped hold = record { stopped = true; rounds = hold.rounds }
 abbrev pub paused : ℕ → Hold → Hold
 paused rounds hold = record { stopped = hold.stopped; rounds = rounds }
 
+-- what holds one that is held so, whatever held it before
+abbrev pub held : Hold → Hold → Hold
+held hold before = hold
+
 -- the row of a command, which is a batch of its own
 abbrev pub row_of : Request → Row
 row_of command = record { words = spelled command 0 }

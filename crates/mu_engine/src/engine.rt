@@ -4,7 +4,7 @@ ghost use Rattle.std.specs.List.{slice_get};
 ghost use Rattle.mu_model.specs.declared.event.Event.{Event as SomeEvent};
 ghost use Rattle.mu_model.specs.Contents.{IsConfig};
 ghost use Rattle.mu_outcome.specs.LogsAfter.{AgreesNow};
-ghost use Rattle.mu_engine.specs.Live.{after_round, changed_at, first_live, paused, stopped};
+ghost use Rattle.mu_engine.specs.Live.{after_round, changed_at, first_live, held, paused, stopped};
 ghost use Rattle.mu_engine.specs.Moments.{GoesOn, IsMoment};
 ghost use Rattle.mu_engine.specs.Rounds.{IsRound};
 ghost use Rattle.mu_engine.specs.Shapes.{HasLimits, first_job as job_at_first, no_script};
@@ -117,13 +117,23 @@ impl Engine {
         play_round(&mut self.port, self.seats.as_mut_slice());
     }
 
-    /// Stops a replica for good: it takes no further turn. Takes no memory.
+    /// Stops a replica: it takes no turn until it is held otherwise. Takes no memory.
     pub fn stop(&mut self, replica: u8)
         requires { replica < length self.old.holds }
         ensures { self.new
             ≡ record self.old { holds = changed_at stopped self.old.holds replica } }
     {
         self.seats[usize::from(replica)].hold.stopped = true;
+    }
+
+    /// Holds a replica so, in place of what held it before; it takes turns again, with all that it
+    /// had, if nothing holds it then. Takes no memory.
+    pub fn hold(&mut self, replica: u8, hold: Hold)
+        requires { replica < length self.old.holds }
+        ensures { self.new
+            ≡ record self.old { holds = changed_at (held hold) self.old.holds replica } }
+    {
+        self.seats[usize::from(replica)].hold = hold;
     }
 
     /// Pauses a replica: it takes no turn in the next `rounds` rounds. An earlier pause of it is

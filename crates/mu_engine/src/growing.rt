@@ -1,5 +1,5 @@
 //! The configuration with one row more, and room for it in all replicas.
-ghost use Rattle.std.specs.Prelude.{IfOk, [], length, map, ◌∷◌, ◌≡◌, ◌≤◌};
+ghost use Rattle.std.specs.Prelude.{IfOk, [], length, map, vec_capacity, ◌+◌, ◌∷◌, ◌≡◌, ◌≤◌};
 ghost use Rattle.mu_model.specs.Contents.{IsConfig, row_count};
 ghost use Rattle.mu_model.specs.Growing.{with_more};
 ghost use Rattle.mu_model.specs.Legal.{IsLegal};
@@ -22,12 +22,21 @@ pub(crate) struct Copies {
     pub(crate) nodes: Vec<(Config, Config)>,
 }
 
+/// Room for one row more than there are, and for no others.
+fn row_room(alloc: Global, config: &Config) -> Result<Vec<Row>, NoMemory>
+    requires { row_count config.now ≤ 1500 }
+    ensures none { IfOk result (λ rows. rows.items ≡ []) }
+    ensures exact { IfOk result (λ rows. vec_capacity rows ≡ row_count config.now + 1) }
+{
+    Ok(Vec::with_capacity(alloc, config.rows.len() + 1)?)
+}
+
 /// The same configuration with one row more at the end, in memory of its own.
 fn grown(alloc: Global, config: &Config, row: Row) -> Result<Config, NoMemory>
     requires { row_count config.now ≤ 1500 }
     ensures { IfOk result (λ c. c ≡ with_more config.now (row ∷ [])) }
 {
-    let mut rows = Vec::with_capacity(alloc, config.rows.len() + 1)?;
+    let mut rows = row_room(alloc, config)?;
     rows.extend_from_slice(config.rows.as_slice())?;
     rows.push(row)?;
     Ok(Config {

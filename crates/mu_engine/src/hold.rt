@@ -5,7 +5,7 @@ ghost use Rattle.mu_engine.specs.Live.{after_round, is_free};
 /// What keeps a replica from its turns.
 #[derive(Clone, Copy, Debug, PartialEq, Eq)]
 pub struct Hold {
-    /// Whether it is stopped, for good.
+    /// Whether it is stopped.
     pub stopped: bool,
     /// In how many of the next rounds it takes no turn.
     pub rounds: u32,

@@ -96,13 +96,16 @@ fn clearing_steps(config: &Config) -> u64
     product(4 * u64::from(config.replicas) + 5, cycle(config))
 }
 
-/// Those within which the least that goes on asks anew, if it doesn't know all by then.
+/// Those in which the least that goes on asks anew three times, if it doesn't know all by then.
 fn waiting_steps(config: &Config) -> u64
     requires { IsConfig config.now }
     ensures is { result ≡ waiting_steps config.now }
     ensures small { result < 2 ^ 34 }
 {
-    2 * asking_steps(config) + 2 * calm_steps(config)
+    let replicas = u64::from(config.replicas);
+    let entries = entries(config);
+    let commits = product(limit(config), entries + 3) + 18 * replicas;
+    6 * asking_steps(config) + 2 * (commits + 24 * (entries + product(replicas, entries)))
 }
 
 /// Those after the last disturbance until it knows every command.
@@ -116,5 +119,5 @@ pub(crate) fn resuming_steps(config: &Config) -> u64
         + 2 * cycle(config)
         + 3
         + asking_steps(config)
-        + 3 * waiting_steps(config)
+        + waiting_steps(config)
 }

@@ -4,7 +4,6 @@ pub mod Full
 pub mod Growing
 pub mod Handing
 pub mod Kept
-pub mod Paces
 pub mod Putting
 pub mod Spelled
 mod Stays

@@ -6,5 +6,4 @@ pub mod Follow
 pub mod Groups
 pub mod Growing
 pub mod Kinds
-pub mod Paces
 pub mod Published

@@ -2,8 +2,6 @@
 //! makes next to get the rest.
 #![tactic(auto)]
 
-ghost use Rattle.mu_follow.specs.Paces.{HeadsRiseInTime};
-
 mod adding;
 mod catching_up;
 mod completion;
@@ -21,9 +19,3 @@ pub use groups::{Ready, group_size};
 pub use noting::count_applied;
 pub use outrunning::outrun_after;
 pub use published::Published;
-
-/// A replica that raises its head at one place of the round, if it may be raised, raises it in
-/// time.
-pub fn heads_rise_in_time()
-    ensures { HeadsRiseInTime }
-{}

@@ -1,8 +1,4 @@
 mod Events
-pub mod Onward
 mod Others
-mod Places
-mod Positions
-pub mod Rounds
-mod Turns
-mod Waiting
+pub mod Places
+pub mod Waiting

@@ -1,5 +1,6 @@
 //! What stands behind a handle.
 
+use lone_replica::Replica;
 use mu_engine::Engine;
 use mu_verdict::LineJudge;
 
@@ -9,6 +10,8 @@ pub enum Held {
     Judge(LineJudge),
     /// A live engine.
     Engine(Engine),
+    /// One replica.
+    Replica(Replica),
 }
 
 /// Written by hand, so that whoever drops what is held calls one function: a judge and an engine
@@ -18,6 +21,7 @@ impl Drop for Held {
         match self {
             Held::Judge(judge) => let_judge_go(judge),
             Held::Engine(engine) => let_engine_go(engine),
+            Held::Replica(replica) => let_replica_go(replica),
         }
     }
 }
@@ -27,3 +31,6 @@ fn let_judge_go(_judge: LineJudge) {}
 
 /// Drops an engine.
 fn let_engine_go(_engine: Engine) {}
+
+/// Drops a replica.
+fn let_replica_go(_replica: Replica) {}

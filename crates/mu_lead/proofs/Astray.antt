@@ -1,4 +1,4 @@
--- Regions that have gone astray: the first one, what was seen of it, and how often.
+-- Regions that have gone astray: the first one, and what was seen of it.
 use Rattle.std.proofs.Common.{Bool, List, None, Some, ap, arith, false, inl, inr, refl, subst, suc, sym, true, true≢false, zero, ℕ, ◌&&◌, ◌+◌, ◌<◌, ◌∙◌, ◌∷◌, ◌≡◌, ◌≤◌}
 use Rattle.std.specs.Prelude.{[], if◌then◌else◌, is_some, nat_le, nat_lt, not}
 use Rattle.std.specs.declared.option.Option.{Option}
@@ -6,13 +6,12 @@ use Rattle.std.proofs.lemmas.Bool.{and_parts, cases_eq, false_from_ne_true, leb-
 use Rattle.mu_model.specs.declared.config.Config.{Config}
 use Rattle.mu_model.specs.declared.event.Event.{Event}
 use Rattle.mu_model.specs.declared.event.Fence.{Fence}
-use Rattle.mu_model.specs.Again.{asks_again, foreign_row, is_astray, is_foreign, is_numbered, one_more, row_with}
+use Rattle.mu_model.specs.Again.{asks_again, foreign_row, is_astray, is_numbered, row_with}
 use Rattle.mu_model.specs.Histories.{count_below, newer_or, newest}
 use Rattle.mu_model.specs.Leaderships.{begins_leadership, fence_seen, is_member, proposal_number}
 use Rattle.mu_model.specs.Scores.{is_failed}
 use Rattle.mu_agree.proofs.Counting.{some_below}
 use Rattle.mu_knowledge.specs.Offers.{IsFirst}
-use Rattle.mu_lead.specs.Again.{AsksAreApart, fences_numbered}
 
 -- if there is no first number below n that passes, none is counted
 none_counts : (n : ℕ) (test : ℕ → Bool) → IsFirst test 0 n None → nat_lt 0 (count_below n test) ≡ false
@@ -42,7 +41,7 @@ first_counts n test None none = sym (none_counts n test none)
 first_counts n test (Some q) first = sym (lt-ltb 0 (count_below n test) (one_counts n q test first.1 first.2))
 
 -- a leader asks again only if some region has gone astray
-some_astray : (c : Config) (r : ℕ) (mine : List Event) → asks_again c r mine ≡ true → nat_lt 0 (count_below c.replicas (λ p. is_astray r mine p)) ≡ true
+pub some_astray : (c : Config) (r : ℕ) (mine : List Event) → asks_again c r mine ≡ true → nat_lt 0 (count_below c.replicas (λ p. is_astray r mine p)) ≡ true
 some_astray c r mine asks = (and_parts (is_numbered r mine) (nat_lt 0 (count_below c.replicas (λ p. is_astray r mine p))) asks).1
 
 -- so there is a first such region
@@ -50,7 +49,7 @@ pub never_none : (c : Config) (r : ℕ) (mine : List Event) → asks_again c r m
 never_none c r mine asks none = true≢false (sym (some_astray c r mine asks) ∙ none_counts c.replicas (λ p. is_astray r mine p) none)
 
 -- a region that has gone astray was seen open to another 16 times in a row
-long_row : (r p : ℕ) (mine : List Event) → is_astray r mine p ≡ true → 16 ≤ foreign_row r p mine
+pub long_row : (r p : ℕ) (mine : List Event) → is_astray r mine p ≡ true → 16 ≤ foreign_row r p mine
 long_row r p mine astray =
     let rest = (and_parts (not (is_member r p mine)) (not (is_failed r p mine) && nat_le 16 (foreign_row r p mine)) astray).1 in
     leb-true 16 (foreign_row r p mine) (and_parts (not (is_failed r p mine)) (nat_le 16 (foreign_row r p mine)) rest).1
@@ -79,35 +78,3 @@ never_unseen r p mine astray none =
     let long = long_row r p mine astray in
     let seen = seen_of_row r p mine (omega (arith, long)) in
     true≢false (sym (ap is_some seen.1) ∙ ap is_some none)
-
--- a row counts no more than the fences that were seen under the number
-row_few : (r p : ℕ) (mine : List Event) → foreign_row r p mine ≤ fences_numbered r p mine
-row_few r p [] = omega arith
-row_few r p (e ∷ past) = go (begins_leadership r e) (row_few r p past)
-  where
-    step : (t : Bool) → foreign_row r p past ≤ fences_numbered r p past → (if t then foreign_row r p past + 1 else foreign_row r p past) ≤ fences_numbered r p past + 1
-    step true few = omega (arith, few)
-    step false few = omega (arith, few)
-
-    risen : (t : Bool) → foreign_row r p past ≤ fences_numbered r p past → (if t then one_more (foreign_row r p past) else 0) ≤ fences_numbered r p past + 1
-    risen true few = step (nat_lt (foreign_row r p past) 16) few
-    risen false few = omega arith
-
-    more : (numbered : Bool) (o : Option Fence) → foreign_row r p past ≤ fences_numbered r p past → row_with r numbered o (foreign_row r p past) ≤ (if numbered && is_some o then fences_numbered r p past + 1 else fences_numbered r p past)
-    more true None few = few
-    more false None few = few
-    more true (Some f) few = risen (is_foreign r f) few
-    more false (Some f) few = few
-
-    go : (t : Bool) → foreign_row r p past ≤ fences_numbered r p past → (if t then 0 else row_with r (is_some (proposal_number r past)) (fence_seen r p e.by e.verb e.answer) (foreign_row r p past))
-        ≤ (if t then 0 else (if is_some (proposal_number r past) && is_some (fence_seen r p e.by e.verb e.answer) then fences_numbered r p past + 1 else fences_numbered r p past))
-    go true few = omega arith
-    go false few = more (is_some (proposal_number r past)) (fence_seen r p e.by e.verb e.answer) few
-
--- so 16 fences of one region were seen before a leader asks again
-pub asks_are_apart : AsksAreApart
-asks_are_apart c r mine asks =
-    let m = some_below c.replicas (λ p. is_astray r mine p) (ltb-true 0 (count_below c.replicas (λ p. is_astray r mine p)) (some_astray c r mine asks)) in
-    let long = long_row r m.who mine m.passes in
-    let few = row_few r m.who mine in
-    (m.who, m.below, omega (arith, long, few))

@@ -22,8 +22,8 @@ use Rattle.mu_model.proofs.Basics.{none_some, same_number, same_some}
 use Rattle.mu_agree.specs.Agreement.{end_put, fuo_under, kept_if, lesser_or, put_end}
 use Rattle.mu_agree.proofs.Landings.{greatest_since}
 use Rattle.mu_agree.proofs.Possible.{parts_shorten_law}
-use Rattle.mu_pace.proofs.Growing.{member_on}
-use Rattle.mu_pace.proofs.Reading.{fuos_rise}
+use Rattle.mu_agree.proofs.FuosRead.{fuos_rise}
+use Rattle.mu_agree.proofs.Members.{member_on}
 use Rattle.mu_lead.specs.Leading.{HasPutNone, IsClear, IsRead, is_put_at}
 use Rattle.mu_lead.proofs.Keeping.{fuo_event}
 

@@ -1,6 +1,6 @@
 -- The leader's place, tables and number are those of its journal.
 use Rattle.mu_lead.proofs.Asking.{begins_not, begins_now}
-use Rattle.mu_lead.proofs.ElectionSteps.{is_ask, verb_asks_none}
+use Rattle.mu_lead.proofs.Asks.{is_ask, verb_asks_none}
 use Rattle.mu_lead.proofs.Lates.{fence_ends}
 use Rattle.mu_lead.proofs.Says.{said_next}
 use Rattle.mu_lead.specs.Beside.{leads_at, writes_row}
@@ -59,12 +59,12 @@ least_is r x y b small own from above_x above_y least = go (nat_lt 7 (max x y) &
           | inr few ↦ omega (arith, small, own, from, at_most, few)
         ]
 
-number_is : (r b : ℕ) (mine : List Event) (o : Option ℕ) → r < 8 → number_allowed r mine b o → b ≡ number_or r mine o
+pub number_is : (r b : ℕ) (mine : List Event) (o : Option ℕ) → r < 8 → number_allowed r mine b o → b ≡ number_or r mine o
 number_is r b mine (Some first) small allowed = allowed
 number_is r b mine None small allowed = least_is r (greatest (λ e. any_min_read r e.by e.verb e.answer) (leadership r mine)) (greatest (λ e. number_put r e.by e.verb) mine) b small allowed.0 allowed.1 allowed.2 allowed.3 allowed.4
 
 -- the verb of a place names the journal's number, if it names one
-same_number_verb : (c : Config) (r b : ℕ) (mine : List Event) (values up : List ℕ) (reach : List (Option ℕ)) (written : List ℕ) (place : Place) → r < 8 → At c r b mine up reach written place → verb_at c b values up written place ≡ verb_at c (number_due r mine) values up written place
+pub same_number_verb : (c : Config) (r b : ℕ) (mine : List Event) (values up : List ℕ) (reach : List (Option ℕ)) (written : List ℕ) (place : Place) → r < 8 → At c r b mine up reach written place → verb_at c b values up written place ≡ verb_at c (number_due r mine) values up written place
 same_number_verb c r b mine values up reach written place small at = go place at
   where
     led : proposal_number r mine ≡ Some b → b ≡ number_due r mine
@@ -78,13 +78,13 @@ same_number_verb c r b mine values up reach written place small at = go place at
     go place at = refl
 
 -- only a late follower's minimum is compared with the number, and there it is the leadership's
-same_number_place : (c : Config) (r b : ℕ) (mine now : List Event) (up : List ℕ) (reach : List (Option ℕ)) (written : List ℕ) (t : Tables) (a : Answer) (place : Place) → At c r b mine up reach written place
+pub same_number_place : (c : Config) (r b : ℕ) (mine now : List Event) (up : List ℕ) (reach : List (Option ℕ)) (written : List ℕ) (t : Tables) (a : Answer) (place : Place) → At c r b mine up reach written place
     → next_place c r b now t a place ≡ next_place c r (or_zero (proposal_number r mine)) now t a place
 same_number_place c r b mine now up reach written t a (Place.LateMin p) at = ap (λ o. next_place c r (or_zero o) now t a (Place.LateMin p)) (sym at.late.level.leads.numbered)
 same_number_place c r b mine now up reach written t a place at = refl
 
 -- a replication step of r, if it is named and if it isn't
-led_place : (c : Config) (r : ℕ) (mine : List Event) (e : Event) → is_replication mine e ≡ true → is_named c r mine ≡ true → place_after c r (e ∷ mine) ≡ next_place c r (or_zero (proposal_number r mine)) (e ∷ mine) (tables_at c r (e ∷ mine)) e.answer (place_before r e (place_after c r mine))
+pub led_place : (c : Config) (r : ℕ) (mine : List Event) (e : Event) → is_replication mine e ≡ true → is_named c r mine ≡ true → place_after c r (e ∷ mine) ≡ next_place c r (or_zero (proposal_number r mine)) (e ∷ mine) (tables_at c r (e ∷ mine)) e.answer (place_before r e (place_after c r mine))
 led_place c r mine e turn named = rw (turn, named) refl
 
 pub unnamed_place : (c : Config) (r : ℕ) (mine : List Event) (e : Event) → is_replication mine e ≡ true → is_named c r mine ≡ false → place_after c r (e ∷ mine) ≡ Place.Ask 0
@@ -94,7 +94,7 @@ pub turn_tables : (c : Config) (r : ℕ) (mine : List Event) (e : Event) → is_
 turn_tables c r mine e turn = rw turn refl
 
 -- the background leaves the leader where it is
-beside_tables : (t : Tables) (verb : Verb) → writes_row verb ≡ false → t ≡ tables_beside t verb
+pub beside_tables : (t : Tables) (verb : Verb) → writes_row verb ≡ false → t ≡ tables_beside t verb
 beside_tables t (Verb.WriteRow j k x) none = absurd (true≢false none)
 beside_tables t verb none = refl
 

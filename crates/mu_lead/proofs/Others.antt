@@ -230,11 +230,11 @@ at_off c r b verb answer mine up reach written (Place.Confirm round p) leading b
 at_off c r b verb answer mine up reach written (Place.Evidence p) leading beside at = begun_beside c r verb answer mine p beside at
 at_off c r b verb answer mine up reach written place leading beside at = absurd (true≢false leading)
 
-begins_none : (leading : Bool) (r : ℕ) (verb : Verb) (answer : Answer) → is_beside leading verb ≡ true → begins_leadership r (event_by r verb answer) ≡ false
+pub begins_none : (leading : Bool) (r : ℕ) (verb : Verb) (answer : Answer) → is_beside leading verb ≡ true → begins_leadership r (event_by r verb answer) ≡ false
 begins_none leading r (Verb.Ask q) answer beside = absurd (true≢false (sym beside))
 begins_none leading r verb answer beside = refl
 
-writes_none : (leading : Bool) (verb : Verb) → leading ≡ false → is_beside leading verb ≡ true → writes_row verb ≡ false
+pub writes_none : (leading : Bool) (verb : Verb) → leading ≡ false → is_beside leading verb ≡ true → writes_row verb ≡ false
 writes_none leading (Verb.WriteRow j k x) unled beside = absurd (true≢false (sym beside ∙ unled))
 writes_none leading verb unled beside = refl
 
@@ -251,13 +251,13 @@ looks_apart : (i known : ℕ) → not (i == known) ≡ true → i ≢ known
 looks_apart i known apart same = true≢false (sym apart ∙ ap not (eq-eqb i known same))
 
 -- while the replica leads, and while it doesn't
-at_leading : (c : Config) (r b : ℕ) (verb : Verb) (answer : Answer) (mine : List Event) (up : List ℕ) (reach : List (Option ℕ)) (written : List ℕ) (place : Place) → leads_at place ≡ true → leaves_leader true (end_of c r mine) verb ≡ true → IsPossible c r (event_by r verb answer ∷ mine) → At c r b mine up reach written place → At c r b (event_by r verb answer ∷ mine) up reach written place
+pub at_leading : (c : Config) (r b : ℕ) (verb : Verb) (answer : Answer) (mine : List Event) (up : List ℕ) (reach : List (Option ℕ)) (written : List ℕ) (place : Place) → leads_at place ≡ true → leaves_leader true (end_of c r mine) verb ≡ true → IsPossible c r (event_by r verb answer ∷ mine) → At c r b mine up reach written place → At c r b (event_by r verb answer ∷ mine) up reach written place
 at_leading c r b (Verb.WriteRow j k x) answer mine up reach written place leading leaves possible at = absurd (true≢false (sym leaves))
 at_leading c r b (Verb.Fuo q) answer mine up reach written place leading leaves possible at = at_fuo c r b q answer mine up reach written place leading possible at
 at_leading c r b (Verb.Look q i) answer mine up reach written place leading leaves possible at = at_looked c r b q i answer mine up reach written place leading (looks_apart i (end_of c r mine) leaves) at
 at_leading c r b verb answer mine up reach written place leading leaves possible at = at_on c r b verb answer mine up reach written place leading leaves possible at
 
-at_resting : (c : Config) (r b known : ℕ) (verb : Verb) (answer : Answer) (mine : List Event) (up : List ℕ) (reach : List (Option ℕ)) (written : List ℕ) (place : Place) → leads_at place ≡ false → leaves_leader false known verb ≡ true → At c r b mine up reach written place → At c r b (event_by r verb answer ∷ mine) up reach written place
+pub at_resting : (c : Config) (r b known : ℕ) (verb : Verb) (answer : Answer) (mine : List Event) (up : List ℕ) (reach : List (Option ℕ)) (written : List ℕ) (place : Place) → leads_at place ≡ false → leaves_leader false known verb ≡ true → At c r b mine up reach written place → At c r b (event_by r verb answer ∷ mine) up reach written place
 at_resting c r b known (Verb.WriteRow j k x) answer mine up reach written place leading leaves at = absurd (true≢false (sym leaves))
 at_resting c r b known (Verb.Fuo q) answer mine up reach written place leading leaves at = at_off c r b (Verb.Fuo q) answer mine up reach written place leading refl at
 at_resting c r b known (Verb.Look q i) answer mine up reach written place leading leaves at = at_off c r b (Verb.Look q i) answer mine up reach written place leading refl at

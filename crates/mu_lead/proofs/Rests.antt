@@ -14,7 +14,7 @@ use Rattle.mu_agree.proofs.Possible.{parts_in_session_law}
 use Rattle.mu_lead.specs.Leading.{end_of}
 use Rattle.mu_lead.specs.Offering.{AtRest}
 use Rattle.mu_knowledge.specs.Offers.{IsNextRow}
-use Rattle.mu_pace.proofs.Pasts.{not_false}
+use Rattle.std.proofs.lemmas.Bool.{not-false}
 
 -- what is asked of the known list is asked of what the replica knows
 pub knows_is : (c : Config) (r : ℕ) (mine : List Event) (values : List ℕ) (told : Bool) → IsConfig c → IsPossible c r mine → values ≡ known c r mine
@@ -24,7 +24,7 @@ knows_is c r mine values told config possible same is =
 
 -- all is known and no region is left
 pub rests : (c : Config) (r : ℕ) (mine : List Event) → holds_all c (known c r mine) ≡ true → ((k : ℕ) → 0 ≤ k → k < c.replicas → not (is_member r k mine) ≡ false) → AtRest c r mine
-rests c r mine all none = record { all = all; members = λ p low. not_false (is_member r p mine) (none p (omega arith) low) }
+rests c r mine all none = record { all = all; members = λ p low. not-false (is_member r p mine) (none p (omega arith) low) }
 
 -- while some command isn't known there is a position for it
 pub no_end : (c : Config) (r : ℕ) (mine : List Event) → IsConfig c → IsPossible c r mine → holds_all c (known c r mine) ≡ false → row_count c + reserve c ≤ end_of c r mine → ⊥

@@ -2,7 +2,7 @@
 use Rattle.std.proofs.Common.{Bool, List, None, Some, arith, false, get_or, inl, inr, refl, suc, sym, true, true≢false, zero, ℕ, ◌+◌, ◌<◌, ◌||◌, ◌∙◌, ◌≡◌, ◌≤◌}
 use Rattle.std.specs.Prelude.{nat_lt, not}
 use Rattle.std.specs.declared.option.Option.{Option}
-use Rattle.std.proofs.lemmas.Bool.{cases_lt, ltb-true, lt-ltb}
+use Rattle.std.proofs.lemmas.Bool.{cases_lt, ltb-true, lt-ltb, not-true, not-false}
 use Rattle.mu_model.specs.declared.config.Config.{Config}
 use Rattle.mu_model.specs.declared.event.Event.{Event}
 use Rattle.mu_model.specs.Contents.{holds_all, marked, row_count}
@@ -13,7 +13,6 @@ use Rattle.mu_model.specs.Room.{last_head, reserve}
 use Rattle.mu_lead.specs.Leading.{Level, end_of}
 use Rattle.mu_lead.specs.Offering.{AtLook, AtReadHead, Roomy, leaves_room}
 use Rattle.mu_knowledge.specs.Offers.{IsFirst}
-use Rattle.mu_pace.proofs.Pasts.{not_true, not_false}
 
 -- the heads are read from the first replica on
 pub roomy_first : (c : Config) (r : ℕ) (mine : List Event) → end_of c r mine < row_count c + reserve c → holds_all c (known c r mine) ≡ false → Roomy c r mine 0 None
@@ -49,14 +48,14 @@ roomy_to c r q p mine heads candidate lows roomy none = record {
   where
     all : (k : ℕ) → q ≤ k → k < p → leaves_room c r mine (end_of c r mine) (reserve c) k ≡ true
     all k more low = higher (marked c k (known c r mine)) (end_of c r mine) (reserve c) (get_or heads k 0) (last_head r k mine) c.ring (lows k)
-        (not_false (marked c k (known c r mine) || nat_lt (end_of c r mine + reserve c) (get_or heads k 0 + c.ring)) (none k more low))
+        (not-false (marked c k (known c r mine) || nat_lt (end_of c r mine + reserve c) (get_or heads k 0 + c.ring)) (none k more low))
 
 -- the next low head is read
 pub reads_head : (c : Config) (r b q p : ℕ) (mine : List Event) (up : List ℕ) (reach : List (Option ℕ)) (heads : List ℕ) (candidate : Option ℕ) → ((k : ℕ) → get_or heads k 0 ≤ last_head r k mine) → Level c r b mine up reach → Roomy c r mine q candidate
     → IsFirst (λ k. not (marked c k (known c r mine) || nat_lt (end_of c r mine + reserve c) (get_or heads k 0 + c.ring))) q c.replicas (Some p) → AtReadHead c r b mine up reach p candidate
 reads_head c r b q p mine up reach heads candidate lows level roomy first = record {
   region = first.1;
-  unmarked = left (marked c p (known c r mine)) (nat_lt (end_of c r mine + reserve c) (get_or heads p 0 + c.ring)) (not_true (marked c p (known c r mine) || nat_lt (end_of c r mine + reserve c) (get_or heads p 0 + c.ring)) first.2);
+  unmarked = left (marked c p (known c r mine)) (nat_lt (end_of c r mine + reserve c) (get_or heads p 0 + c.ring)) (not-true (marked c p (known c r mine) || nat_lt (end_of c r mine + reserve c) (get_or heads p 0 + c.ring)) first.2);
   level = level;
   roomy = roomy_to c r q p mine heads candidate lows roomy first.3;
 }

@@ -1,5 +1,5 @@
 -- When the notes of a round of fences come.
-use Rattle.mu_lead.proofs.Confirms.{is_majority}
+use Rattle.mu_lead.proofs.Majorities.{is_majority}
 use Rattle.mu_lead.proofs.NoteKinds.{differs_by_test}
 use Rattle.mu_lead.specs.Confirming.{Confirmed}
 use Rattle.mu_lead.specs.Noting.{note_of_round}

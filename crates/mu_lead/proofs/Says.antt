@@ -1,7 +1,6 @@
 -- Each note comes exactly if its row holds.
 use Rattle.mu_agree.proofs.Possible.{parts_in_session_law}
 use Rattle.mu_lead.proofs.Commits.{commit_none, commit_says, is_adopted, is_committed}
-use Rattle.mu_lead.proofs.Listed.{due_step}
 use Rattle.mu_lead.proofs.Losses.{is_lost, losses_say}
 use Rattle.mu_lead.proofs.NoteKinds.{differs_by_test, is_higher, is_joined, is_learnt, is_no_room, put_quiet, round_quiet}
 use Rattle.mu_lead.proofs.Quiet.{Spares, spared}
@@ -35,6 +34,10 @@ use Rattle.mu_model.specs.declared.event.Verb.{Verb}
 use Rattle.mu_model.specs.Histories.{event_by}
 use Rattle.std.proofs.Common.{Bool, List, Some, ap, false, inl, inr, is_some, length, refl, subst, sym, true, ℕ, ◌+◌, ◌<◌, ◌∙◌, ◌∷◌, ◌≡◌}
 use Rattle.std.specs.Prelude.{if◌then◌else◌, nat_lt, ◌⊎◌}
+
+-- the step of the leader's place is the verb that was due
+due_step : (old : Lead) (mine : List Event) (verb : Verb) → verb_at old.config old.number (known old.config old.id mine) old.up old.written.items old.place ≡ Some verb → verb_or (verb_at old.config old.number (known old.config old.id mine) old.up old.written.items old.place) ≡ verb
+due_step old mine verb due = ap verb_or due
 
 spares_confirmed : Spares is_confirmed
 spares_confirmed = record { working = refl; learnt = λ i v. refl; joined = λ p. refl; lost = λ p f. refl; higher = λ p m. refl; room = λ q h i. refl }

@@ -22,11 +22,11 @@ use Rattle.mu_lead.specs.Listing.{Tables, after_round, member_from, next_place, 
 use Rattle.mu_knowledge.specs.Offers.{IsFirst}
 use Rattle.mu_lead.specs.Standing.{At, NumberAfter}
 use Rattle.mu_lead.proofs.Asking.{asked_all, asked_on, first_to_read, fresh_fenced}
-use Rattle.mu_lead.proofs.Confirms.{is_majority}
+use Rattle.mu_lead.proofs.Majorities.{is_majority}
 use Rattle.mu_knowledge.proofs.Firsts.{first_in_is}
 use Rattle.mu_lead.proofs.Numbering.{enters_first, joins_all, joins_next, landed_min, member_now, numbered_now, puts_now, reads_first, reads_next, told_all}
 use Rattle.mu_lead.proofs.Replies.{enters_or, puts_min_or, sees_fence, tells_min}
-use Rattle.mu_lead.proofs.RoomsFirsts.{is_first_place}
+use Rattle.mu_lead.proofs.FirstPlaces.{is_first_place}
 
 -- the regions are asked anew
 asks_anew : (c : Config) (r : ℕ) (b : ℕ) (now : List Event) (up : List ℕ) (reach : List (Option ℕ)) (written : List ℕ) → r < c.replicas → At c r b now up reach written (Place.Ask 0)

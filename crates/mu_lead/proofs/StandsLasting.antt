@@ -6,7 +6,7 @@ use Rattle.mu_lead.proofs.Bringing.{put_event}
 use Rattle.mu_lead.proofs.Keeping.{fuo_event}
 use Rattle.mu_lead.proofs.Puts.{known_more, known_same, took_all}
 use Rattle.mu_lead.proofs.Replies.{answer_is, enters_or, puts_min_or, puts_slot_or, sees_fence, tells_fuo, tells_head, tells_min}
-use Rattle.mu_lead.proofs.RoomsFirsts.{is_first_place}
+use Rattle.mu_lead.proofs.FirstPlaces.{is_first_place}
 use Rattle.mu_lead.proofs.StandsBringing.{copied_stands, entered_behind_stands, fenced_behind_stands, fuo_stands, learning_stands, look_behind_stands, lost_stands, missed_slot_stands, raised_behind_stands, widening_stands}
 use Rattle.mu_lead.proofs.StandsFirsts.{stands_last}
 use Rattle.mu_lead.proofs.StandsLate.{entered_late_stands, joined_late_stands, late_fenced_stands, late_left_stands, late_read_stands, late_told_stands, missed_min_stands}

@@ -28,10 +28,9 @@ use Rattle.mu_model.specs.Room.{reserve}
 use Rattle.mu_model.specs.declared.config.Config.{Config}
 use Rattle.mu_model.specs.declared.event.Event.{Event}
 use Rattle.std.proofs.Common.{Bool, List, None, Some, ap, arith, false, get_or, inl, refl, subst, sym, true, true≢false, ℕ, ◌&&◌, ◌*◌, ◌+◌, ◌<◌, ◌==◌, ◌||◌, ◌∙◌, ◌∷◌, ◌≡◌, ◌≢◌, ◌≤◌}
-use Rattle.std.proofs.lemmas.Bool.{and_parts, ltb-false, ltb-true}
+use Rattle.std.proofs.lemmas.Bool.{and_parts, ltb-false, ltb-true, not-true}
 use Rattle.std.specs.Prelude.{if◌then◌else◌, nat_le, nat_lt, not}
 use Rattle.std.specs.declared.option.Option.{Option}
-use Rattle.mu_pace.proofs.Pasts.{not_true}
 use Rattle.mu_lead.specs.Beside.{writes_row}
 
 -- what a leader has after its events, with these tables
@@ -92,7 +91,7 @@ pub position_stands : (c : Config) (r b : ℕ) (now : List Event) (t : Tables) �
 position_stands c r b now t x level = go (holds_all c (known c r now)) refl
   where
     stranger : holds_all c (known c r now) ≡ true → (o : Option ℕ) → IsFirst (λ k. not (is_member r k now)) 0 c.replicas o → StandsAt c r b now t (or_else o Place.LateFence Place.Rest)
-    stranger all (Some q) first = record { region = first.1; stranger = not_true _ first.2; level = level }
+    stranger all (Some q) first = record { region = first.1; stranger = not-true _ first.2; level = level }
     stranger all None none = (rests c r now all none, level)
 
     within : holds_all c (known c r now) ≡ false → (y : Bool) → nat_lt (end_of c r now) (row_count c + reserve c) ≡ y → StandsAt c r b now t (if y then heads_from c r now t.heads 0 None else Place.Rest)
@@ -108,7 +107,7 @@ pub late_stands : (c : Config) (r b p : ℕ) (now : List Event) (t : Tables) →
 late_stands c r b p now t x level = go (stranger_from c r now p) (first_in_is (λ k. not (is_member r k now)) p c.replicas)
   where
     go : (o : Option ℕ) → IsFirst (λ k. not (is_member r k now)) p c.replicas o → StandsAt c r b now t (or_else o Place.LateFence (next_position c r now t.heads))
-    go (Some q) first = record { region = first.1; stranger = not_true _ first.2; level = level }
+    go (Some q) first = record { region = first.1; stranger = not-true _ first.2; level = level }
     go None none = position_stands c r b now t x level
 
 -- a region is brought up

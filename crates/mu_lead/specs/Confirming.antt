@@ -11,7 +11,7 @@ use Rattle.mu_model.specs.Leaderships.{grant_at_joining, has_begun, is_member, i
 use Rattle.mu_model.specs.Picks.{first_value}
 use Rattle.mu_model.specs.Steps.{is_missed_at}
 use Rattle.mu_agree.specs.Possible.{entered_under}
-use Rattle.mu_pace.specs.Watches.{last_min}
+use Rattle.mu_agree.specs.Moments.{last_min}
 
 -- the greatest minimum that r read in its leadership
 abbrev pub greatest_min : ℕ → List Event → ℕ

@@ -22,7 +22,7 @@ use Rattle.mu_leadership.specs.Leadership.{StandsForLeadership}
 use Rattle.mu_leadership.specs.declared.leadership.Leadership.{Leadership}
 use Rattle.mu_lead.specs.declared.place.Then.{Then}
 use Rattle.mu_lead.specs.Confirming.{HoldsGrants, IsEnteredNow}
-use Rattle.mu_pace.specs.Watches.{last_min}
+use Rattle.mu_agree.specs.Moments.{last_min}
 
 -- the greatest number of replicas: each table of regions has as many places
 abbrev pub most_replicas : ℕ

@@ -1,12 +1,7 @@
 pub mod Again
 pub mod Ahead
 pub mod Beside
-pub mod Causes
-pub mod Confirmations
 pub mod Confirming
-pub mod Elections
-pub mod Evidence
-pub mod Gathering
 pub mod Going
 pub mod Growing
 pub mod Journal
@@ -17,12 +12,8 @@ pub mod Losses
 pub mod Notes
 pub mod Noting
 pub mod Offering
-pub mod Onward
-pub mod Raising
 pub mod Resigning
-pub mod Rooms
 pub mod Saying
 pub mod Sets
 pub mod Standing
 pub mod Stepping
-pub mod Welcomes

@@ -14,21 +14,13 @@ ghost use Rattle.mu_leadership.specs.Leadership.{StandsForLeadership};
 ghost use Rattle.mu_knowledge.specs.KnownLog.{HoldsValues};
 ghost use Rattle.mu_lead.specs.Beside.{leads_at};
 ghost use Rattle.mu_lead.specs.declared.note.Note.{Note as SomeNote};
-ghost use Rattle.mu_lead.specs.Causes.{CausesAt};
-ghost use Rattle.mu_lead.specs.Confirmations.{ConfirmsAt};
-ghost use Rattle.mu_lead.specs.Elections.{ElectsAt};
-ghost use Rattle.mu_lead.specs.Evidence.{ExplainsAt};
-ghost use Rattle.mu_lead.specs.Journal.{IsWhere, PlacesNext, WritesNext};
-ghost use Rattle.mu_lead.specs.Lasting.{Follows, HoldsFirst, KeepsBy};
-ghost use Rattle.mu_lead.specs.Raising.{RaisesAt};
-ghost use Rattle.mu_lead.specs.Resigning.{IsTold};
-ghost use Rattle.mu_lead.specs.Rooms.{HasRooms, KeepsTold, RoomsNext, gives_up};
+ghost use Rattle.mu_lead.specs.Journal.{IsWhere, PlacesNext};
+ghost use Rattle.mu_lead.specs.Resigning.{IsTold, gives_up};
 ghost use Rattle.mu_lead.specs.Standing.{HasHeeded, StandsFor, TakesNext, TellsFailed, TellsNext, verb_of};
 ghost use Rattle.mu_lead.specs.Going.{begins_at, going_after};
 ghost use Rattle.mu_lead.specs.Noting.{NotedNext};
 ghost use Rattle.mu_lead.specs.Stepping.{MakesStep, is_calm as is_calm_verb};
 ghost use Rattle.mu_lead.specs.Saying.{SaysNext, is_working as is_working_note};
-ghost use Rattle.mu_lead.specs.Welcomes.{JoinsAt};
 
 use crate::batches::knows_all;
 use crate::note::Note;
@@ -79,14 +71,6 @@ impl Lead {
         ensures stands { IfOk result (λ lead. StandsFor [] lead) }
         ensures config { IfOk result (λ lead. lead.config ≡ config.now) }
         ensures id { IfOk result (λ lead. lead.id ≡ id) }
-        ensures rests { IfOk result (λ lead. leads_at lead.place ≡ false) }
-        ensures rooms { IfOk result (λ lead. HasRooms [] lead) }
-        ensures evidence { IfOk result (HoldsFirst ExplainsAt) }
-        ensures raises { IfOk result (HoldsFirst RaisesAt) }
-        ensures confirms { IfOk result (HoldsFirst ConfirmsAt) }
-        ensures joins { IfOk result (HoldsFirst JoinsAt) }
-        ensures causes { IfOk result (HoldsFirst CausesAt) }
-        ensures elects { IfOk result (HoldsFirst ElectsAt) }
         ensures placed { IfOk result (λ lead. IsWhere lead.config lead.id [] lead) }
         ensures unnamed { IfOk result (λ lead. lead.named ≡ false) }
         ensures idle { IfOk result (λ lead. lead.under_way ≡ false) }
@@ -140,24 +124,13 @@ impl Lead {
         ensures resigned { result
             ≡ (if self.old.under_way && nat_lt leader self.old.id then SomeNote.Resigned leader
             else SomeNote.Working) }
-        ensures config { self.new.config ≡ self.old.config }
-        ensures id { self.new.id ≡ self.old.id }
         ensures due { nat_lt leader self.old.id ≡ false → (values : List ℕ)
             → verb_of self.new values ≡ verb_of self.old values }
         ensures going { self.new.under_way
             ≡ (self.old.under_way && not (nat_lt leader self.old.id)) }
-        ensures place { nat_lt leader self.old.id ≡ false → self.new.place ≡ self.old.place }
-        ensures up { self.new.up ≡ self.old.up }
         ensures told { IsTold self.old leader self.new }
-        ensures rooms { gives_up self.old leader ≡ false
-            → HasRooms mine self.old → HasRooms mine self.new }
-        ensures evidence { KeepsTold ExplainsAt mine self.old leader self.new }
         ensures rests { leads_at self.new.place
             ≡ (leads_at self.old.place && not (nat_lt leader self.old.id)) }
-        ensures raises { KeepsTold RaisesAt mine self.old leader self.new }
-        ensures confirms { KeepsTold ConfirmsAt mine self.old leader self.new }
-        ensures joins { JoinsAt self.old.config self.old.id mine self.old.place
-            → JoinsAt self.new.config self.new.id mine self.new.place }
     {
         self.named = leader == self.id;
         self.failed = failed;
@@ -316,17 +289,6 @@ impl Lead {
         requires due { verb_of self.old (known_of self.old.config self.old.id mine) ≡ Some verb }
         ensures stands { HoldsValues self.old.config known.now log.now
             → TakesNext mine self.old known.now answer self.new }
-        ensures rooms { HoldsValues self.old.config known.now log.now
-            → RoomsNext mine self.old known.now answer self.new }
-        ensures evidence { KeepsBy ExplainsAt mine self.old known.now log.now answer self.new }
-        ensures raises { KeepsBy RaisesAt mine self.old known.now log.now answer self.new }
-        ensures confirms { KeepsBy ConfirmsAt mine self.old known.now log.now answer self.new }
-        ensures joins { KeepsBy JoinsAt mine self.old known.now log.now answer self.new }
-        ensures causes { KeepsBy CausesAt mine self.old known.now log.now answer self.new }
-        ensures elects { KeepsBy ElectsAt mine self.old known.now log.now answer self.new }
-        ensures listed { HoldsValues self.old.config known.now log.now
-            → Follows mine self.old known.now answer self.new }
-        ensures writes { WritesNext mine self.old known.now answer self.new }
         ensures placed { HoldsValues self.old.config known.now log.now
             → PlacesNext mine self.old known.now answer self.new }
         ensures tells { TellsNext mine self.old known.now answer result }

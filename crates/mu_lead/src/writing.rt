@@ -1,7 +1,6 @@
 //! The rows of a batch that is offered.
 ghost use Rattle.std.specs.Prelude.{List, get_or, length, nat_lt, ℕ, ◌&&◌, ◌+◌, ◌-◌, ◌/◌, ◌<◌, ◌==◌, ◌∷◌, ◌≡◌};
 ghost use Rattle.std.specs.List.{slice_get};
-ghost use Rattle.mu_model.specs.declared.config.Config.{Config as SomeConfig};
 ghost use Rattle.mu_model.specs.declared.event.Answer.{Answer as SomeAnswer};
 ghost use Rattle.mu_model.specs.declared.event.Event.{Event as SomeEvent};
 ghost use Rattle.mu_model.specs.declared.event.Verb.{Verb as SomeVerb};
@@ -15,7 +14,6 @@ ghost use Rattle.mu_lead.specs.Ahead.{IsAhead, ahead_at, ahead_event, ahead_verb
 ghost use Rattle.mu_lead.specs.Journal.{tables_beside};
 ghost use Rattle.mu_lead.specs.Lasting.{tables_of};
 ghost use Rattle.mu_lead.specs.Listing.{write_from};
-ghost use Rattle.mu_lead.specs.Resigning.{CountsAt};
 ghost use Rattle.mu_lead.specs.Standing.{Stands, StandsFor};
 ghost use Rattle.mu_lead.specs.Stepping.{MakesStep};
 
@@ -94,9 +92,6 @@ impl Lead {
             → StandsFor (ahead_event self.old j answer ∷ mine) self.new }
         ensures tables { IsAhead self.old j
             → tables_of self.new ≡ tables_beside (tables_of self.old) (ahead_verb self.old j) }
-        ensures counts { (c : SomeConfig) → (r : ℕ) → (mine : List SomeEvent) → IsAhead self.old j
-            → CountsAt c r mine self.old.written.items self.old.place
-            → CountsAt c r mine self.new.written.items self.new.place }
         ensures config { self.new.config ≡ self.old.config }
         ensures id { self.new.id ≡ self.old.id }
         ensures place { self.new.place ≡ self.old.place }

@@ -1,3 +1,4 @@
 mod EngineTraces
 mod Outcomes
 mod Submitting
+mod Appending

@@ -58,6 +58,7 @@ ready bytes old new before after status taken (inl (done, has, none, same)) zero
     by_new : (new : Option Held) → HasNew bytes new → CanTake new
     by_new None has = absurd has
     by_new (Some (Held.Engine engine)) has = absurd has
+    by_new (Some (Held.Replica replica)) has = absurd has
     by_new (Some (Held.Judge judge)) has = subst (λ k. IsConfig k) (sym has.taken.config) has.taken.is_config
 ready bytes old new before after status taken (inr (same, why)) zero_is = absurd (by_said why.said why.ends (sym why.puts.code_is ∙ zero_is))
   where

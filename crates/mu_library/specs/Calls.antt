@@ -108,6 +108,7 @@ pub record SaysWhyNot (bytes before after : List ℕ) (status taken : ℕ) : Typ
 abbrev pub HasNew : List ℕ → Option Held → Type 0
 HasNew bytes (Some (Held.Judge judge)) = Opens bytes judge
 HasNew bytes (Some (Held.Engine engine)) = ⊥
+HasNew bytes (Some (Held.Replica replica)) = ⊥
 HasNew bytes None = ⊥
 
 -- a new judge is there and nothing is said, with status 0; or the handle is as it was, and it is
@@ -121,6 +122,7 @@ OpensJudge bytes old new before after status taken =
 abbrev pub CanTake : Option Held → Type 0
 CanTake (Some (Held.Judge judge)) = IsConfig judge.config
 CanTake (Some (Held.Engine engine)) = ⊤
+CanTake (Some (Held.Replica replica)) = ⊤
 CanTake None = ⊤
 
 -- what a judge knows after a line, of whatever it knew before, and the status that is told
@@ -139,8 +141,11 @@ pub record TakesNext (old : LineJudge) (line : List ℕ) (new : LineJudge)
 abbrev pub TakesHeld : Held → List ℕ → Held → ℕ → Type 0
 TakesHeld (Held.Judge old) line (Held.Judge new) status = TakesNext old line new status
 TakesHeld (Held.Judge old) line (Held.Engine new) status = ⊥
+TakesHeld (Held.Judge old) line (Held.Replica new) status = ⊥
 TakesHeld (Held.Engine old) line new status =
     (status ≡ code_of Status.Usage) × (new ≡ Held.Engine old)
+TakesHeld (Held.Replica old) line new status =
+    (status ≡ code_of Status.Usage) × (new ≡ Held.Replica old)
 
 -- the same of a handle, which may have nothing
 abbrev pub TakesLine : Option Held → List ℕ → Option Held → ℕ → Type 0
@@ -167,6 +172,8 @@ abbrev pub SaysOfHeld : Held → List ℕ → List ℕ → ℕ → ℕ → Type 
 SaysOfHeld (Held.Judge judge) before after status taken =
     SaysSoFar judge before after status taken
 SaysOfHeld (Held.Engine engine) before after status taken =
+    TellsNothing before after status taken
+SaysOfHeld (Held.Replica replica) before after status taken =
     TellsNothing before after status taken
 
 -- the same of a handle, which may have nothing

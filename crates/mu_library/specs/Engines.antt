@@ -31,13 +31,15 @@ use Rattle.mu_outcome.specs.declared.status.Status.{Status}
 use Rattle.mu_report.specs.declared.said.Said.{Said}
 use Rattle.mu_text.specs.Lines.{ended, words}
 
--- what a call makes of what is held: of an engine what is said here, with its status; of a judge
--- nothing, and nothing is told, with the status of a wrong use
+-- what a call makes of what is held: of an engine what is said here, with its status; of a judge or
+-- a replica nothing, and nothing is told, with the status of a wrong use
 abbrev pub OfHeld : Type 0 → (Live → Live → ℕ → Type 0) → Held → Held → ℕ → Type 0
 OfHeld Nothing Does (Held.Engine old) new status =
     (after : Live) × (new ≡ Held.Engine after) × Does old after status
 OfHeld Nothing Does (Held.Judge judge) new status =
     (new ≡ Held.Judge judge) × (status ≡ code_of Status.Usage) × Nothing
+OfHeld Nothing Does (Held.Replica replica) new status =
+    (new ≡ Held.Replica replica) × (status ≡ code_of Status.Usage) × Nothing
 
 -- the same of a handle, which may have nothing
 abbrev pub OfHandle :

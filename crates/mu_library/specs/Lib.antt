@@ -1,3 +1,4 @@
 pub mod Calls
 pub mod Engines
 pub mod Front
+pub mod Replicas

@@ -30,7 +30,7 @@ pub struct Submitted {
 
 impl Submitted {
     /// It wasn't taken.
-    fn refused(status: u8) -> Submitted
+    pub(crate) fn refused(status: u8) -> Submitted
         ensures status { result.status ≡ status }
         ensures row { result.row ≡ 0 }
     {
@@ -112,7 +112,7 @@ fn started(alloc: Global, shape: Shape) -> Result<Box<Held>, NoMemory>
 }
 
 /// The status that there was no memory, as an allocator told.
-fn wanting(_refusal: NoMemory) -> u8
+pub(crate) fn wanting(_refusal: NoMemory) -> u8
     ensures { result ≡ 6 }
 {
     Status::NoMemory.code()
@@ -139,7 +139,7 @@ fn submitted_to(held: &mut Held, client: u32, line: &[u8]) -> Submitted
 {
     match held {
         Held::Engine(engine) => submit_words(engine, client, line),
-        Held::Judge(_) => Submitted::refused(Status::Usage.code()),
+        Held::Judge(_) | Held::Replica(_) => Submitted::refused(Status::Usage.code()),
     }
 }
 
@@ -194,7 +194,7 @@ fn played_by(held: &mut Held) -> u8
             engine.round();
             Status::Done.code()
         }
-        Held::Judge(_) => Status::Usage.code(),
+        Held::Judge(_) | Held::Replica(_) => Status::Usage.code(),
     }
 }
 
@@ -218,7 +218,7 @@ fn stopped_in(held: &mut Held, replica: u32) -> u8
 {
     match held {
         Held::Engine(engine) => stop(engine, replica),
-        Held::Judge(_) => Status::Usage.code(),
+        Held::Judge(_) | Held::Replica(_) => Status::Usage.code(),
     }
 }
 
@@ -256,7 +256,7 @@ fn paused_in(held: &mut Held, replica: u32, rounds: u32) -> u8
 {
     match held {
         Held::Engine(engine) => pause(engine, replica, rounds),
-        Held::Judge(_) => Status::Usage.code(),
+        Held::Judge(_) | Held::Replica(_) => Status::Usage.code(),
     }
 }
 

@@ -74,7 +74,7 @@ fn taken_by(held: &mut Held, line: &[u8]) -> u8
 {
     match held {
         Held::Judge(judge) => judge.take(line).code(),
-        Held::Engine(_) => Status::Usage.code(),
+        Held::Engine(_) | Held::Replica(_) => Status::Usage.code(),
     }
 }
 
@@ -99,6 +99,6 @@ fn told_of(alloc: Global, held: &Held, out: &mut [u8]) -> Answered
 {
     match held {
         Held::Judge(judge) => say(alloc, judge.answer_so_far(), out),
-        Held::Engine(_) => nothing(Status::Usage.code()),
+        Held::Engine(_) | Held::Replica(_) => nothing(Status::Usage.code()),
     }
 }

@@ -34,7 +34,7 @@ fn reply_in(held: &Held, row: u32, out: &mut [u8]) -> Replied
 {
     match held {
         Held::Engine(engine) => reply_of(engine, row, out),
-        Held::Judge(_) => untold(Status::Usage.code()),
+        Held::Judge(_) | Held::Replica(_) => untold(Status::Usage.code()),
     }
 }
 
@@ -75,6 +75,6 @@ fn trace_in(alloc: Global, held: &Held, out: &mut [u8]) -> Answered
 {
     match held {
         Held::Engine(engine) => put_trace(alloc, engine, out),
-        Held::Judge(_) => nothing(Status::Usage.code()),
+        Held::Judge(_) | Held::Replica(_) => nothing(Status::Usage.code()),
     }
 }

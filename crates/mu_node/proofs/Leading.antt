@@ -1,63 +1,18 @@
--- A node leads in the background only if it was named.
-use Rattle.std.proofs.Common.{◌≡◌, ◌∙◌, ℕ, zero, suc, ◌%◌, ◌+◌, ◌<◌, ◌≤◌, ◌==◌, ◌&&◌, ◌||◌, inl, inr, Bool, true, false, None, Some, List, ◌∷◌, ap, arith, length, refl, sym}
+-- Whom the scores name while a leader leads, and events without an end.
+use Rattle.std.proofs.Common.{◌≡◌, ◌∙◌, ℕ, zero, suc, ◌+◌, ◌<◌, ◌≤◌, ◌==◌, ◌&&◌, ◌||◌, inl, inr, Bool, true, false, None, Some, List, ap, arith, length, refl, sym}
 use Rattle.std.specs.Prelude.{if◌then◌else◌, nat_lt, not}
 use Rattle.std.specs.declared.option.Option.{Option}
-use Rattle.std.proofs.lemmas.Bool.{and_parts, cases_eq, eq-eqb, eqb-false, eqb-true, lt-ltb, ne_eqb, true≢false}
+use Rattle.std.proofs.lemmas.Bool.{and_parts, cases_eq, eqb-false, eqb-true, lt-ltb, true≢false}
 use Rattle.mu_model.specs.declared.config.Config.{Config}
 use Rattle.mu_model.specs.declared.event.Event.{Event}
-use Rattle.mu_model.specs.declared.event.Verb.{Verb}
 use Rattle.mu_model.specs.declared.script.End.{End}
 use Rattle.mu_model.specs.declared.script.Script.{Script}
 use Rattle.mu_model.specs.Ends.{IsGoing, outrun, stops_at}
-use Rattle.mu_model.specs.Knowledge.{known}
 use Rattle.mu_model.specs.Scores.{is_failed, leader, least_below}
 use Rattle.mu_model.specs.Steps.{is_named}
-use Rattle.mu_model.specs.Stretches.{is_odd}
-use Rattle.mu_model.proofs.Basics.{none_some, same_number}
-use Rattle.mu_lead.specs.declared.lead.Lead.{Lead}
-use Rattle.mu_lead.specs.Standing.{verb_of}
-use Rattle.mu_node.specs.Due.{lead_due}
-use Rattle.mu_node.specs.Journal.{may_lead, may_lead_before, was_named}
+use Rattle.mu_model.proofs.Basics.{same_number}
 use Rattle.mu_node.specs.Turns.{HasNoEnd}
 use Rattle.mu_model.proofs.Scans.{least_below_fits}
-
--- an even number comes after an odd one, and an odd one after an even one
-odd_next : (n : ℕ) → is_odd n ≡ true → is_odd (suc n) ≡ false
-odd_next n odd = let one = eqb-true (n % 2) 1 odd in ne_eqb (suc n % 2) 1 (λ e. omega (arith, one, e))
-
-even_next : (n : ℕ) → is_odd n ≡ false → is_odd (suc n) ≡ true
-even_next n even = elim (cases_eq (n % 2) 1) [ inl one ↦ absurd (true≢false (sym (eq-eqb (n % 2) 1 one) ∙ even)) | inr other ↦ eq-eqb (suc n % 2) 1 (omega (arith, other)) ]
-
--- who may lead when it has planned a turn may lead after it
-pub leads_on : (c : Config) (r : ℕ) (mine : List Event) (e : Event) → may_lead c r mine ≡ true → may_lead_before c r (e ∷ mine) ≡ true
-leads_on c r mine e may = go (is_odd (length mine)) refl may
-  where
-    go : (t : Bool) → is_odd (length mine) ≡ t → (if t then is_named c r mine else was_named c r mine) ≡ true → may_lead_before c r (e ∷ mine) ≡ true
-    go true odd named = ap (λ t. t || was_named c r (e ∷ mine)) (odd_next (length mine) odd) ∙ (ap (λ t. t && is_named c r mine) odd ∙ named)
-    go false even was = ap (λ t. t || was_named c r (e ∷ mine)) (even_next (length mine) even)
-
--- so does who has something due as a leader
-pub due_leads_on : (c : Config) (r : ℕ) (mine : List Event) (lead : Lead) (verb : Verb) (e : Event) → lead_due c r mine lead ≡ Some verb → may_lead_before c r (e ∷ mine) ≡ true
-due_leads_on c r mine lead verb e due = go (is_odd (length mine)) refl
-  where
-    named : (t : Bool) → (if t then verb_of lead (known c r mine) else None) ≡ Some verb → t ≡ true
-    named true is = refl
-    named false is = absurd (none_some verb is)
-
-    go : (t : Bool) → is_odd (length mine) ≡ t → may_lead_before c r (e ∷ mine) ≡ true
-    go true odd = ap (λ t. t || was_named c r (e ∷ mine)) (odd_next (length mine) odd) ∙ (ap (λ t. t && is_named c r mine) odd ∙ named (leader c r mine == r) due)
-    go false even = ap (λ t. t || was_named c r (e ∷ mine)) (even_next (length mine) even)
-
--- before a turn of the leader
-pub odd_may : (c : Config) (r : ℕ) (mine : List Event) → is_odd (length mine) ≡ true → (t : Bool) → (t ≡ true → is_named c r mine ≡ true) → t ≡ true → may_lead c r mine ≡ true
-odd_may c r mine odd t named is = ap (λ u. if u then is_named c r mine else was_named c r mine) odd ∙ named is
-
--- before another
-pub even_may : (c : Config) (r : ℕ) (mine : List Event) → is_odd (length mine) ≡ false → may_lead_before c r mine ≡ true → was_named c r mine ≡ true
-even_may c r mine even may = sym (ap (λ u. u || was_named c r mine) even) ∙ may
-
-pub even_planned : (c : Config) (r : ℕ) (mine : List Event) → is_odd (length mine) ≡ false → may_lead_before c r mine ≡ true → may_lead c r mine ≡ true
-even_planned c r mine even may = ap (λ u. if u then is_named c r mine else was_named c r mine) even ∙ even_may c r mine even may
 
 least_low : (n : ℕ) (test : ℕ → Bool) (q : ℕ) → test q ≡ true → q < n → least_below n test ≤ q
 least_low zero test q is low = absurd (omega (arith, low))

@@ -52,12 +52,9 @@ lives c r mine node beside lead handed answers reads = record {
   handed = handed;
   answers = answers;
   reads = reads;
-  cycle = λ on. absurd (true≢false (sym on));
   made = λ on. absurd (true≢false (sym on));
   listed = λ on. absurd (true≢false (sym on));
-  leads = λ on. absurd (true≢false (sym on));
-  paces = λ on. absurd (true≢false (sym on));
-  led = λ on. absurd (true≢false (sym on));
+  placed = λ on. absurd (true≢false (sym on));
 }
 
 -- what stands in full stands as far as that

@@ -25,7 +25,7 @@ use Rattle.mu_follow.specs.Due.{ahead_due, filled_known, fuo_due, head_due, next
 use Rattle.mu_lead.specs.declared.place.Place.{Place}
 use Rattle.mu_lead.specs.Beside.{leads_at}
 use Rattle.mu_lead.specs.Standing.{verb_at, verb_of}
-use Rattle.mu_pace.specs.Counters.{AtEachStep}
+use Rattle.mu_agree.specs.Moments.{AtEachStep}
 use Rattle.mu_node.specs.declared.zeal.Zeal.{Zeal}
 use Rattle.mu_lead.specs.declared.lead.Lead.{Lead}
 use Rattle.mu_node.specs.Due.{ReadsOn, held_write_due, lead_due, write_due, or_ahead, verb_or_beat, listed_due}

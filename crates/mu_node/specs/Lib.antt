@@ -1,13 +1,14 @@
 pub mod Answering
 pub mod Answers
 pub mod Cycle
+pub mod Deciding
 pub mod Due
 pub mod Growing
 pub mod Journal
 pub mod Keeping
 pub mod Node
 pub mod Notes
-pub mod Paced
+pub mod Placed
 pub mod Plans
 pub mod Reads
 pub mod Telling

@@ -9,7 +9,6 @@ use Rattle.mu_model.specs.declared.event.Event.{Event}
 use Rattle.mu_model.specs.declared.event.Verb.{Verb}
 use Rattle.mu_model.specs.declared.script.End.{End}
 use Rattle.mu_model.specs.declared.script.Script.{Script}
-use Rattle.mu_model.specs.Diligence.{IsDiligentBy}
 use Rattle.mu_model.specs.Ends.{EndsBy}
 use Rattle.mu_model.specs.Knowledge.{applied, commits}
 use Rattle.mu_model.specs.Histories.{event_by}
@@ -73,9 +72,3 @@ pub record IsLeft (c : Config) (r : ℕ) (mine : List Event) (result : NodeResul
   pub replies :
       (commands : List Request) → AreSpelled c commands
       → result.replies ≡ replies (groups_of c commands (applied c r mine))
-
--- the same, and its events are diligent
-pub record IsResult (again : Bool) (c : Config) (r : ℕ) (mine : List Event)
-    (result : NodeResult) : Type 0 where
-  pub left : IsLeft c r mine result
-  pub diligent : IsDiligentBy again c r mine

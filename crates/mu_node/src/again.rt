@@ -1,13 +1,15 @@
 //! A replica that asks again, since a region has gone astray.
 ghost use Rattle.std.specs.Prelude.{Bool, List, false, length, true, ◌&&◌, ◌==◌, ◌∷◌, ◌≡◌};
 ghost use Rattle.mu_model.specs.declared.event.Event.{Event as SomeEvent};
+ghost use Rattle.mu_model.specs.declared.event.Verb.{Verb as SomeVerb};
 ghost use Rattle.mu_model.specs.Again.{asks_again};
 ghost use Rattle.mu_model.specs.Contents.{IsConfig};
+ghost use Rattle.mu_model.specs.Histories.{event_by};
 ghost use Rattle.mu_model.specs.Parts.{IsPossible};
 ghost use Rattle.mu_model.specs.Steps.{is_named};
 ghost use Rattle.mu_model.specs.Stretches.{is_odd};
 ghost use Rattle.mu_lead.specs.declared.place.Place.{Place};
-ghost use Rattle.mu_lead.specs.Again.{TellsAstray, first_ask};
+ghost use Rattle.mu_lead.specs.Again.{TellsAstray};
 ghost use Rattle.mu_lead.specs.Standing.{HasHeeded};
 ghost use Rattle.mu_node.specs.Due.{asks_out_of_turn, is_eager};
 ghost use Rattle.mu_node.specs.Journal.{FollowsTurn};
@@ -80,12 +82,14 @@ impl Node {
         ensures stands { (full : Bool)
             → IsGone full self.old.follow.config self.old.id mine self.old
             → (full ≡ true
-            → FollowsTurn self.old.zeal self.old.follow.config id mine (first_ask id answer))
-            → IsPossible self.old.follow.config id (first_ask id answer ∷ mine)
-            → StandsAs full self.old.follow.config id (first_ask id answer ∷ mine) self.new }
+            → FollowsTurn self.old.zeal self.old.follow.config id mine (event_by id (SomeVerb.Ask 0) answer))
+            → IsPossible self.old.follow.config id (event_by id (SomeVerb.Ask 0) answer ∷ mine)
+            → StandsAs full self.old.follow.config id
+            (event_by id (SomeVerb.Ask 0) answer ∷ mine) self.new }
         ensures zeal { self.new.zeal ≡ self.old.zeal }
         ensures stops { self.new.stops ≡ self.old.stops }
-        ensures going { IsPossible self.old.follow.config id (first_ask id answer ∷ mine)
+        ensures going { IsPossible self.old.follow.config id
+            (event_by id (SomeVerb.Ask 0) answer ∷ mine)
             → self.new.lead.under_way ≡ true }
     {
         self.note(id, Verb::Ask(0), answer);

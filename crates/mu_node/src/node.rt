@@ -3,20 +3,17 @@ ghost use Rattle.std.specs.Prelude.{Bool, IfOk, List, None, Some, [], false, len
 ghost use Rattle.mu_model.specs.declared.event.Event.{Event as SomeEvent};
 ghost use Rattle.mu_model.specs.declared.script.Script.{Script};
 ghost use Rattle.mu_model.specs.Contents.{IsConfig, row_count};
-ghost use Rattle.mu_model.specs.Diligence.{GrantsInTime, IsDiligentBy, ReadsInTime, Replays, TellsHeads};
 ghost use Rattle.mu_model.specs.Ends.{outrun};
 ghost use Rattle.mu_model.specs.Parts.{IsPossible};
 ghost use Rattle.mu_model.specs.Room.{reserve};
-ghost use Rattle.mu_node.specs.Due.{asks_out_of_turn, is_eager};
-ghost use Rattle.mu_node.specs.Journal.{IsListed};
+ghost use Rattle.mu_node.specs.Due.{asks_out_of_turn};
+ghost use Rattle.mu_node.specs.Journal.{IsListed, WasMade};
 ghost use Rattle.mu_knowledge.specs.Telling.{Tells};
 ghost use Rattle.mu_node.specs.Keeping.{Ends, HasEvents, Leaves};
 ghost use Rattle.mu_node.specs.Node.{LivesForNode, StandsAs, StandsForNode};
 ghost use Rattle.mu_node.specs.Notes.{HasMade, MovesGoing, MovesTurn, TellsTurn};
-ghost use Rattle.mu_node.specs.Turns.{IsOneStep, IsResult, IsTurn, IsTurnOn, TellsEnd, TellsHalt};
-ghost use Rattle.mu_pace.specs.Blocking.{AdvancesInTime};
-ghost use Rattle.mu_pace.specs.Counters.{AtEachStep};
-ghost use Rattle.mu_pace.specs.Cycles.{KeepsBeside};
+ghost use Rattle.mu_node.specs.Turns.{IsLeft, IsOneStep, IsTurn, IsTurnOn, TellsEnd, TellsHalt};
+ghost use Rattle.mu_agree.specs.Moments.{AtEachStep};
 
 use crate::answers::Answers;
 use crate::ending::{end_of_outrun, is_stop};
@@ -175,17 +172,9 @@ impl Node {
             (P.part port.old) (P.part port.new) self.old.lead result }
         ensures going { MovesTurn (P.config port.old) (P.number port.old) (P.part port.old)
             self.old.lead self.new.lead result }
-        ensures grants { GrantsInTime (P.config port.new) (P.number port.new) (P.part port.new) }
-        ensures beats { ReadsInTime (P.config port.new) (P.number port.new) (P.part port.new) }
-        ensures heads { TellsHeads (P.config port.new) (P.number port.new) (P.part port.new) }
-        ensures replays { Replays (P.config port.new) (P.number port.new) (P.part port.new) }
-        ensures keeps { AtEachStep (KeepsBeside (P.config port.new) (P.number port.new))
-            (P.part port.new) }
         ensures listed { AtEachStep (IsListed self.new.zeal (P.config port.new)
             (P.number port.new)) (P.part port.new) }
-        ensures diligent { IsDiligentBy (is_eager self.new.zeal) (P.config port.new)
-            (P.number port.new) (P.part port.new) }
-        ensures advances { AdvancesInTime (P.config port.new) (P.number port.new)
+        ensures was_made { AtEachStep (WasMade (P.config port.new) (P.number port.new))
             (P.part port.new) }
     {
         let id = port.id();
@@ -240,8 +229,7 @@ impl Node {
     /// What the replica leaves. Takes no memory.
     pub fn into_result(self) -> NodeResult
         requires stands { HasEvents StandsForNode self }
-        ensures is { Leaves StandsForNode self
-            (λ c r mine. IsResult (is_eager self.zeal) c r mine result) }
+        ensures left { Leaves StandsForNode self (λ c r mine. IsLeft c r mine result) }
         ensures end { Ends StandsForNode TellsEnd self result.end }
     {
         self.into_live_result()

@@ -11,7 +11,8 @@ use Rattle.mu_model.specs.Steps.{has_min, is_any_fencing, is_min, is_named, name
 use Rattle.mu_model.specs.Stretches.{IsStretch, each_step, is_replication}
 use Rattle.mu_model.proofs.Basics.{none_some}
 use Rattle.mu_model.specs.Histories.{event_by}
-use Rattle.mu_pace.specs.Counters.{AtEachMoment, AtEachStep, IsInTime}
+use Rattle.mu_pace.specs.Counters.{IsInTime}
+use Rattle.mu_agree.specs.Moments.{AtEachMoment, AtEachStep}
 use Rattle.mu_pace.specs.Keeping.{ConfirmsInTime, HasCauseBy}
 use Rattle.mu_pace.specs.Paces.{AsksHaveCause, ConfirmedBeginInTime}
 use Rattle.mu_pace.specs.Watches.{confirming, is_confirming, turns_away}

@@ -16,7 +16,7 @@ use Rattle.mu_pace.specs.Counters.{HasRoom, allowed_after, steps_left}
 use Rattle.mu_pace.specs.Watches.{confirming, explaining, is_answer_to_welcome, is_confirming, is_full_raise, is_welcoming, joining, raising, turns_away}
 use Rattle.mu_pace.proofs.Beside.{unallowed}
 use Rattle.mu_pace.proofs.Counting.{allowed_here}
-use Rattle.mu_pace.proofs.Growing.{member_on}
+use Rattle.mu_agree.proofs.Members.{member_on}
 use Rattle.mu_pace.proofs.Placed.{met_leaves, shut}
 use Rattle.mu_pace.proofs.Rooms.{kinds_of_step}
 

@@ -4,8 +4,9 @@ use Rattle.std.specs.declared.option.Option.{Option}
 use Rattle.std.specs.Prelude.{if◌then◌else◌, min, not}
 use Rattle.mu_model.specs.declared.event.Event.{Event}
 use Rattle.mu_model.specs.Stretches.{IsStretch, each_step, steps}
-use Rattle.mu_pace.specs.Counters.{AtEachMoment, AtEachStep, IsInTime, Watch, allowed_after, allowed_while, fewer, left_after, paid, steps_left}
-use Rattle.mu_pace.proofs.Pasts.{not_true}
+use Rattle.mu_pace.specs.Counters.{IsInTime, Watch, allowed_after, allowed_while, fewer, left_after, paid, steps_left}
+use Rattle.std.proofs.lemmas.Bool.{not-true}
+use Rattle.mu_agree.specs.Moments.{AtEachMoment, AtEachStep}
 
 -- what follows of two facts of each moment
 pub both_moments : (P Q R : List Event → Type 0) → ((now : List Event) → P now → Q now → R now) → (past : List Event) → AtEachMoment P past → AtEachMoment Q past → AtEachMoment R past
@@ -85,7 +86,7 @@ remains w a (e ∷ window) older h s n =
     let parts = both_of (not (w.closes (window ++ older) e)) (each_step (λ past e. not (w.closes past e)) window older) n in
     let ih = remains w a window older h.0 s parts.1 in
     let b : Leaves w (window ++ older) ih.left = record { left = ih.left; is = ih.is; few = omega arith } in
-    let g = goes_on w (window ++ older) e ih.left (not_true (w.closes (window ++ older) e) parts.0) (last_moment (IsInTime w) (window ++ older) h.0) b in
+    let g = goes_on w (window ++ older) e ih.left (not-true (w.closes (window ++ older) e) parts.0) (last_moment (IsInTime w) (window ++ older) h.0) b in
     let sum = step_sum (w.counts (window ++ older) e) (steps w.counts window older) in
     let l = ih.within in let m = g.2 in
     record { left = g.0; is = g.1; within = omega arith }

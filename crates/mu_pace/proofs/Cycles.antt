@@ -10,7 +10,8 @@ use Rattle.mu_model.specs.Bounds.{cycle}
 use Rattle.mu_model.specs.Steps.{is_ask_read, is_beat, is_beat_read, is_head_of}
 use Rattle.mu_pace.specs.Collecting.{LeaderKeepsBy}
 use Rattle.mu_model.proofs.Basics.{none_some, same_some}
-use Rattle.mu_pace.specs.Counters.{AtEachMoment, AtEachStep, IsInTime, Watch, allowed_while}
+use Rattle.mu_pace.specs.Counters.{IsInTime, Watch, allowed_while}
+use Rattle.mu_agree.specs.Moments.{AtEachMoment, AtEachStep}
 use Rattle.mu_pace.specs.Cycles.{KeepsBeside, LeadersAdvance, MachinesAreDiligent, RoundsReadInTime, RoundsTellHeads}
 use Rattle.mu_pace.specs.Keeping.{IsDiligentAtEachMomentBy}
 use Rattle.mu_pace.specs.Watches.{advancing}

@@ -10,6 +10,7 @@ use Rattle.mu_model.specs.Knowledge.{known}
 use Rattle.mu_model.specs.Leaderships.{begins_leadership, grant_at_joining, is_member, leadership, lands_min, noted_grant}
 use Rattle.mu_model.specs.Stretches.{steps}
 use Rattle.mu_agree.proofs.Counting.{count_more}
+use Rattle.mu_agree.proofs.Members.{member_on}
 use Rattle.mu_pace.specs.Counters.{paid}
 use Rattle.mu_pace.specs.Watches.{earns}
 use Rattle.mu_agree.proofs.Tame.{known_longer}
@@ -22,16 +23,6 @@ stays_less r e window h = go (begins_leadership r e) h
     go : (t : Bool) → not (if t then true else has (begins_leadership r) window) ≡ true → (t ≡ false) × (stays r window ≡ true)
     go true h = absurd (true≢false (sym h))
     go false h = (refl, h)
-
--- who joined stays a member
-kept : (t u : Bool) (old new : Option (Option ℕ)) → t ≡ false → is_some old ≡ true → is_some (if t then None else (if u then newer_or old new else old)) ≡ true
-kept true u old new h k = absurd (true≢false h)
-kept false true None new h k = absurd (true≢false (sym k))
-kept false true (Some x) new h k = refl
-kept false false old new h k = k
-
-pub member_on : (r p : ℕ) (e : Event) (past : List Event) → begins_leadership r e ≡ false → is_member r p past ≡ true → is_member r p (e ∷ past) ≡ true
-member_on r p e past b m = kept (begins_leadership r e) (lands_min r p e.by e.verb e.answer) (grant_at_joining r p past) (Some (noted_grant r p past)) b m
 
 pub member_stays : (r p : ℕ) (window older : List Event) → stays r window ≡ true → is_member r p older ≡ true → is_member r p (window ++ older) ≡ true
 member_stays r p [] older s m = m

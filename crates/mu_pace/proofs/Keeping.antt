@@ -8,7 +8,8 @@ use Rattle.mu_model.specs.Bounds.{cycle}
 use Rattle.mu_model.specs.Histories.{has, since}
 use Rattle.mu_model.specs.Steps.{is_ask_read, is_asking, is_beat, is_beat_read, is_fencing, is_head_of}
 use Rattle.mu_model.proofs.Basics.{none_some, same_some}
-use Rattle.mu_pace.specs.Counters.{AtEachMoment, AtEachStep, IsInTime, Watch}
+use Rattle.mu_pace.specs.Counters.{IsInTime, Watch}
+use Rattle.mu_agree.specs.Moments.{AtEachMoment, AtEachStep}
 use Rattle.mu_pace.specs.Keeping.{ConfirmsInTime, HasCauseBy, IsDiligentAtEachMomentBy, KeepsPaceBy}
 use Rattle.mu_pace.specs.Paces.{KeptPaceIsDiligent}
 use Rattle.mu_pace.specs.Watches.{asking_after, bringing_up, explaining, granting, joining, progressing, raising, raising_head, reading_own, replaying}

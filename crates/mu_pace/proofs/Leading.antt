@@ -15,11 +15,13 @@ use Rattle.mu_model.specs.Placing.{fuo_read_or_raised}
 use Rattle.mu_model.specs.Steps.{commits_more, is_fencing, is_lagging, is_over_after, is_raise_above, is_raise_above_verb, leads, replicates}
 use Rattle.mu_model.specs.Stretches.{each_step, is_replication, replications}
 use Rattle.mu_pace.specs.Blocking.{is_blocking, is_progress_by}
-use Rattle.mu_pace.specs.Counters.{AtEachMoment, IsInTime, paid}
+use Rattle.mu_pace.specs.Counters.{IsInTime, paid}
+use Rattle.mu_agree.specs.Moments.{AtEachMoment}
 use Rattle.mu_pace.specs.Paces.{AdvancesComeInTime, FuosAreRaisedInTime, MembersAreBroughtUp, OthersAreAskedAfter, ProgressComesInTime, WelcomedJoinInTime}
 use Rattle.mu_pace.specs.Watches.{asking_after, bringing_up, earns, falls_behind, is_answer_to_welcome, is_brought_up, is_full_raise, is_raise_to_verb, is_welcoming, joining, leaves, limit_now, progressing_by, raising}
 use Rattle.mu_pace.proofs.Counting.{allowed_here, allowed_now, shorter}
-use Rattle.mu_pace.proofs.Growing.{earned, greatest_grows, greatest_on, known_grows, member_on, member_stays, stays_less, twice_paid}
+use Rattle.mu_pace.proofs.Growing.{earned, greatest_grows, greatest_on, known_grows, member_stays, stays_less, twice_paid}
+use Rattle.mu_agree.proofs.Members.{member_on}
 use Rattle.mu_pace.proofs.Hosts.{by_failing}
 use Rattle.mu_pace.proofs.Stretched.{neither, none_leaves, unpaid}
 

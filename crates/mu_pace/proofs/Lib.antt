@@ -8,8 +8,6 @@ mod Confirming
 pub mod Replaying
 mod Keeping
 pub mod Rooms
-pub mod Reading
-mod Budgets
 pub mod Positions
 pub mod Members
 pub mod Placed

@@ -13,14 +13,6 @@ use Rattle.mu_model.specs.Parts.{IsPossible}
 use Rattle.mu_model.specs.Steps.{has_min, is_ask_read_verb, is_min, is_min_verb}
 use Rattle.mu_model.proofs.Owned.{IsOwnTest}
 
-pub not_true : (t : Bool) → not t ≡ true → t ≡ false
-not_true true h = absurd (true≢false (sym h))
-not_true false h = refl
-
-pub not_false : (t : Bool) → not t ≡ false → t ≡ true
-not_false true h = refl
-not_false false h = absurd (true≢false h)
-
 pub and_false : (t : Bool) → (t && false) ≡ false
 and_false true = refl
 and_false false = refl

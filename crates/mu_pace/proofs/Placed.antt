@@ -19,7 +19,7 @@ use Rattle.mu_pace.specs.Weights.{GoesOn, IsSized, Sizes, Stage, joined, most, w
 use Rattle.mu_pace.proofs.Asking.{asking_falls}
 use Rattle.mu_pace.proofs.Beside.{IsQuiet, beside_keeps, quiet, unallowed}
 use Rattle.mu_pace.proofs.Counting.{allowed_here, allowed_now}
-use Rattle.mu_pace.proofs.Growing.{member_on}
+use Rattle.mu_agree.proofs.Members.{member_on}
 use Rattle.mu_pace.proofs.Rooms.{kinds_of_step, steps_of_progress}
 use Rattle.mu_pace.proofs.Weights.{weights_fall}
 use Rattle.mu_model.proofs.Basics.{true_or, or_true}

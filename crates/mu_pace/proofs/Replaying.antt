@@ -15,7 +15,8 @@ use Rattle.mu_model.specs.Regions.{region_head}
 use Rattle.mu_model.specs.Steps.{is_fuo_of, is_head_of, is_head_raise, is_named, knows_more, unnamed_throughout}
 use Rattle.mu_model.specs.Stretches.{each_step, is_replication, some_step}
 use Rattle.mu_pace.specs.Paces.{HeadsAreTold, ReplayGoesOn}
-use Rattle.mu_pace.specs.Watches.{is_head_due, is_named_turn, is_replay_due, raising_head, reading_own, replaying}
+use Rattle.mu_pace.specs.Watches.{is_head_due, is_replay_due, raising_head, reading_own, replaying}
+use Rattle.mu_agree.specs.Moments.{is_named_turn}
 use Rattle.mu_pace.proofs.Counting.{allowed_now, shorter}
 use Rattle.mu_pace.proofs.Hosts.{by_failing}
 use Rattle.mu_pace.proofs.Stretched.{all_count, neither, no_step_passes, none_passes, unpaid}

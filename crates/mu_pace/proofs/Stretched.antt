@@ -10,7 +10,7 @@ use Rattle.mu_model.specs.Steps.{is_named, named_throughout, replicates}
 use Rattle.mu_model.specs.Stretches.{each_step, is_replication, some_step, steps}
 use Rattle.mu_pace.specs.Counters.{paid}
 use Rattle.mu_pace.specs.Watches.{every, leaves, nothing, turns_away}
-use Rattle.mu_pace.proofs.Pasts.{not_true}
+use Rattle.std.proofs.lemmas.Bool.{not-true}
 
 -- a stretch gives no more steps if none of its steps gives any
 pub unpaid : (window older : List Event) → paid nothing window older ≡ 0
@@ -72,4 +72,4 @@ none_turns_away c r met (e ∷ window) older n m = go (is_replication (window ++
 pub none_leaves : (c : Config) (r : ℕ) (met : List Event → Event → Bool) (window older : List Event) → stays r window ≡ true → named_throughout c r window older ≡ true → replicates met window older ≡ false
     → each_step (λ past e. not (leaves c r met past e)) window older ≡ true
 none_leaves c r met window older s n m =
-    neither (λ past e. begins_leadership r e) (turns_away c r met) window older (none_passes (begins_leadership r) window older (not_true (has (begins_leadership r) window) s)) (none_turns_away c r met window older n m)
+    neither (λ past e. begins_leadership r e) (turns_away c r met) window older (none_passes (begins_leadership r) window older (not-true (has (begins_leadership r) window) s)) (none_turns_away c r met window older n m)

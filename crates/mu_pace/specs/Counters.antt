@@ -44,16 +44,6 @@ HasRoom w weight past = (left : ℕ) → steps_left w past ≡ Some left → wei
 abbrev pub IsInTime : Watch → List Event → Type 0
 IsInTime w past = HasRoom w 1 past
 
--- a fact holds now and held after each event before
-abbrev pub AtEachMoment : (List Event → Type 0) → List Event → Type 0
-AtEachMoment P [] = P []
-AtEachMoment P (e ∷ past) = AtEachMoment P past × P (e ∷ past)
-
--- a fact held of each event and what came before it
-abbrev pub AtEachStep : (List Event → Event → Type 0) → List Event → Type 0
-AtEachStep P [] = Unit {0}
-AtEachStep P (e ∷ past) = AtEachStep P past × P past e
-
 -- how many more steps a stretch gives
 abbrev pub paid : (List Event → Event → ℕ) → List Event → List Event → ℕ
 paid pays [] older = 0

@@ -6,7 +6,8 @@ use Rattle.mu_model.specs.declared.event.Event.{Event}
 use Rattle.mu_model.specs.Diligence.{GrantsInTime, IsDiligentBy, ReadsInTime, TellsHeads}
 use Rattle.mu_pace.specs.Blocking.{AdvancesInTime}
 use Rattle.mu_pace.specs.Collecting.{KeepsRounds, LeaderKeepsBy, ReplayerKeeps}
-use Rattle.mu_pace.specs.Counters.{AtEachMoment, AtEachStep, IsInTime}
+use Rattle.mu_pace.specs.Counters.{IsInTime}
+use Rattle.mu_agree.specs.Moments.{AtEachMoment, AtEachStep}
 use Rattle.mu_pace.specs.Watches.{raising_head}
 
 -- the reads that stand at places of their own are the heartbeat pace

@@ -8,7 +8,8 @@ use Rattle.mu_model.specs.Bounds.{cycle}
 use Rattle.mu_model.specs.Diligence.{AsksAfterOthers, AsksWithCauseBy, BeginsInTime, BringsUpInTime, CommitsInTime, GrantsInTime, IsDiligentBy, JoinsInTime, LooksIntoMisses, RaisesInTime, Replays, TellsHeads}
 use Rattle.mu_model.specs.Steps.{is_head_of}
 use Rattle.mu_pace.specs.Blocking.{AdvancesInTime}
-use Rattle.mu_pace.specs.Counters.{AtEachMoment, AtEachStep, IsInTime}
+use Rattle.mu_pace.specs.Counters.{IsInTime}
+use Rattle.mu_agree.specs.Moments.{AtEachMoment, AtEachStep}
 use Rattle.mu_pace.specs.Keeping.{ConfirmsInTime, HasCauseBy, IsDiligentAtEachMomentBy}
 use Rattle.mu_pace.specs.Watches.{advancing, asking_after, bringing_up, explaining, granting, joining, progressing, raising, raising_head, reading_own, replaying}
 

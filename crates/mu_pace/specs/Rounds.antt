@@ -3,7 +3,8 @@
 use Rattle.std.specs.Prelude.{Bool, List, Some, length, true, ℕ, ◌%◌, ◌*◌, ◌+◌, ◌/◌, ◌<◌, ◌∷◌, ◌≡◌, ◌≤◌, ◌⊎◌}
 use Rattle.mu_model.specs.declared.event.Event.{Event}
 use Rattle.mu_model.specs.Histories.{has, since}
-use Rattle.mu_pace.specs.Counters.{AtEachStep, HasRoom, IsInTime, Watch}
+use Rattle.mu_pace.specs.Counters.{HasRoom, IsInTime, Watch}
+use Rattle.mu_agree.specs.Moments.{AtEachStep}
 use Rattle.mu_pace.specs.Keeping.{CameLately}
 
 -- each event at the place k of a round of n events passes

@@ -4,6 +4,7 @@ use Rattle.std.specs.Prelude.{Bool, List, false, if◌then◌else◌, is_some, l
 use Rattle.mu_model.specs.declared.config.Config.{Config}
 use Rattle.mu_model.specs.declared.event.Event.{Event}
 use Rattle.mu_model.specs.declared.event.Verb.{Verb}
+use Rattle.mu_agree.specs.Moments.{is_named_turn}
 use Rattle.mu_model.specs.Bounds.{cycle, is_copying, is_learning, members}
 use Rattle.mu_model.specs.Diligence.{completes_row, is_confirmed, is_fuo_above, is_joining_step, is_milestone}
 use Rattle.mu_model.specs.Entering.{min_read}
@@ -29,10 +30,6 @@ nothing past e = 0
 -- the event puts a number of r
 abbrev pub puts_number : ℕ → Event → Bool
 puts_number r e = is_some (number_put r e.by e.verb)
-
--- the minimum of p that r read last, else 0
-abbrev pub last_min : ℕ → ℕ → List Event → ℕ
-last_min r p past = or_zero (newest (λ e. min_read r p e.by e.verb e.answer) past)
 
 -- a replication event before which another replica is named, or that meets what is waited for
 abbrev pub turns_away : Config → ℕ → (List Event → Event → Bool) → List Event → Event → Bool
@@ -186,10 +183,6 @@ bringing_up c r p = record {
   counts = is_replication;
   pays = earns c r;
 }
-
--- r is named before the replication event
-abbrev pub is_named_turn : Config → ℕ → List Event → Event → Bool
-is_named_turn c r past e = is_replication past e && is_named c r past
 
 -- replayer pace: at each moment a read of the replica's own FUO is waited for
 abbrev pub reading_own : Config → ℕ → Watch

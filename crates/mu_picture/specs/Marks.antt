@@ -1,5 +1,5 @@
 -- Which marks a picture has.
-use Rattle.std.specs.Prelude.{ℕ, ◌≡◌, ◌<◌, ◌≤◌, ◌⊎◌, ◌+◌, ◌-◌, ◌||◌, Bool, true, false, not, if◌then◌else◌, is_some, nat_le, min, None, Some, List, [], ◌∷◌, ◌++◌, length, take}
+use Rattle.std.specs.Prelude.{ℕ, ◌≡◌, ◌<◌, ◌≤◌, ◌⊎◌, ◌+◌, ◌-◌, ◌||◌, ◌==◌, Bool, true, false, not, if◌then◌else◌, is_some, nat_le, nat_lt, min, None, Some, List, [], ◌∷◌, ◌++◌, length, take}
 use Rattle.std.specs.List.{slice_get}
 use Rattle.std.specs.declared.option.Option.{Option}
 use Rattle.mu_model.specs.declared.config.Config.{Config}
@@ -36,7 +36,8 @@ mark_of c script past e =
     made_of (length past) e (resumed_by c script past e) (deed_after c past e)
     (halt_by c script past e)
 
--- what a step does is drawn in brief: asks, grants, commits and ends of leaderships
+-- what a step does is drawn in brief: asks, grants, commits and ends of leaderships, and what
+-- changes whom a replica names: one above q in place of q that failed, or q that is alive again
 abbrev pub is_chief : Option Deed → Bool
 is_chief (Some (Deed.Ask p)) = true
 is_chief (Some (Deed.Grant w granted)) = true
@@ -48,6 +49,8 @@ is_chief (Some (Deed.Deposed p)) = true
 is_chief (Some (Deed.Outbid p)) = true
 is_chief (Some (Deed.Resign q)) = true
 is_chief (Some (Deed.Outrun p i)) = true
+is_chief (Some (Deed.Fails q named)) = nat_lt q named
+is_chief (Some (Deed.Trusts q named)) = q == named
 is_chief deed = false
 
 -- the mark is kept, in brief or not

@@ -60,6 +60,8 @@ fn is_chief(deed: Option<Deed>) -> bool
         Some(Deed::Outbid(_)) => true,
         Some(Deed::Resign(_)) => true,
         Some(Deed::Outrun(_, _)) => true,
+        Some(Deed::Fails(q, named)) => q < named,
+        Some(Deed::Trusts(q, named)) => q == named,
         _ => false,
     }
 }

@@ -38,7 +38,7 @@ pub struct Extent {
     pub first: u32,
     /// The last step.
     pub last: u32,
-    /// Whether they are drawn in brief: only asks, grants, commits and ends.
+    /// Whether they are drawn in brief: only asks, grants, commits, whom each names, and ends.
     pub brief: bool,
 }
 

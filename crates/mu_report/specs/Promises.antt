@@ -1,5 +1,5 @@
--- promise lines: what a job promises, whether its budget is enough for it, and why if nothing, as
--- lines.
+-- promise lines: what a job promises, whether its budget is shown to be enough for it, and why if
+-- nothing, as lines.
 use Rattle.std.specs.Prelude.{Bool, List, [], codes, false, nat_lt, true, ℕ, ◌+◌, ◌++◌, ◌∷◌}
 use Rattle.std.specs.Fmt.{decimal}
 use Rattle.mu_enough.specs.declared.promises.Cause.{Cause}
@@ -19,14 +19,17 @@ cause_words ring Cause.StoppedInSmallRing =
     sentence (codes ": not promised, a line stops a replica in version 1, and the ring is below #")
     (decimal ring ∷ [])
 
--- something is so by this step, and whether this budget is enough for it
+-- something is so by this step with a budget for it, and whether this one is shown to be enough;
+-- with a smaller one it may be so all the same
 abbrev pub step_words : ℕ → ℕ → Bool → List ℕ
 step_words step budget true =
-    sentence (codes " by step #, budget # is enough") (decimal step ∷ decimal budget ∷ [])
+    sentence (codes " by step #, budget # is shown to be enough")
+    (decimal step ∷ decimal budget ∷ [])
 step_words step budget false =
-    sentence (codes " by step #, budget # is too small") (decimal step ∷ decimal budget ∷ [])
+    sentence (codes " by step # with such a budget, # isn't shown to be enough")
+    (decimal step ∷ decimal budget ∷ [])
 
--- a promise: the budget is enough if the step is below the end
+-- a promise: the budget is shown to be enough if the step is below the end
 abbrev pub promise_words : ℕ → ℕ → Promise → ℕ → List ℕ
 promise_words budget ring (Promise.By step) end = step_words step budget (nat_lt step end)
 promise_words budget ring (Promise.Nothing cause) end = cause_words ring cause

@@ -1,4 +1,4 @@
-//! What a job promises, and whether its budget is enough for it, a line each.
+//! What a job promises, and whether its budget is shown to be enough for it, a line each.
 ghost use Rattle.std.specs.Prelude.{◌+◌, ◌++◌, ◌<◌, ◌≡◌, ◌≤◌, length};
 ghost use Rattle.mu_report.specs.declared.line.TheConstants.{LINE_BYTES};
 ghost use Rattle.mu_report.specs.Promises.{cause_words, promise_lines, promise_words, step_words};
@@ -20,7 +20,7 @@ pub fn print_promises<P: Printer>(out: &mut P, promises: &Promises)
     out.print_line(promise_line(b"finished", promises, promises.finished, budget));
 }
 
-/// What is so by a step, for which the budget is enough if the step is below `end`.
+/// What is so by a step, for which the budget is shown to be enough if the step is below `end`.
 fn promise_line(what: &[u8], promises: &Promises, promise: Promise, end: u64) -> Line
     requires { length what.now ≤ 20 }
     ensures bytes { result ≡ what.now
@@ -47,20 +47,20 @@ fn sentence_of(budget: u32, ring: u64, promise: Promise, end: u64) -> Sentence
     }
 }
 
-/// By which step something is so, and whether the budget is enough for it.
-fn sentence_of_step(step: u64, budget: u32, is_enough: bool) -> Sentence
-    ensures bytes { sentence_words result ≡ step_words step budget is_enough }
+/// By which step something is so with a budget for it, and whether this one is shown to be enough.
+fn sentence_of_step(step: u64, budget: u32, is_shown: bool) -> Sentence
+    ensures bytes { sentence_words result ≡ step_words step budget is_shown }
     ensures room { sentence_room result ≤ 120 }
 {
-    if is_enough {
+    if is_shown {
         Sentence::Two(
-            b" by step #, budget # is enough",
+            b" by step #, budget # is shown to be enough",
             Value::Long(step),
             Value::Wide(budget),
         )
     } else {
         Sentence::Two(
-            b" by step #, budget # is too small",
+            b" by step # with such a budget, # isn't shown to be enough",
             Value::Long(step),
             Value::Wide(budget),
         )

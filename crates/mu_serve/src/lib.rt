@@ -2,7 +2,10 @@
 //! answered before the next is read.
 #![tactic(auto)]
 
+ghost use Rattle.std.specs.Prelude.{◌≡◌};
 ghost use Rattle.mu_serve.specs.Laws.{ReportsAreLinear, TalksAreLinear};
+ghost use Rattle.mu_serve.specs.declared.closing.TheConstants.{CLOSING_ROUNDS};
+ghost use Rattle.mu_serve.specs.declared.session.TheConstants.{WAIT_ROUNDS};
 
 mod answering;
 mod closing;
@@ -17,6 +20,13 @@ pub use serving::serve;
 
 /// The most bytes of the input of a session.
 pub const SESSION_LIMIT: usize = 1_048_576;
+
+/// The limits are these numbers: of the input's bytes, and of rounds for a reply and at the end.
+pub fn limits_are_stated()
+    ensures input { SESSION_LIMIT ≡ 1048576 }
+    ensures wait { WAIT_ROUNDS ≡ 10000 }
+    ensures closing { CLOSING_ROUNDS ≡ 2000 }
+{}
 
 /// Every session is linear, from any line of it to any later one: each reply that was told is that
 /// of one store that takes the commands one by one, each client's in order and once, and a command

@@ -6,9 +6,8 @@
 #![tactic(auto)]
 
 ghost use Rattle.mu_words.specs.Growing.{FoundsStay, WordsStay};
-ghost use Rattle.mu_words.specs.Founds.{AllowedArePrepared};
 ghost use Rattle.mu_words.specs.Places.{PlacesAreInside, PlacesDiffer};
-ghost use Rattle.mu_words.specs.Stands.{FieldsAlwaysFit, FirstWords, OneListStands, StepsInTableForms, WordsAreUnique, WordsStand};
+ghost use Rattle.mu_words.specs.Stands.{FieldsAlwaysFit, FirstWords, OneListStands, StepsInTableForms, WordsAreUnique};
 ghost use Rattle.mu_words.specs.Steps.{WordSteps};
 
 mod found;
@@ -43,11 +42,6 @@ pub fn word_steps()
     ensures { WordSteps }
 {}
 
-/// The same on a list of words that stand for a list of events.
-pub fn words_stand()
-    ensures { WordsStand }
-{}
-
 /// At most one list of words stands for a list of events.
 pub fn words_are_unique()
     ensures { WordsAreUnique }
@@ -63,11 +57,6 @@ pub fn one_list_stands()
 /// events.
 pub fn steps_in_table_forms()
     ensures { StepsInTableForms }
-{}
-
-/// Each step that is allowed is one that `Found` is prepared for.
-pub fn allowed_are_prepared()
-    ensures { AllowedArePrepared }
 {}
 
 /// Words that stand for a list do so when rows are added.

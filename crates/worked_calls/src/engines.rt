@@ -76,6 +76,33 @@ fn an_engine_replies_after_its_leader_stopped(rt: HostRuntime) -> Result<(), Fai
     Ok(())
 }
 
+/// The statuses of a second stop of a replica, and of a pause of it.
+fn stopped_again(alloc: Global, handle: &mut Handle) -> (u8, u8) {
+    stop_replica(alloc, handle, 1);
+    let again = stop_replica(alloc, handle, 1);
+    (again, pause_replica(alloc, handle, 1, 9))
+}
+
+/// The status of a trace whose clients come in turns.
+fn traced_mixed(alloc: Global, handle: &mut Handle) -> u8 {
+    submit_line(alloc, handle, 1, b"get a");
+    submit_line(alloc, handle, 0, b"get a");
+    trace_so_far(alloc, handle, &mut []).status
+}
+
+#[test]
+fn an_engine_has_codes_of_its_own(rt: HostRuntime) -> Result<(), Fail> {
+    let alloc = rt.alloc();
+    let mut handle = Handle::none(alloc);
+    assert_eq!(rt; opened(alloc, &mut handle), 0);
+    assert_eq!(rt; stopped_again(alloc, &mut handle), (10, 10));
+    assert_eq!(rt; traced_mixed(alloc, &mut handle), 11);
+    assert_eq!(rt; one_more(alloc, &mut handle), 0);
+    assert_eq!(rt; one_more(alloc, &mut handle), 9);
+    let_go(alloc, &mut handle);
+    Ok(())
+}
+
 /// The statuses of a judge's calls on a handle that has none.
 fn judged_by_none(alloc: Global) -> (u8, u8) {
     let mut handle = Handle::none(alloc);

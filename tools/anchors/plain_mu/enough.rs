@@ -53,8 +53,9 @@ impl Counts {
     /// After the last disturbance.
     fn resumed(&self) -> u64 {
         let clearing = (4 * self.replicas + 5) * self.cycle;
-        let waiting = 2 * self.asking() + 2 * self.calm();
-        self.failing() + clearing + 2 * self.cycle + 3 + self.asking() + 3 * waiting
+        let commits = self.limit * (self.entries + 3) + 18 * self.replicas;
+        let waiting = 6 * self.asking() + 2 * (commits + 24 * (self.replicas + 1) * self.entries);
+        self.failing() + clearing + 2 * self.cycle + 3 + self.asking() + waiting
     }
     fn paid(&self) -> u64 {
         6 * self.replicas + 8 * (self.replicas + 1) * self.entries
@@ -185,8 +186,8 @@ fn finished(counts: &Counts, lines: &Lines, is_roomy: bool, version: u8) -> Prom
 /// Writes one line. The number is enough if it is below `end`.
 fn one(out: &mut Vec<u8>, what: &str, promise: &Promise, room: u64, budget: u64, end: u64) {
     match promise {
-        Ok(step) if *step < end => tell!(out, "{what} by step {step}, budget {budget} is enough\n"),
-        Ok(step) => tell!(out, "{what} by step {step}, budget {budget} is too small\n"),
+        Ok(step) if *step < end => tell!(out, "{what} by step {step}, budget {budget} is shown to be enough\n"),
+        Ok(step) => tell!(out, "{what} by step {step} with such a budget, {budget} isn't shown to be enough\n"),
         Err(cause) => {
             tell!(out, "{what}: not promised, {}\n", cause.replace("ROOM", &room.to_string()));
         }

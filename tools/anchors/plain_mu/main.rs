@@ -85,7 +85,12 @@ fn run(command: &str, text: &str, job: &Job, out: &mut Vec<u8>) -> u8 {
 }
 
 fn main() -> ExitCode {
-    let command = std::env::args().skip(1).collect::<Vec<_>>().join(" ");
+    let words = std::env::args().skip(1).collect::<Vec<_>>();
+    let command = match words.first() {
+        // What follows says how the turns are taken.
+        Some(first) if first == "schedule" => first.clone(),
+        _ => words.join(" "),
+    };
     let (mut text, mut out) = (String::new(), Vec::new());
     let status = match std::io::stdin().read_to_string(&mut text) {
         Ok(_) => answer(&command, &text, &mut out),

@@ -5,13 +5,12 @@ use Rattle.std.proofs.lemmas.List.{length_push}
 use Rattle.std.proofs.lemmas.Option.{slice_get_within}
 use Rattle.mu_model.specs.Histories.{history}
 use Rattle.mu_model.proofs.Parts.{part_is_possible}
-use Rattle.mu_node.specs.Due.{is_eager}
-use Rattle.mu_node.specs.Turns.{IsResult}
+use Rattle.mu_node.specs.declared.zeal.Zeal.{Zeal}
 use Rattle.mu_cluster.specs.Branches.{NodeGoesOn, HasEnd}
 use Rattle.mu_cluster.specs.Lists.{HoldsLists}
 use Rattle.mu_cluster.specs.Rounds.{part_of}
 use Rattle.mu_cluster.proofs.Branching.{mine_part}
-use Rattle.mu_cluster.proofs.Filling.{held_left}
+use Rattle.mu_cluster.proofs.Filling.{held_left, result_of}
 use Rattle.mu_cluster.proofs.leaving.left_by.Goals as goal
 
 pub into_result-requires : goal.into_result-requires
@@ -68,8 +67,8 @@ loop-node-preserved c =
           let goes = subst (λ l. NodeGoesOn k script n l node) mine left.2 in
           let ends = subst (λ l. HasEnd k script n l) mine left.3 in
           let possible = part_is_possible k n (history events) legal in
-          let is = c.into_result.ensures.is k n (part_of n events) c.requires.good possible goes.stands in
+          let is = result_of Zeal.Eager k n (part_of n events) node c.into_result.result c.requires.good possible goes.stands goes.zeal (c.into_result.ensures.left k n (part_of n events) c.requires.good possible goes.stands) in
           let told = c.into_result.ensures.end k script n (part_of n events) (sym goes.stops) c.requires.good possible goes.stands in
           subst (λ m. HoldsLists true k script events m c.add.new.self) (sym long)
-          (held_left true k script events n c.loop-node.lists c.add.new.self c.into_result.result (inv.holds events legal has) c.add.ensures goes.before ends (subst (λ z. IsResult (is_eager z) k n (part_of n events) c.into_result.result) goes.zeal is) told);
+          (held_left true k script events n c.loop-node.lists c.add.new.self c.into_result.result (inv.holds events legal has) c.add.ensures goes.before ends is told);
     }

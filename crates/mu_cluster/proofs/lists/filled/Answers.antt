@@ -7,7 +7,7 @@ use Rattle.mu_model.proofs.Parts.{part_is_possible}
 use Rattle.mu_node.specs.Due.{is_eager}
 use Rattle.mu_cluster.specs.Lists.{HoldsLists}
 use Rattle.mu_cluster.specs.Rounds.{part_of}
-use Rattle.mu_cluster.proofs.Filling.{held_next}
+use Rattle.mu_cluster.proofs.Filling.{held_next, result_of}
 use Rattle.mu_cluster.proofs.lists.filled.Goals as goal
 
 pub into_result-requires : goal.into_result-requires
@@ -39,7 +39,7 @@ loop-seat-preserved c =
     let found : slice_get all n ≡ Some seat = ap (slice_get all) (sym zero) ∙ (sym (inv.rest 0) ∙ ap (λ l. slice_get l 0) head) in
     let sits = c.requires.played.1.waits n seat found (omega arith) in
     let possible = part_is_possible k n (history events) c.requires.legal in
-    let is = c.into_result.ensures.is k n (part_of n events) c.requires.good possible sits.stands in
+    let is = result_of c.args._kind k n (part_of n events) seat.node c.into_result.result c.requires.good possible sits.stands sits.zeal (c.into_result.ensures.left k n (part_of n events) c.requires.good possible sits.stands) in
     let told = c.into_result.ensures.end k script n (part_of n events) (sym sits.stops) c.requires.good possible sits.stands in
     record {
       rest = λ r. let on : n + suc r ≡ length (c.loop-seat.yielded ++ seat ∷ []) + r = omega (arith, long) in sym (ap (λ l. slice_get l (suc r)) head) ∙ (inv.rest (suc r) ∙ ap (slice_get all) on);

@@ -3,7 +3,6 @@ use Rattle.mu_model.specs.Legal.{IsLegal}
 use Rattle.mu_outcome.specs.declared.outcome.Outcome.{Outcome}
 use Rattle.mu_outcome.proofs.Journals.{order_parts}
 use Rattle.mu_node.specs.Due.{is_eager}
-use Rattle.mu_cluster.specs.Lists.{HoldsLists}
 use Rattle.mu_cluster.specs.Paces.{AreDiligentBy}
 use Rattle.mu_cluster.specs.Rounds.{PlayedBy}
 use Rattle.mu_cluster.proofs.Filling.{diligent_of, kinds_of, printed_fit, printed_is, run_of}

@@ -6,7 +6,7 @@ use Rattle.mu_model.specs.Parts.{IsPossible}
 use Rattle.mu_lead.specs.declared.lead.Lead.{Lead}
 use Rattle.mu_lead.specs.Ahead.{ahead_event, ahead_verb}
 use Rattle.mu_lead.specs.Standing.{At, StandsFor}
-use Rattle.mu_lead.proofs.Ahead.{at_written, counts_written, row_there}
+use Rattle.mu_lead.proofs.Ahead.{at_written, row_there}
 use Rattle.mu_lead.proofs.Due.{default_is}
 use Rattle.mu_lead.proofs.Keeping.{leading_calm}
 use Rattle.mu_lead.proofs.Offers.{tables_row}
@@ -58,6 +58,3 @@ returns-clause-stands c = λ mine answer s ahead may.
 
 pub returns-clause-tables : goal.returns-clause-tables
 returns-clause-tables c = λ ahead. let l = c.args.self.now in ap (four l.up l.reach l.heads) (c.count_word.ensures ahead.lacks)
-
-pub returns-clause-counts : goal.returns-clause-counts
-returns-clause-counts c = λ k r mine ahead at. counts_written k r mine c.args.self.now c.args.j (get_or c.args.self.now.written.items c.args.j 12 + 1) c.count_word.new.written.items ahead (c.count_word.ensures ahead.lacks) at

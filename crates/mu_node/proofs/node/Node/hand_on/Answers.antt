@@ -6,8 +6,7 @@ use Rattle.mu_node.specs.Answers.{HoldsAnswers}
 use Rattle.mu_node.specs.Cycle.{place_now}
 use Rattle.mu_node.proofs.Answering.{take_whole}
 use Rattle.mu_node.proofs.Reading.{all_known}
-use Rattle.mu_node.proofs.Leading.{even_planned}
-use Rattle.mu_node.proofs.Pacing.{paces_even}
+use Rattle.mu_node.proofs.Where.{where_even}
 use Rattle.mu_node.proofs.Turning.{handed_elsewhere, handed_here}
 use Rattle.mu_node.proofs.node.Node.hand_on.Goals as goal
 
@@ -38,12 +37,9 @@ returns-then-place-saturating_add-clause-stands c full k r mine even possible at
           let now = c.apply_ready.ensures.answers k r mine commands good possible (all_known k r mine held.reads) are b.follow before in
           subst (λ l. HoldsAnswers k commands l c.apply_ready.new.answers) (sym (ap (λ n. take n (applied k r mine)) (handed_here k r mine even here) ∙ take_whole (length (applied k r mine)) (applied k r mine) (omega arith))) now;
       reads = held.reads;
-      cycle = held.cycle;
       made = held.made;
       listed = held.listed;
-      leads = λ on leads. even_planned k r mine even (held.leads on leads);
-      paces = λ on. paces_even k r mine c.args.self.now.lead even (held.paces on);
-      led = held.led;
+      placed = λ on. where_even k r mine c.args.self.now.lead even (held.placed on);
     }
 
 pub returns-else-place-saturating_add-clause-stands : goal.returns-else-place-saturating_add-clause-stands
@@ -58,10 +54,7 @@ returns-else-place-saturating_add-clause-stands c full k r mine even possible at
       handed = held.handed ∙ sym (handed_elsewhere k r mine other);
       answers = λ commands are. subst (λ n. HoldsAnswers k commands (take n (applied k r mine)) c.args.self.now.answers) (sym (handed_elsewhere k r mine other)) (held.answers commands are);
       reads = held.reads;
-      cycle = held.cycle;
       made = held.made;
       listed = held.listed;
-      leads = λ on leads. even_planned k r mine even (held.leads on leads);
-      paces = λ on. paces_even k r mine c.args.self.now.lead even (held.paces on);
-      led = held.led;
+      placed = λ on. where_even k r mine c.args.self.now.lead even (held.placed on);
     }

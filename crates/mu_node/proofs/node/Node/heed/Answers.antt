@@ -1,15 +1,15 @@
-use Rattle.std.proofs.Common.{◌≡◌, ◌∙◌, ◌==◌, ◌&&◌, ap, false, refl, sym}
+use Rattle.std.proofs.Common.{◌≡◌, ◌∙◌, ◌==◌, ◌&&◌, ap, false, refl}
 use Rattle.std.specs.Prelude.{if◌then◌else◌, nat_lt, not}
-use Rattle.std.proofs.lemmas.Bool.{and_parts}
 use Rattle.mu_model.specs.Scores.{leader}
 use Rattle.mu_follow.specs.Follow.{StandsForFollow}
 use Rattle.mu_lead.specs.declared.note.Note.{Note}
 use Rattle.mu_lead.specs.Beside.{leads_at}
 use Rattle.mu_lead.specs.Standing.{TellsFailed}
+use Rattle.mu_lead.proofs.Told.{told_still}
 use Rattle.mu_node.proofs.Leading.{rests_named}
 use Rattle.mu_node.proofs.Leads.{beside_lead, heed_due}
 use Rattle.mu_node.proofs.Moving.{to_own}
-use Rattle.mu_node.proofs.Pacing.{paces_told}
+use Rattle.mu_node.proofs.Where.{where_told}
 use Rattle.mu_node.proofs.node.Node.heed.Goals as goal
 
 pub returns-clause-stands : goal.returns-clause-stands
@@ -18,16 +18,13 @@ returns-clause-stands g c full held =
     let named = c.leader-leader.ensures node.follow.config node.id g.mine held.beside.watch in
     record {
       beside = beside_lead (StandsForFollow node.follow.config node.id g.mine) node.follow.config node.id g.mine node c.heed.new.self held.beside;
-      lead = record { config = c.heed.ensures.config ∙ held.lead.config; id = c.heed.ensures.id ∙ held.lead.id; stands = c.heed.ensures.stands };
+      lead = record { config = c.heed.ensures.told.config ∙ held.lead.config; id = c.heed.ensures.told.id ∙ held.lead.id; stands = c.heed.ensures.stands };
       handed = held.handed;
       answers = held.answers;
       reads = held.reads;
-      cycle = held.cycle;
       made = held.made;
       listed = held.listed;
-      leads = λ on leads. held.leads on (and_parts (leads_at node.lead.place) (not (nat_lt c.leader-leader.result node.lead.id)) (sym c.heed.ensures.rests ∙ leads)).0;
-      paces = λ on. paces_told node.follow.config node.id g.mine node.lead c.heed.new.self c.leader-leader.result held.beside.follow.inside named held.lead.id c.heed.ensures.told c.heed.ensures.going (held.paces on);
-      led = held.led;
+      placed = λ on. where_told node.follow.config node.id g.mine node.lead c.heed.new.self c.leader-leader.result held.beside.follow.inside named held.lead.id c.heed.ensures.told c.heed.ensures.going (held.placed on);
     }
 
 pub returns-clause-heard : goal.returns-clause-heard
@@ -80,7 +77,7 @@ returns-clause-told g c =
     let same : nat_lt c.leader-leader.result node.lead.id ≡ nat_lt (leader node.follow.config node.id g.mine) node.id = ap (λ l. nat_lt l node.lead.id) named ∙ ap (λ i. nat_lt (leader node.follow.config node.id g.mine) i) held.lead.id in
     record {
       going = c.heed.ensures.going ∙ ap (λ t. node.lead.under_way && not t) same;
-      place = λ low. c.heed.ensures.place (same ∙ low);
-      up = c.heed.ensures.up;
+      place = λ low. told_still node.lead c.heed.new.self c.leader-leader.result c.heed.ensures.told (same ∙ low);
+      up = ap (λ t. t.up) c.heed.ensures.told.tables;
       tables = c.heed.ensures.told.tables;
     }

@@ -1,7 +1,7 @@
-use Rattle.std.proofs.Common.{◌∙◌, arith, refl, sym}
-use Rattle.std.proofs.lemmas.Bool.{true≢false}
+use Rattle.std.proofs.Common.{[], ◌∙◌, arith, refl}
 use Rattle.mu_node.proofs.Answering.{first_answers}
-use Rattle.mu_node.proofs.Pacing.{paces_first}
+use Rattle.mu_lead.specs.Journal.{IsWhere}
+use Rattle.mu_node.proofs.Where.{of_node}
 use Rattle.mu_node.proofs.node.Node.new.Goals as goal
 
 pub returns-clause-stands : goal.returns-clause-stands
@@ -22,23 +22,7 @@ returns-clause-stands c = record {
   handed = c.in_ok-new-2.ensures.handed;
   answers = λ commands are. first_answers c.args.job.now.config commands c.in_ok-with_room.field-0 c.in_ok-with_room.ensures.table c.in_ok-with_room.ensures.replies (c.in_ok-with_room.ensures.left ∙ c.len.ensures);
   reads = tt;
-  cycle = λ on. tt;
   made = λ on. tt;
   listed = λ on. tt;
-  leads = λ on leads. absurd (true≢false (sym leads ∙ c.in_ok-new.ensures.rests));
-  paces = λ on. paces_first c.args.job.now.config c.args.id c.in_ok-new.field-0 c.in_ok-new.ensures.config c.in_ok-new.ensures.id (record {
-    paces = record {
-      counts = record {
-        rooms = c.in_ok-new.ensures.rooms;
-        evidence = c.in_ok-new.ensures.evidence;
-        raises = c.in_ok-new.ensures.raises;
-        confirms = c.in_ok-new.ensures.confirms;
-        joins = c.in_ok-new.ensures.joins;
-      };
-      causes = c.in_ok-new.ensures.causes;
-      elects = c.in_ok-new.ensures.elects;
-    };
-    listed = c.in_ok-new.ensures.placed;
-  });
-  led = λ on. tt;
+  placed = λ on. of_node (λ k i. IsWhere k i [] c.in_ok-new.field-0) c.args.job.now.config c.args.id c.in_ok-new.field-0 c.in_ok-new.ensures.config c.in_ok-new.ensures.id c.in_ok-new.ensures.placed;
 }

@@ -1,27 +1,25 @@
-use Rattle.std.proofs.Common.{◌≡◌, ◌∙◌, ◌∷◌, ap, subst, sym, true}
+use Rattle.std.proofs.Common.{◌≡◌, ◌∙◌, ◌∷◌, ap, subst, sym}
 use Rattle.mu_model.specs.Parts.{IsPossible}
 use Rattle.mu_model.proofs.Basics.{same_some}
 use Rattle.mu_model.specs.Histories.{event_by}
 use Rattle.mu_follow.specs.Follow.{StandsForFollow}
 use Rattle.mu_lead.specs.declared.lead.Lead.{Lead}
 use Rattle.mu_lead.specs.Ahead.{IsAhead, ahead_event, ahead_verb}
-use Rattle.mu_lead.specs.Beside.{is_beside, leads_at}
+use Rattle.mu_lead.specs.Beside.{leads_at}
 use Rattle.mu_lead.specs.Journal.{tables_beside}
+use Rattle.mu_lead.proofs.Folding.{where_ahead}
 use Rattle.mu_lead.specs.Lasting.{tables_of}
-use Rattle.mu_lead.specs.Resigning.{CountsAt}
 use Rattle.mu_lead.specs.Standing.{StandsFor}
-use Rattle.mu_node.specs.Due.{is_eager, written_row}
-use Rattle.mu_pace.specs.Collecting.{LeaderKeepsBy}
+use Rattle.mu_node.specs.Due.{written_row}
 use Rattle.mu_node.proofs.Writing.{is_written, unwritten}
 use Rattle.mu_node.specs.Node.{StandsForLead}
-use Rattle.mu_node.specs.Paced.{HasPaces}
-use Rattle.mu_pace.specs.Counters.{AtEachStep}
+use Rattle.mu_lead.specs.Journal.{IsWhere}
+use Rattle.mu_agree.specs.Moments.{AtEachStep}
 use Rattle.mu_node.specs.Cycle.{handed}
 use Rattle.mu_node.specs.Journal.{IsListed}
 use Rattle.mu_node.proofs.Answering.{answers_stay}
-use Rattle.mu_node.proofs.Leading.{leads_on}
 use Rattle.mu_node.proofs.Leads.{beside_commits_none, beside_lead, lead_ahead, lead_stays}
-use Rattle.mu_node.proofs.Pacing.{even_paces, kept_other, paces_ahead, paces_other, writes_even}
+use Rattle.mu_node.proofs.Where.{even_where, where_other, writes_even}
 use Rattle.mu_node.proofs.node.Node.note_other.Goals as goal
 
 pub returns-in-None-clause-stands : goal.returns-in-None-clause-stands
@@ -31,19 +29,15 @@ returns-in-None-clause-stands c full mine beside ahead idle follows reads possib
     let lead = c.args.self.now.lead in
     let none = unwritten c.args.verb (sym c.row_written.ensures ∙ c.in-None.is) in
     let stays = lead_stays k r mine lead c.args.verb c.args.answer none beside possible held.lead in
-    let paces : full ≡ true → HasPaces k r (event_by r c.args.verb c.args.answer ∷ mine) lead = λ on. paces_other k r mine lead c.args.verb c.args.answer c.requires.config (follows on).made.going none beside (idle on) held.lead (held.paces on) in
     record {
       beside = c.note.ensures.stands mine possible held.beside (beside_commits_none k r mine (leads_at lead.place) c.args.verb c.args.answer beside);
       lead = subst (λ l. StandsForLead k r (event_by r c.args.verb c.args.answer ∷ mine) l) (sym c.note.ensures.keeps.lead) stays;
       handed = c.note.ensures.keeps.handed ∙ held.handed;
       answers = answers_stay k r (handed k r mine) (event_by r c.args.verb c.args.answer) mine c.args.self.now.answers c.note.new.self.answers c.note.ensures.keeps.answers c.args.self.now.follow.progress.handed held.beside.follow.progress.handed held.handed held.answers;
       reads = (held.reads, reads);
-      cycle = λ on. (held.cycle on, (follows on).cycle);
       made = λ on. (held.made on, (follows on).made);
       listed = λ on. subst (λ z. AtEachStep (IsListed z k r) (event_by r c.args.verb c.args.answer ∷ mine)) (sym c.note.ensures.keeps.zeal) (held.listed on, (follows on).listed);
-      leads = λ on leads. leads_on k r mine (event_by r c.args.verb c.args.answer) (held.leads on (subst (λ l. leads_at l.place ≡ true) c.note.ensures.keeps.lead leads));
-      paces = λ on. subst (λ l. HasPaces k r (event_by r c.args.verb c.args.answer ∷ mine) l) (sym c.note.ensures.keeps.lead) (paces on);
-      led = λ on. subst (λ z. AtEachStep (LeaderKeepsBy (is_eager z) k r) (event_by r c.args.verb c.args.answer ∷ mine)) (sym c.note.ensures.keeps.zeal) (held.led on, kept_other (is_eager c.args.self.now.zeal) k r mine lead c.args.verb c.args.answer beside stays (paces on));
+      placed = λ on. subst (λ l. IsWhere k r (event_by r c.args.verb c.args.answer ∷ mine) l) (sym c.note.ensures.keeps.lead) (where_other k r mine lead c.args.verb c.args.answer none (idle on) (held.placed on));
     }
 
 pub returns-in-Some-clause-stands : goal.returns-in-Some-clause-stands
@@ -68,11 +62,6 @@ returns-in-Some-clause-stands c full mine beside ahead idle follows reads possib
     c.wrote_ahead.ensures.tables (subst (λ l. IsAhead l c.in-Some.row) (sym c.note.ensures.keeps.lead) may) ∙ (ap (λ (l : Lead). tables_beside (tables_of l) (ahead_verb l c.in-Some.row)) c.note.ensures.keeps.lead ∙ ap (tables_beside (tables_of lead)) (sym made)) in
     let place = c.wrote_ahead.ensures.place ∙ ap (λ (l : Lead). l.place) c.note.ensures.keeps.lead in
     let going = c.wrote_ahead.ensures.going ∙ ap (λ (l : Lead). l.under_way) c.note.ensures.keeps.lead in
-    let counts = subst (λ (l : Lead). CountsAt k r (event_by r verb c.args.answer ∷ mine) l.written.items l.place → CountsAt k r (event_by r verb c.args.answer ∷ mine) next.written.items next.place) c.note.ensures.keeps.lead
-    (c.wrote_ahead.ensures.counts k r (event_by r verb c.args.answer ∷ mine) (subst (λ l. IsAhead l c.in-Some.row) (sym c.note.ensures.keeps.lead) may)) in
-    let paces : full ≡ true → HasPaces k r (event_by r verb c.args.answer ∷ mine) next = λ on.
-    let even = writes_even k r mine lead verb (idle on) writes in
-    paces_ahead k r mine lead next verb c.args.answer even beside place going tables counts held.lead (even_paces k r mine lead even (held.paces on)) in
     let other = c.note.ensures.stands mine possible held.beside (beside_commits_none k r mine (leads_at lead.place) verb c.args.answer beside) in
     record {
       beside = beside_lead (StandsForFollow k r (event_by r verb c.args.answer ∷ mine)) k r (event_by r verb c.args.answer ∷ mine) c.note.new.self next other;
@@ -80,10 +69,7 @@ returns-in-Some-clause-stands c full mine beside ahead idle follows reads possib
       handed = c.note.ensures.keeps.handed ∙ held.handed;
       answers = answers_stay k r (handed k r mine) (event_by r verb c.args.answer) mine c.args.self.now.answers c.note.new.self.answers c.note.ensures.keeps.answers c.args.self.now.follow.progress.handed held.beside.follow.progress.handed held.handed held.answers;
       reads = (held.reads, reads);
-      cycle = λ on. (held.cycle on, (follows on).cycle);
       made = λ on. (held.made on, (follows on).made);
       listed = λ on. subst (λ z. AtEachStep (IsListed z k r) (event_by r verb c.args.answer ∷ mine)) (sym c.note.ensures.keeps.zeal) (held.listed on, (follows on).listed);
-      leads = λ on leads. leads_on k r mine (event_by r verb c.args.answer) (held.leads on (sym (ap leads_at place) ∙ leads));
-      paces = paces;
-      led = λ on. subst (λ z. AtEachStep (LeaderKeepsBy (is_eager z) k r) (event_by r verb c.args.answer ∷ mine)) (sym c.note.ensures.keeps.zeal) (held.led on, kept_other (is_eager c.args.self.now.zeal) k r mine next verb c.args.answer (subst (λ p. is_beside (leads_at p) verb ≡ true) (sym place) beside) stays (paces on));
+      placed = λ on. (let even = writes_even k r mine lead verb (idle on) writes in where_ahead k r mine (event_by r verb c.args.answer) lead next even place going tables (even_where k r mine lead even (held.placed on)));
     }

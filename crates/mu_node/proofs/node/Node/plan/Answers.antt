@@ -22,7 +22,7 @@ pub returns-then-is_turn_of_leader-clause-planned : goal.returns-then-is_turn_of
 returns-then-is_turn_of_leader-clause-planned g c full stands =
     let node = c.args.self.now in
     let odd = parity c.steps.result (length g.mine) c.is_turn_of_leader.result true (c.steps.ensures node.follow.config node.id g.mine c.requires.stands.beside.follow) c.is_turn_of_leader.ensures c.if-is_turn_of_leader.true in
-    odd_planned full node.follow.config node.id g.mine c.plan_led.new.self odd c.plan_led.ensures.named (c.plan_led.ensures.stands full stands)
+    odd_planned full node.follow.config node.id g.mine c.plan_led.new.self odd (c.plan_led.ensures.stands full stands)
 
 pub returns-then-is_turn_of_leader-clause-leads : goal.returns-then-is_turn_of_leader-clause-leads
 returns-then-is_turn_of_leader-clause-leads g c =

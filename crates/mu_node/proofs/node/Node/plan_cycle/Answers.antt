@@ -8,7 +8,7 @@ use Rattle.mu_node.specs.Plans.{due_of}
 use Rattle.mu_node.specs.Due.{FitsLead, held_write_due, verb_or_beat}
 use Rattle.mu_node.specs.Reads.{IsReadNext}
 use Rattle.mu_node.proofs.Reading.{background_reads, led_ahead_reads}
-use Rattle.mu_node.proofs.Rounding.{cycle_writes_none}
+use Rattle.mu_node.proofs.Cycled.{cycle_writes_none}
 use Rattle.mu_node.proofs.Writing.{ahead_is, cycle_fits}
 use Rattle.mu_node.proofs.node.Node.plan_cycle.Goals as goal
 
@@ -48,5 +48,5 @@ returns-clause-cycle g c stands =
     record {
       first = c.background-due.result;
       background = c.background-due.ensures.due k node.id g.mine c.requires.0.possible c.requires.0.short c.requires.1 held;
-      whole = c.beside.ensures.due ∙ (is ∙ (ap (λ z. or_else c.background-due.result (held_write_due z k node.id g.mine node.lead)) c.background-due.ensures.keeps.zeal ∙ ap (or_else c.background-due.result) (ahead_is node.zeal k node.id g.mine node.lead stands.lead (stands.paces refl).listed)));
+      whole = c.beside.ensures.due ∙ (is ∙ (ap (λ z. or_else c.background-due.result (held_write_due z k node.id g.mine node.lead)) c.background-due.ensures.keeps.zeal ∙ ap (or_else c.background-due.result) (ahead_is node.zeal k node.id g.mine node.lead stands.lead (stands.placed refl))));
     }

@@ -84,7 +84,7 @@ returns-in-None-clause-led g c stands =
     let new = c.heed-heeded.new.self in
     let due = due_is node.follow.config node.id g.mine new.lead c.known.result.now c.due.result c.due.ensures.exact c.heed-heeded.ensures.named (c.known.ensures node.follow.config node.id g.mine (length g.mine) c.heed-heeded.ensures.heard.beside.follow) in
     let none : lead_due node.follow.config node.id g.mine node.lead ≡ None = sym c.heed-heeded.ensures.due ∙ (sym due ∙ c.in-None.is) in
-    let leading : c.is_leading-leading.result ≡ leads_at (place_after new.follow.config new.id g.mine) = c.is_leading-leading.ensures ∙ (ap leads_at (stands.paces refl).listed.place
+    let leading : c.is_leading-leading.result ≡ leads_at (place_after new.follow.config new.id g.mine) = c.is_leading-leading.ensures ∙ (ap leads_at (stands.placed refl).place
     ∙ (sym (ap (λ i. leads_at (place_after node.follow.config i g.mine)) c.heed-heeded.ensures.keeps.id) ∙ sym (ap (λ (f : Follow). leads_at (place_after f.config new.id g.mine)) c.heed-heeded.ensures.follow))) in
     c.beside.ensures.due
     ∙ (c.idle.ensures.exact leading
@@ -98,7 +98,7 @@ returns-in-None-clause-idles g c stands off =
     let node = c.args.self.now in
     let new = c.heed-heeded.new.self in
     let due = due_is node.follow.config node.id g.mine new.lead c.known.result.now c.due.result c.due.ensures.exact c.heed-heeded.ensures.named (c.known.ensures node.follow.config node.id g.mine (length g.mine) c.heed-heeded.ensures.heard.beside.follow) in
-    let leading : c.is_leading-leading.result ≡ leads_at (place_after new.follow.config new.id g.mine) = c.is_leading-leading.ensures ∙ (ap leads_at (stands.paces refl).listed.place
+    let leading : c.is_leading-leading.result ≡ leads_at (place_after new.follow.config new.id g.mine) = c.is_leading-leading.ensures ∙ (ap leads_at (stands.placed refl).place
     ∙ (sym (ap (λ i. leads_at (place_after node.follow.config i g.mine)) c.heed-heeded.ensures.keeps.id) ∙ sym (ap (λ (f : Follow). leads_at (place_after f.config new.id g.mine)) c.heed-heeded.ensures.follow))) in
     subst (λ d. IsIdle node.follow.config node.id g.mine new.lead (verb_or_beat d)) (sym c.beside.ensures.due)
     (idle_is_idle new.zeal node.follow.config node.id g.mine new.lead c.idle.result

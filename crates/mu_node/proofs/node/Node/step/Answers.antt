@@ -27,12 +27,9 @@ use Rattle.mu_lead.specs.Beside.{leads_at}
 use Rattle.mu_node.specs.declared.node.Node.{Node}
 use Rattle.mu_node.specs.Plans.{due_of}
 use Rattle.mu_follow.specs.CatchingUp.{or_else}
-use Rattle.mu_lead.specs.Journal.{due_after, tables_at}
-use Rattle.mu_lead.specs.Listing.{Tables}
-use Rattle.mu_node.specs.Paced.{PacesAt}
-use Rattle.mu_node.proofs.Leading.{even_may}
-use Rattle.mu_node.proofs.Pacing.{due_listed}
-use Rattle.mu_node.proofs.Turning.{IsTurnDue, going_moves, made_follows, note_told, replays}
+use Rattle.mu_lead.specs.Journal.{due_after}
+use Rattle.mu_node.proofs.Where.{due_listed}
+use Rattle.mu_node.proofs.Turning.{IsTurnDue, going_moves, note_told}
 use Rattle.mu_node.proofs.node.Node.step.Goals as goal
 
 pub asks_out_of_turn-requires : goal.asks_out_of_turn-requires
@@ -157,7 +154,7 @@ returns-then-asks_out_of_turn-clause-going g c was =
     own id c.requires.1.0 refl c.ask-answer.ensures.part c.ask-answer.ensures.possible in
     let goes = to_own {mine = g.mine} (λ x i l. IsPossible x i (event_by i (Verb.Ask 0) answer ∷ l) → next.under_way ≡ true) (sym config) (sym same) refl c.took_again.ensures.going in
     to_port (λ x i l. MovesGoing x i l node.lead next c.leave_leadership-note.result) own id c.requires.1.0
-    (moves_asked node.follow.config node.id g.mine node.lead next c.leave_leadership-note.result odd asks.1.0 (stands.paces refl).listed (goes possible) c.leave_leadership-note.ensures.told)
+    (moves_asked node.follow.config node.id g.mine node.lead next c.leave_leadership-note.result odd asks.1.0 (stands.placed refl) (goes possible) c.leave_leadership-note.ensures.told)
 
 pub plan-plan-requires : goal.plan-plan-requires
 plan-plan-requires g c =
@@ -200,7 +197,7 @@ took-requires g c =
 -- in a turn of the leader it is what the journal has due
 turn_listed : (c : Config) (r : ℕ) (mine : List Event) (old : Node) (due : Option Verb) → StandsForNode c r mine old → IsTurnDue old.zeal c r mine old.lead due → (is_odd (length mine) ≡ true → asks_out_of_turn old.zeal c r mine ≡ false) → is_odd (length mine) ≡ true → due ≡ turn_due old.zeal c r mine
 turn_listed c r mine old due stands led calm odd =
-    led odd ∙ ap (λ o. or_else o (idle_due old.zeal c r mine)) (due_listed c r mine old.lead stands.lead (stands.paces refl).listed)
+    led odd ∙ ap (λ o. or_else o (idle_due old.zeal c r mine)) (due_listed c r mine old.lead stands.lead (stands.placed refl))
     ∙ sym (ap (λ t. if t then Some (Verb.Ask 0) else or_else (due_after c r mine) (idle_due old.zeal c r mine)) (calm odd))
 
 -- what is due follows the turn
@@ -208,17 +205,14 @@ follows_of : (c : Config) (r : ℕ) (mine : List Event) (old planned : Node) (du
     → IsTurnDue old.zeal c r mine old.lead due → (is_odd (length mine) ≡ false → IsCycleDue old.zeal c r mine (leads_at old.lead.place) due)
     → (is_odd (length mine) ≡ true → asks_out_of_turn old.zeal c r mine ≡ false) → FollowsTurn old.zeal c r mine (event_by r (verb_or_beat due) answer)
 follows_of c r mine old planned due answer good possible short going stands held led cycle calm = record {
-  cycle = made_follows old.zeal c r mine old.lead (leads_at old.lead.place) due answer led cycle (replays c r mine (leads_at old.lead.place) good possible held.beside.follow.inside short (omega (arith, held.handed, held.beside.follow.progress.handed)));
   made = record {
     own = refl;
     going = going;
     zeal = old.zeal;
     made = record {
       replication = listed;
-      background = λ even. ((cycle even).first, subst (λ l. IsBackgroundDue c r mine l (cycle even).first) (ap leads_at (stands.paces refl).listed.place) (cycle even).background, ap verb_or_beat (cycle even).whole);
+      background = λ even. ((cycle even).first, subst (λ l. IsBackgroundDue c r mine l (cycle even).first) (ap leads_at (stands.placed refl).place) (cycle even).background, ap verb_or_beat (cycle even).whole);
     };
-    paces = subst (λ p. PacesAt c r mine (tables_at c r mine).written p) (stands.paces refl).listed.place (subst (λ (t : Tables). PacesAt c r mine t.written old.lead.place) (stands.paces refl).listed.tables (stands.paces refl).paces);
-    leads = λ even leads. even_may c r mine even (stands.leads refl (ap leads_at (stands.paces refl).listed.place ∙ leads));
   };
   listed = listed;
 }
@@ -278,7 +272,7 @@ returns-else-asks_out_of_turn-clause-made g c was =
     let says = to_own {mine = g.mine} (λ x i l. SaysTook x i l c.plan-plan.result.leads due c.plan-plan.result.heeded new.lead c.took.new.self.lead answer c.took.result) (sym plan.keeps.config) (id ∙ sym c.requires.1.1.0) refl c.took.ensures.says in
     let stands = to_own (λ x i l. StandsForNode x i l node) own id c.requires.1.0 was in
     let calm : is_odd (length g.mine) ≡ true → asks_out_of_turn node.zeal node.follow.config node.id g.mine ≡ false = left_false (asks_out_of_turn node.zeal node.follow.config node.id g.mine) (is_odd (length g.mine)) (sym c.asks_out_of_turn.ensures ∙ c.if-asks_out_of_turn.false) in
-    let listed = (stands.paces refl).listed in
+    let listed = (stands.placed refl) in
     record {
       verb = c.plan-plan.result.verb;
       answer = answer;

@@ -11,19 +11,18 @@ use Rattle.mu_lead.specs.Going.{begins_at, going_after}
 use Rattle.mu_lead.specs.Notes.{value_committed}
 use Rattle.mu_lead.specs.Saying.{Says}
 use Rattle.mu_lead.specs.Standing.{known_told}
-use Rattle.mu_node.specs.Due.{is_eager, lead_due}
-use Rattle.mu_pace.specs.Collecting.{LeaderKeepsBy}
+use Rattle.mu_node.specs.Due.{lead_due}
 use Rattle.mu_node.specs.Node.{StandsForLead}
-use Rattle.mu_node.specs.Paced.{HasPaces, HasPlannedPaces}
-use Rattle.mu_pace.specs.Counters.{AtEachStep}
+use Rattle.mu_node.specs.Placed.{IsWherePlanned}
+use Rattle.mu_lead.specs.Journal.{IsWhere}
+use Rattle.mu_agree.specs.Moments.{AtEachStep}
 use Rattle.mu_node.specs.Cycle.{handed}
 use Rattle.mu_node.specs.Journal.{IsListed}
 use Rattle.mu_node.proofs.Answering.{answers_stay}
-use Rattle.mu_node.proofs.Leading.{due_leads_on}
 use Rattle.mu_lead.specs.Lasting.{tables_of}
 use Rattle.mu_node.specs.Notes.{note_at}
 use Rattle.mu_node.proofs.Leads.{lead_noted, lead_says, lead_takes, lead_tells, led_beside, led_log, led_told}
-use Rattle.mu_node.proofs.Pacing.{TakesPaces, kept_led, led_paces, paces_led}
+use Rattle.mu_node.proofs.Where.{led_where, where_after}
 use Rattle.mu_node.proofs.node.Node.take_led.Goals as goal
 
 pub learn-requires : goal.learn-requires
@@ -48,18 +47,8 @@ returns g c =
     subst (λ x. HoldsValues x values c.log.result.now) (sym lead.config) (led_log k r mine verb answer c.note.new.self values c.log.result.now (λ none. c.note.ensures.stands mine may beside none) (λ entry some. c.note.ensures.awaits mine entry may beside some) (λ l n h. c.known-known.ensures k r l n h) (λ l n h. c.log.ensures k r l n h)) in
     record {
       stands = λ full held follows reads possible.
-          let takes : TakesPaces mine old values answer c.take-note.new.self = record {
-            rooms = c.take-note.ensures.rooms (log possible);
-            evidence = c.take-note.ensures.evidence (log possible);
-            raises = c.take-note.ensures.raises (log possible);
-            confirms = c.take-note.ensures.confirms (log possible);
-            joins = c.take-note.ensures.joins (log possible);
-            causes = c.take-note.ensures.causes (log possible);
-            elects = c.take-note.ensures.elects (log possible);
-            placed = c.take-note.ensures.placed (log possible);
-          } in
-          let before : full ≡ true → HasPaces k r mine old = λ on. led_paces k r mine old verb odd due (subst (λ l. HasPlannedPaces k r mine l) (sym c.note.ensures.keeps.lead) (held.paces on)) in
-          let paces : full ≡ true → HasPaces k r (event_by r verb answer ∷ mine) c.take-note.new.self = λ on. paces_led k r mine old c.take-note.new.self verb answer values lead c.take-note.ensures.config c.take-note.ensures.id takes odd due possible (told possible) (before on) in
+          let at : full ≡ true → IsWhere k r (event_by r verb answer ∷ mine) c.take-note.new.self = λ on.
+          where_after k r mine old c.take-note.new.self verb answer values lead (c.take-note.ensures.placed (log possible)) odd due possible (told possible) (led_where k r mine old verb odd due (subst (λ l. IsWherePlanned k r mine l) (sym c.note.ensures.keeps.lead) (held.placed on))) in
           let taken = lead_takes k r mine old c.take-note.new.self verb answer values lead c.take-note.ensures.config c.take-note.ensures.id (c.take-note.ensures.stands (log possible)) due possible (told possible) in
           record {
             beside = led_beside k r mine verb answer c.note.new.self c.learn.new.self c.take-note.new.self values (length values) c.take-note.result c.requires.config possible
@@ -74,12 +63,9 @@ returns g c =
             handed = c.learn.ensures.keeps.handed ∙ (c.note.ensures.keeps.handed ∙ held.handed);
             answers = answers_stay k r (handed k r mine) (event_by r verb answer) mine c.args.self.now.answers c.learn.new.self.answers (c.learn.ensures.keeps.answers ∙ c.note.ensures.keeps.answers) c.args.self.now.follow.progress.handed held.beside.follow.progress.handed held.handed held.answers;
             reads = (held.reads, reads);
-            cycle = λ on. (held.cycle on, (follows on).cycle);
             made = λ on. (held.made on, (follows on).made);
             listed = λ on. subst (λ z. AtEachStep (IsListed z k r) (event_by r verb answer ∷ mine)) (sym (c.learn.ensures.keeps.zeal ∙ c.note.ensures.keeps.zeal)) (held.listed on, (follows on).listed);
-            leads = λ on leads. due_leads_on k r mine own verb (event_by r verb answer) c.requires.due;
-            paces = λ on. subst (λ l. HasPaces k r (event_by r verb answer ∷ mine) l) (sym c.learn.ensures.keeps.lead) (paces on);
-            led = λ on. subst (λ z. AtEachStep (LeaderKeepsBy (is_eager z) k r) (event_by r verb answer ∷ mine)) (sym (c.learn.ensures.keeps.zeal ∙ c.note.ensures.keeps.zeal)) (held.led on, kept_led (is_eager c.args.self.now.zeal) k r mine old c.take-note.new.self verb answer due lead (before on) taken (paces on));
+            placed = λ on. subst (λ l. IsWhere k r (event_by r verb answer ∷ mine) l) (sym c.learn.ensures.keeps.lead) (at on);
           };
       zeal = c.learn.ensures.keeps.zeal ∙ c.note.ensures.keeps.zeal;
       stops = c.learn.ensures.keeps.stops ∙ c.note.ensures.keeps.stops;

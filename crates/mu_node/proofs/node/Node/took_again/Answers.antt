@@ -1,9 +1,8 @@
-use Rattle.std.proofs.Common.{ap, arith, false, refl, subst, sym, true, ◌<◌, ◌||◌, ◌∙◌, ◌∷◌, ◌≡◌}
+use Rattle.std.proofs.Common.{ap, false, refl, subst, sym, true, ◌||◌, ◌∙◌, ◌∷◌, ◌≡◌}
 use Rattle.mu_model.specs.declared.event.Verb.{Verb}
 use Rattle.mu_model.specs.Knowledge.{applied, known}
 use Rattle.mu_knowledge.specs.KnownLog.{HoldsValues}
-use Rattle.mu_pace.specs.Collecting.{LeaderKeepsBy}
-use Rattle.mu_pace.specs.Counters.{AtEachStep}
+use Rattle.mu_agree.specs.Moments.{AtEachStep}
 use Rattle.mu_lead.specs.declared.lead.Lead.{Lead}
 use Rattle.mu_lead.specs.declared.place.Place.{Place}
 use Rattle.mu_lead.specs.Going.{begins_at, going_after}
@@ -13,17 +12,16 @@ use Rattle.std.specs.Prelude.{take}
 use Rattle.mu_follow.specs.Follow.{StandsForFollow}
 use Rattle.mu_node.specs.Answers.{HoldsAnswers}
 use Rattle.mu_node.specs.Cycle.{handed}
-use Rattle.mu_node.specs.Due.{is_eager}
 use Rattle.mu_node.specs.Journal.{IsListed}
 use Rattle.mu_model.specs.Again.{asks_again}
 use Rattle.mu_model.specs.Steps.{is_named}
 use Rattle.mu_model.specs.Histories.{event_by}
 use Rattle.mu_node.specs.Node.{IsGone, StandsForLead}
 use Rattle.mu_node.specs.Notes.{note_at}
-use Rattle.mu_node.specs.Paced.{HasGone, HasPaces}
+use Rattle.mu_lead.specs.Journal.{HasLeft, IsWhere}
+use Rattle.mu_node.proofs.Where.{where_asked}
 use Rattle.mu_node.proofs.Answering.{answers_stay}
-use Rattle.mu_node.proofs.AskedAgain.{asked_due, going_asked, kept_asked, odd_handed, paces_asked}
-use Rattle.mu_node.proofs.Leading.{due_leads_on}
+use Rattle.mu_node.proofs.AskedAgain.{asked_due, going_asked, odd_handed}
 use Rattle.mu_node.proofs.Leads.{beside_lead, lead_noted, lead_takes, led_log, led_told}
 use Rattle.mu_node.proofs.node.Node.took_again.Goals as goal
 
@@ -41,15 +39,13 @@ returns-clause-stands g c full stands follows possible =
     let old = c.note.new.self.lead in
     let new = c.take.new.self in
     let lead = subst (λ l. StandsForLead k r mine l) (sym c.note.ensures.keeps.lead) held.lead in
-    let gone : full ≡ true → HasGone k r mine old = λ on. subst (λ l. HasGone k r mine l) (sym c.note.ensures.keeps.lead) (held.paces on) in
+    let gone : full ≡ true → HasLeft k r mine old = λ on. subst (λ l. HasLeft k r mine l) (sym c.note.ensures.keeps.lead) (held.placed on) in
     let begins = ap (λ (l : Lead). l.place) c.note.ensures.keeps.lead ∙ c.requires.1.1.1.0 in
     let due = asked_due k r mine old named begins in
     let told = led_told k r mine (Verb.Ask 0) c.args.answer c.note.new.self values (λ none. c.note.ensures.stands mine possible held.beside none) (λ entry some. c.note.ensures.awaits mine entry possible held.beside some) (λ l n h. c.known-known.ensures k r l n h) in
     let of_config = led_log k r mine (Verb.Ask 0) c.args.answer c.note.new.self values c.log.result.now (λ none. c.note.ensures.stands mine possible held.beside none) (λ entry some. c.note.ensures.awaits mine entry possible held.beside some) (λ l n h. c.known-known.ensures k r l n h) (λ l n h. c.log.ensures k r l n h) in
     let log = subst (λ x. HoldsValues x values c.log.result.now) (sym lead.config) of_config in
-    let inside = held.beside.follow.inside in
-    let some : 0 < k.replicas = omega (arith, inside) in
-    let paces : full ≡ true → HasPaces k r (e ∷ mine) new = λ on. paces_asked k r mine old new c.args.answer values some lead c.take.ensures.config c.take.ensures.id (gone on) odd named asks (c.take.ensures.listed log) (c.take.ensures.placed log) possible told in
+    let at : full ≡ true → IsWhere k r (e ∷ mine) new = λ on. where_asked k r mine old new c.args.answer values lead (gone on) odd named (c.take.ensures.placed log) possible told in
     let taken = lead_takes k r mine old new (Verb.Ask 0) c.args.answer values lead c.take.ensures.config c.take.ensures.id (c.take.ensures.stands log) due possible told in
     record {
       beside = beside_lead (StandsForFollow k r (e ∷ mine)) k r (e ∷ mine) c.note.new.self new (c.note.ensures.stands mine possible held.beside refl);
@@ -57,12 +53,9 @@ returns-clause-stands g c full stands follows possible =
       handed = c.note.ensures.keeps.handed ∙ (held.handed ∙ sym (odd_handed k r mine odd));
       answers = answers_stay k r (handed k r mine) e mine c.args.self.now.answers c.note.new.self.answers c.note.ensures.keeps.answers c.args.self.now.follow.progress.handed held.beside.follow.progress.handed (held.handed ∙ sym (odd_handed k r mine odd)) (λ commands are. subst (λ n. HoldsAnswers k commands (take n (applied k r mine)) c.args.self.now.answers) (sym (odd_handed k r mine odd)) (held.answers commands are));
       reads = (held.reads, tt);
-      cycle = λ on. (held.cycle on, (follows on).cycle);
       made = λ on. (held.made on, (follows on).made);
       listed = λ on. subst (λ z. AtEachStep (IsListed z k r) (e ∷ mine)) (sym c.note.ensures.keeps.zeal) (held.listed on, (follows on).listed);
-      leads = λ on leads. due_leads_on k r mine old (Verb.Ask 0) e due;
-      paces = paces;
-      led = λ on. subst (λ z. AtEachStep (LeaderKeepsBy (is_eager z) k r) (e ∷ mine)) (sym c.note.ensures.keeps.zeal) (held.led on, subst (λ t. LeaderKeepsBy t k r mine e) (sym c.requires.1.1.1.1.1.1.1.1) (kept_asked k r mine new c.args.answer old named asks (gone on) taken (paces on)));
+      placed = at;
     }
 
 pub returns-clause-going : goal.returns-clause-going

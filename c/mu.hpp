@@ -1,0 +1,174 @@
+/* mu.hpp: the judge and the engine of mu.h as C++17 objects, each of which owns what it holds. It may
+ * be moved and not copied; what was moved from holds nothing, and every call on it is refused.
+ *
+ *     c++ -std=c++17 -Ic yours.cc out/libmu.a -o yours */
+#ifndef MU_HPP
+#define MU_HPP
+
+#include "mu.h"
+
+#include <cstdint>
+#include <optional>
+#include <stdexcept>
+#include <string>
+#include <string_view>
+#include <utility>
+
+namespace mu {
+
+/* What a status of mu.h is called there. */
+inline const char *name_of(std::uint32_t status)
+{
+    switch (status) {
+    case MU_DONE: return "MU_DONE";
+    case MU_USAGE: return "MU_USAGE";
+    case MU_REFUSED: return "MU_REFUSED";
+    case MU_UNFINISHED: return "MU_UNFINISHED";
+    case MU_NO_MEMORY: return "MU_NO_MEMORY";
+    case MU_ILLEGAL: return "MU_ILLEGAL";
+    case MU_TOO_LONG: return "MU_TOO_LONG";
+    case MU_FULL: return "MU_FULL";
+    case MU_STOPPED: return "MU_STOPPED";
+    case MU_MIXED: return "MU_MIXED";
+    default: return "a status that mu.h doesn't have";
+    }
+}
+
+/* A call was refused, and nothing has changed. */
+struct Refused : std::runtime_error {
+    explicit Refused(std::uint32_t why, const std::string &told = {})
+        : std::runtime_error(name_of(why) + (told.empty() ? told : ": " + told)), status(why) {}
+    std::uint32_t status;
+};
+
+/* Throws what was refused. */
+inline void accept(std::uint32_t status, const std::string &told = {})
+{
+    if (status != MU_DONE)
+        throw Refused(status, told);
+}
+
+/* The status and the whole text of a call, which is made again if the first room was too small. */
+template <typename Call> std::pair<std::uint32_t, std::string> told(Call call, std::size_t room = 4096)
+{
+    std::string text(room, '\0');
+    for (;;) {
+        std::size_t taken = 0;
+        const std::uint32_t status = call(text.data(), text.size(), &taken);
+        const bool is_whole = taken <= text.size();
+        text.resize(taken);
+        if (is_whole)
+            return {status, std::move(text)};
+    }
+}
+
+/* A reply of the store: done, none, or a text that the key has, had or keeps. */
+struct Reply {
+    std::uint32_t kind; /* of mu_reply */
+    std::string text;
+};
+
+class Engine {
+public:
+    explicit Engine(std::uint32_t replicas, std::uint32_t ring = 1024, std::uint32_t budget = 131071,
+                    std::uint32_t commands = 1500)
+    {
+        accept(mu_engine_new(&held, replicas, ring, budget, commands));
+    }
+    ~Engine() { mu_engine_free(&held); }
+    Engine(Engine &&other) noexcept : held(std::exchange(other.held, mu_engine MU_NO_ENGINE)) {}
+    Engine &operator=(Engine &&other) noexcept
+    {
+        std::swap(held, other.held);
+        return *this;
+    }
+
+    /* Takes the next command of a client: its row. */
+    std::uint32_t submit(std::uint32_t client, std::string_view line)
+    {
+        std::uint32_t row = 0;
+        accept(mu_engine_submit(&held, client, line.data(), line.size(), &row));
+        return row;
+    }
+    void round() { accept(mu_engine_round(&held)); }
+    void stop(std::uint32_t replica) { accept(mu_engine_stop(&held, replica)); }
+    void pause(std::uint32_t replica, std::uint32_t rounds) { accept(mu_engine_pause(&held, replica, rounds)); }
+
+    /* The reply to a row, if it is there. */
+    std::optional<Reply> reply(std::uint32_t row)
+    {
+        std::uint32_t kind = 0;
+        auto [status, text] = told(
+            [&](char *out, std::size_t room, std::size_t *taken) {
+                return mu_engine_reply(&held, row, &kind, out, room, taken);
+            },
+            64);
+        if (status == MU_UNFINISHED)
+            return std::nullopt;
+        accept(status);
+        return Reply{kind, std::move(text)};
+    }
+    /* The same once it is there, after at most so many rounds. */
+    std::optional<Reply> reply_in_time(std::uint32_t row, std::uint32_t rounds = 10000)
+    {
+        std::optional<Reply> found = reply(row);
+        for (; !found && rounds > 0; rounds--) {
+            round();
+            found = reply(row);
+        }
+        return found;
+    }
+    /* The commands and the events so far, as a trace. */
+    std::string trace()
+    {
+        auto [status, text] = told([&](char *out, std::size_t room, std::size_t *taken) {
+            return mu_engine_trace(&held, out, room, taken);
+        });
+        accept(status);
+        return std::move(text);
+    }
+
+private:
+    mu_engine held;
+};
+
+class Judge {
+public:
+    explicit Judge(std::string_view job)
+    {
+        auto [status, why] = told([&](char *out, std::size_t room, std::size_t *taken) {
+            return mu_judge_new(&held, job.data(), job.size(), out, room, taken);
+        });
+        accept(status, why);
+    }
+    ~Judge() { mu_judge_free(&held); }
+    Judge(Judge &&other) noexcept : held(std::exchange(other.held, mu_judge MU_NO_JUDGE)) {}
+    Judge &operator=(Judge &&other) noexcept
+    {
+        std::swap(held, other.held);
+        return *this;
+    }
+
+    /* MU_DONE if the list is legal with this line, MU_ILLEGAL, or MU_REFUSED if it is no event. */
+    std::uint32_t take(std::string_view line)
+    {
+        const std::uint32_t status = mu_judge_take(&held, line.data(), line.size());
+        if (status == MU_USAGE)
+            throw Refused(status);
+        return status;
+    }
+    /* What `mu why` says of the list so far, and its status. */
+    std::pair<std::uint32_t, std::string> why()
+    {
+        return told([&](char *out, std::size_t room, std::size_t *taken) {
+            return mu_judge_why(&held, out, room, taken);
+        });
+    }
+
+private:
+    mu_judge held;
+};
+
+} // namespace mu
+
+#endif

@@ -1,0 +1,4 @@
+mod Standing
+mod Running
+mod Adding
+mod Judging

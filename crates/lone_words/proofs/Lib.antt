@@ -1,0 +1,7 @@
+mod Spots
+mod Effects
+pub mod OneList
+mod Reaching
+mod Right
+pub mod Found
+mod Coming

@@ -1,0 +1,11 @@
+mod Applying
+mod Ends
+pub mod Fresh
+mod Handing
+pub mod Holds
+mod Lasting
+pub mod Linear
+mod Orders
+mod Presents
+mod Rows
+mod Wholes

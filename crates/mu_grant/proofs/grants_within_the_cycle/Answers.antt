@@ -1,8 +1,0 @@
-use Rattle.mu_grant.proofs.Rounds.{cycles, rounds}
-use Rattle.mu_grant.proofs.grants_within_the_cycle.Goals as goal
-
-pub returns-clause-round : goal.returns-clause-round
-returns-clause-round c = rounds
-
-pub returns-clause-cycle : goal.returns-clause-cycle
-returns-clause-cycle c = cycles

@@ -1,0 +1,15 @@
+pub mod Again
+pub mod Causes
+pub mod Confirmations
+pub mod Elections
+pub mod Evidence
+pub mod Gathering
+pub mod Heads
+pub mod Lasting
+pub mod Listed
+pub mod Onward
+pub mod Order
+pub mod Paces
+pub mod Raising
+pub mod Rooms
+pub mod Welcomes

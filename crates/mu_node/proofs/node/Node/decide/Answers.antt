@@ -1,0 +1,81 @@
+use Rattle.std.proofs.Common.{ap, arith, false, inl, length, refl, subst, sym, true, true≢false, ◌∙◌, ◌≡◌}
+use Rattle.std.specs.Prelude.{is_some}
+use Rattle.std.proofs.lemmas.Bool.{and_parts}
+use Rattle.mu_model.specs.declared.event.Verb.{Verb}
+use Rattle.mu_model.specs.Again.{asks_again}
+use Rattle.mu_model.specs.Allowed.{Allowed}
+use Rattle.mu_model.specs.Contents.{IsConfig}
+use Rattle.mu_model.specs.Steps.{is_named}
+use Rattle.mu_model.specs.Stretches.{is_odd}
+use Rattle.mu_node.specs.Due.{FitsLead, asks_out_of_turn, is_eager, lead_due, verb_or_beat}
+use Rattle.mu_node.specs.Node.{HasPlanned, IsGone}
+use Rattle.mu_node.specs.Plans.{due_of}
+use Rattle.mu_node.specs.Reads.{IsReadNext}
+use Rattle.mu_node.proofs.AskedAgain.{asks_parts}
+use Rattle.mu_node.proofs.Moving.{to_own}
+use Rattle.mu_node.proofs.node.Node.decide.Goals as goal
+
+pub asks_out_of_turn-requires : goal.asks_out_of_turn-requires
+asks_out_of_turn-requires g c = c.requires.stands
+
+pub leave_leadership-note-requires : goal.leave_leadership-note-requires
+leave_leadership-note-requires g c =
+    let node = c.args.self.now in
+    let both = and_parts (asks_out_of_turn node.zeal node.follow.config node.id g.mine) (is_odd (length g.mine)) (sym c.asks_out_of_turn.ensures ∙ c.if-asks_out_of_turn.true) in
+    let parts = asks_parts node.zeal node.follow.config node.id g.mine both.0 in
+    (c.requires.stands, (parts.1.0, parts.1.1))
+
+pub returns-then-asks_out_of_turn-clause-decided : goal.returns-then-asks_out_of_turn-clause-decided
+returns-then-asks_out_of_turn-clause-decided g c =
+    let node = c.args.self.now in
+    let new = c.leave_leadership-note.new.self in
+    let keeps = c.leave_leadership-note.ensures.keeps in
+    let both = and_parts (asks_out_of_turn node.zeal node.follow.config node.id g.mine) (is_odd (length g.mine)) (sym c.asks_out_of_turn.ensures ∙ c.if-asks_out_of_turn.true) in
+    let parts = asks_parts node.zeal node.follow.config node.id g.mine both.0 in
+    let inside = c.requires.stands.beside.follow.inside in
+    let may : Allowed node.follow.config node.id g.mine (Verb.Ask 0) = record { budget = c.requires.short; replica = inside; may = (omega (arith, inside), (inl refl, tt)) } in
+    record {
+      config = subst (λ x. IsConfig x) (sym keeps.config) c.requires.config;
+      allowed = to_own {mine = g.mine} (λ x i l. Allowed x i l (Verb.Ask 0)) keeps.config keeps.id refl may;
+      asks = λ on. record {
+        verb = refl;
+        gone = to_own {mine = g.mine} (λ x i l. IsGone false x i l new) keeps.config keeps.id refl (c.leave_leadership-note.ensures.gone false c.requires.stands);
+        begins = c.leave_leadership-note.ensures.begins;
+        heeded = c.leave_leadership-note.ensures.heeded;
+        odd = both.1;
+        named = to_own {mine = g.mine} (λ x i l. is_named x i l ≡ true) keeps.config keeps.id refl parts.1.0;
+        asks = to_own {mine = g.mine} (λ x i l. asks_again x i l ≡ true) keeps.config keeps.id refl parts.1.1;
+        eager = ap is_eager keeps.zeal ∙ parts.0;
+      };
+      plans = λ off. absurd (true≢false off);
+    }
+
+pub returns-then-asks_out_of_turn-clause-keeps : goal.returns-then-asks_out_of_turn-clause-keeps
+returns-then-asks_out_of_turn-clause-keeps g c = c.leave_leadership-note.ensures.keeps
+
+pub plan-requires : goal.plan-requires
+plan-requires g c = c.requires
+
+pub returns-else-asks_out_of_turn-clause-decided : goal.returns-else-asks_out_of_turn-clause-decided
+returns-else-asks_out_of_turn-clause-decided g c =
+    let node = c.args.self.now in
+    let new = c.plan.new.self in
+    let plan = c.plan.ensures in
+    let keeps = plan.keeps in
+    record {
+      config = subst (λ x. IsConfig x) (sym keeps.config) c.requires.config;
+      allowed = to_own {mine = g.mine} (λ x i l. Allowed x i l c.plan.result.verb) keeps.config keeps.id refl
+          (subst (λ v. Allowed node.follow.config node.id g.mine v) (sym plan.is.made) plan.is.allowed);
+      asks = λ on. absurd (true≢false (sym on));
+      plans = λ off. record {
+        fits = to_own {mine = g.mine} (λ x i l. FitsLead x i l new.lead c.plan.result.leads (due_of c.plan.result)) keeps.config keeps.id refl plan.is.fits;
+        turn = λ on. (and_parts (is_odd (length g.mine)) (is_some (lead_due node.follow.config node.id g.mine node.lead)) (sym plan.leads ∙ on)).0;
+        planned = to_own {mine = g.mine} (λ x i l. HasPlanned false x i l new) keeps.config keeps.id refl (plan.planned false c.requires.stands);
+        made = plan.is.made;
+        some = plan.is.some;
+        reads = to_own {mine = g.mine} (λ x i l. IsReadNext x i l (verb_or_beat (due_of c.plan.result))) keeps.config keeps.id refl plan.is.reads;
+      };
+    }
+
+pub returns-else-asks_out_of_turn-clause-keeps : goal.returns-else-asks_out_of_turn-clause-keeps
+returns-else-asks_out_of_turn-clause-keeps g c = c.plan.ensures.keeps

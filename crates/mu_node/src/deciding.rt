@@ -1,0 +1,76 @@
+//! A step in two halves: what the replica decides to do, and how it takes what that found.
+ghost use Rattle.std.specs.Prelude.{List, ◌≡◌};
+ghost use Rattle.mu_model.specs.declared.event.Event.{Event as SomeEvent};
+ghost use Rattle.mu_node.specs.Deciding.{HasDecided, LivesAfter};
+ghost use Rattle.mu_node.specs.Keeping.{KeepsSelf, MayStep};
+
+use crate::node::Node;
+use crate::planning::Plan;
+use mu_lead::Note;
+use mu_model::{Answer, Verb};
+
+/// What a replica decided to do, until it takes what that found.
+#[derive(Drop)]
+pub struct Decision {
+    /// What is made.
+    pub(crate) plan: Plan,
+    /// Whether it is the first ask of a replica that asks again, out of turn.
+    pub(crate) again: bool,
+}
+
+impl Decision {
+    /// The verb that is made.
+    pub fn verb(&self) -> Verb
+        ensures { result ≡ self.now.plan.verb }
+    {
+        self.plan.verb
+    }
+}
+
+impl Node {
+    /// The first half of a step: the first ask if the replica asks again, out of turn; else what is
+    /// due, or a beat. Takes no memory.
+    pub fn decide(&mut self) -> Decision
+        ghost mine: { List SomeEvent }
+        requires { MayStep mine self.old }
+        ensures decided { HasDecided mine self.new result }
+        ensures keeps { KeepsSelf self.old self.new }
+    {
+        if self.asks_out_of_turn() {
+            let note = self.leave_leadership();
+            Decision {
+                plan: Plan {
+                    verb: Verb::Ask(0),
+                    is_due: true,
+                    leads: true,
+                    heeded: note,
+                },
+                again: true,
+            }
+        } else {
+            Decision {
+                plan: self.plan(),
+                again: false,
+            }
+        }
+    }
+
+    /// The second half: takes the answer. Takes no memory.
+    pub fn settle(&mut self, decision: Decision, answer: Answer) -> Note
+        ghost mine: { List SomeEvent }
+        requires { HasDecided mine self.old decision }
+        ensures lives { LivesAfter mine self.old decision answer self.new }
+        ensures zeal { self.new.zeal ≡ self.old.zeal }
+        ensures stops { self.new.stops ≡ self.old.stops }
+    {
+        let Decision { plan, again } = decision;
+        let id = self.id;
+        if again {
+            let note = plan.heeded;
+            self.took_again(id, answer);
+            note
+        } else {
+            self.took(plan, id, answer)
+        }
+    }
+}

@@ -1,0 +1,5 @@
+pub mod Alone
+pub mod Asking
+pub mod Names
+pub mod Refusals
+pub mod Wordings

@@ -1,0 +1,6 @@
+mod Bounds
+mod LineNumbers
+mod Pieces
+mod Places
+mod Spellings
+mod WordByWord

@@ -1,0 +1,4 @@
+mod Lists
+mod Lives
+mod Steps
+mod Slots

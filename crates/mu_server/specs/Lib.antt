@@ -1,0 +1,5 @@
+pub mod Holding
+pub mod Looking
+pub mod Opening
+pub mod Serving
+pub mod Sessions
