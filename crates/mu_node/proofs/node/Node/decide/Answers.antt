@@ -11,7 +11,7 @@ use Rattle.mu_node.specs.Due.{FitsLead, asks_out_of_turn, is_eager, lead_due, ve
 use Rattle.mu_node.specs.Node.{HasPlanned, IsGone}
 use Rattle.mu_node.specs.Plans.{due_of}
 use Rattle.mu_node.specs.Reads.{IsReadNext}
-use Rattle.mu_node.proofs.AskedAgain.{asks_parts}
+use Rattle.mu_node.proofs.AskedAgain.{asks_parts, left_calm}
 use Rattle.mu_node.proofs.Moving.{to_own}
 use Rattle.mu_node.proofs.node.Node.decide.Goals as goal
 
@@ -79,3 +79,31 @@ returns-else-asks_out_of_turn-clause-decided g c =
 
 pub returns-else-asks_out_of_turn-clause-keeps : goal.returns-else-asks_out_of_turn-clause-keeps
 returns-else-asks_out_of_turn-clause-keeps g c = c.plan.ensures.keeps
+
+pub returns-then-asks_out_of_turn-clause-asks : goal.returns-then-asks_out_of_turn-clause-asks
+returns-then-asks_out_of_turn-clause-asks g c on =
+    let node = c.args.self.now in
+    let both = and_parts (asks_out_of_turn node.zeal node.follow.config node.id g.mine) (is_odd (length g.mine)) (sym c.asks_out_of_turn.ensures ∙ c.if-asks_out_of_turn.true) in
+    record { out = both.0; odd = both.1; gone = c.leave_leadership-note.ensures.gone; told = c.leave_leadership-note.ensures.told }
+
+pub returns-then-asks_out_of_turn-clause-plans : goal.returns-then-asks_out_of_turn-clause-plans
+returns-then-asks_out_of_turn-clause-plans g c off = absurd (true≢false off)
+
+pub returns-else-asks_out_of_turn-clause-asks : goal.returns-else-asks_out_of_turn-clause-asks
+returns-else-asks_out_of_turn-clause-asks g c on = absurd (true≢false (sym on))
+
+pub returns-else-asks_out_of_turn-clause-plans : goal.returns-else-asks_out_of_turn-clause-plans
+returns-else-asks_out_of_turn-clause-plans g c off =
+    let node = c.args.self.now in
+    let plan = c.plan.ensures in
+    record {
+      calm = left_calm (asks_out_of_turn node.zeal node.follow.config node.id g.mine) (is_odd (length g.mine)) (sym c.asks_out_of_turn.ensures ∙ c.if-asks_out_of_turn.false);
+      planned = plan.planned;
+      leads = plan.leads;
+      idles = plan.idles;
+      led = plan.led;
+      cycle = plan.cycle;
+      heeded = plan.heeded;
+      told = plan.told;
+      lead = plan.lead;
+    }

@@ -1,4 +1,4 @@
-use Rattle.std.proofs.Common.{false, refl, subst, sym, true≢false, ◌∷◌}
+use Rattle.std.proofs.Common.{false, refl, subst, sym, true≢false, ◌∙◌, ◌∷◌}
 use Rattle.mu_model.specs.declared.event.Verb.{Verb}
 use Rattle.mu_model.specs.Histories.{event_by}
 use Rattle.mu_model.specs.Parts.{IsPossible}
@@ -32,3 +32,15 @@ returns-else-again-clause-lives g c possible =
     let at = subst (λ v. IsPossible node.follow.config node.id (event_by node.id v answer ∷ g.mine)) it.made possible in
     subst (λ v. LivesForNode node.follow.config node.id (event_by node.id v answer ∷ g.mine) c.took.new.self) (sym it.made)
     (c.took.ensures.stands false it.planned (λ on. absurd (true≢false (sym on))) (λ on. absurd (true≢false (sym on))) it.reads at)
+
+pub returns-then-again-clause-asked : goal.returns-then-again-clause-asked
+returns-then-again-clause-asked g c on = record { stands = c.took_again.ensures.stands; going = c.took_again.ensures.going; heeds = refl }
+
+pub returns-then-again-clause-took : goal.returns-then-again-clause-took
+returns-then-again-clause-took g c off = absurd (true≢false (sym c.if-again.true ∙ off))
+
+pub returns-else-again-clause-asked : goal.returns-else-again-clause-asked
+returns-else-again-clause-asked g c on = absurd (true≢false (sym on ∙ c.if-again.false))
+
+pub returns-else-again-clause-took : goal.returns-else-again-clause-took
+returns-else-again-clause-took g c off = record { stands = c.took.ensures.stands; tells = c.took.ensures.note; says = c.took.ensures.says }
