@@ -1,5 +1,5 @@
--- decided, settled: what a replica decided to do may be done, and the replica is ready to take what it
--- finds; how it decided, and how it took the answer.
+-- decided, settled: what a replica decided to do may be done, and the replica is ready to take what
+-- it finds; how it decided, and how it took the answer.
 use Rattle.std.specs.Prelude.{Bool, List, false, is_some, length, true, ◌&&◌, ◌∷◌, ◌≡◌}
 use Rattle.mu_model.specs.declared.event.Answer.{Answer}
 use Rattle.mu_model.specs.declared.event.Event.{Event}

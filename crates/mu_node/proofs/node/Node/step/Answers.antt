@@ -96,24 +96,24 @@ returns-clause-stands g c full was =
     let same_number = g.met.P.Port.same_number old now c.step-answer.ensures.same in
     elim (either decision.again) [
       | inl on ↦
-      let asks = c.decide-decision.ensures.asks on in
-      let gone = to_own {mine = g.mine} (λ x i l. IsGone full x i l new) keeps.config keeps.id refl (asks.gone full stands) in
-      let follows : full ≡ true → FollowsTurn new.zeal new.follow.config new.id g.mine (event_by new.id (Verb.Ask 0) answer) = λ whole. to_own {mine = g.mine} (λ x i l. FollowsTurn new.zeal x i l (event_by i (Verb.Ask 0) answer)) keeps.config keeps.id refl
-      (subst (λ z. FollowsTurn z node.follow.config node.id g.mine (event_by node.id (Verb.Ask 0) answer)) (sym keeps.zeal) (follows_made node.follow.config node.id g.mine node (Verb.Ask 0) answer going (made_asked node.zeal node.follow.config node.id g.mine asks.odd asks.out))) in
-      step (Verb.Ask 0) answer c.settle.new.self full same_config same_number (keeps.config ∙ own) (keeps.id ∙ id) c.requires.1.0 (c.verb.ensures ∙ (c.decide-decision.ensures.decided.asks on).verb) c.step-answer.ensures.part c.step-answer.ensures.possible
-      ((c.settle.ensures.asked on).stands full gone follows)
+          let asks = c.decide-decision.ensures.asks on in
+          let gone = to_own {mine = g.mine} (λ x i l. IsGone full x i l new) keeps.config keeps.id refl (asks.gone full stands) in
+          let follows : full ≡ true → FollowsTurn new.zeal new.follow.config new.id g.mine (event_by new.id (Verb.Ask 0) answer) = λ whole. to_own {mine = g.mine} (λ x i l. FollowsTurn new.zeal x i l (event_by i (Verb.Ask 0) answer)) keeps.config keeps.id refl
+          (subst (λ z. FollowsTurn z node.follow.config node.id g.mine (event_by node.id (Verb.Ask 0) answer)) (sym keeps.zeal) (follows_made node.follow.config node.id g.mine node (Verb.Ask 0) answer going (made_asked node.zeal node.follow.config node.id g.mine asks.odd asks.out))) in
+          step (Verb.Ask 0) answer c.settle.new.self full same_config same_number (keeps.config ∙ own) (keeps.id ∙ id) c.requires.1.0 (c.verb.ensures ∙ (c.decide-decision.ensures.decided.asks on).verb) c.step-answer.ensures.part c.step-answer.ensures.possible
+          ((c.settle.ensures.asked on).stands full gone follows)
       | inr off ↦
-      let plans = c.decide-decision.ensures.plans off in
-      let it = c.decide-decision.ensures.decided.plans off in
-      let due = due_of decision.plan in
-      let planned = to_own {mine = g.mine} (λ x i l. HasPlanned full x i l new) keeps.config keeps.id refl (plans.planned full stands) in
-      let idles : full ≡ true → decision.plan.leads ≡ false → IsIdle new.follow.config new.id g.mine new.lead (verb_or_beat due) = λ whole beside. to_own {mine = g.mine} (λ x i l. IsIdle x i l new.lead (verb_or_beat due)) keeps.config keeps.id refl (plans.idles (in_full full node.follow.config node.id g.mine node whole stands) beside) in
-      let follows : full ≡ true → FollowsTurn new.zeal new.follow.config new.id g.mine (event_by new.id (verb_or_beat due) answer) = λ whole.
-      let all = in_full full node.follow.config node.id g.mine node whole stands in
-      to_own {mine = g.mine} (λ x i l. FollowsTurn new.zeal x i l (event_by i (verb_or_beat due) answer)) keeps.config keeps.id refl
-      (subst (λ z. FollowsTurn z node.follow.config node.id g.mine (event_by node.id (verb_or_beat due) answer)) (sym keeps.zeal) (follows_made node.follow.config node.id g.mine node (verb_or_beat due) answer going (made_due node.follow.config node.id g.mine node due all (plans.led all) (plans.cycle all) plans.calm))) in
-      step (verb_or_beat due) answer c.settle.new.self full same_config same_number (keeps.config ∙ own) (keeps.id ∙ id) c.requires.1.0 (c.verb.ensures ∙ it.made) c.step-answer.ensures.part c.step-answer.ensures.possible
-      ((c.settle.ensures.took off).stands full planned idles follows it.reads)
+          let plans = c.decide-decision.ensures.plans off in
+          let it = c.decide-decision.ensures.decided.plans off in
+          let due = due_of decision.plan in
+          let planned = to_own {mine = g.mine} (λ x i l. HasPlanned full x i l new) keeps.config keeps.id refl (plans.planned full stands) in
+          let idles : full ≡ true → decision.plan.leads ≡ false → IsIdle new.follow.config new.id g.mine new.lead (verb_or_beat due) = λ whole beside. to_own {mine = g.mine} (λ x i l. IsIdle x i l new.lead (verb_or_beat due)) keeps.config keeps.id refl (plans.idles (in_full full node.follow.config node.id g.mine node whole stands) beside) in
+          let follows : full ≡ true → FollowsTurn new.zeal new.follow.config new.id g.mine (event_by new.id (verb_or_beat due) answer) = λ whole.
+          let all = in_full full node.follow.config node.id g.mine node whole stands in
+          to_own {mine = g.mine} (λ x i l. FollowsTurn new.zeal x i l (event_by i (verb_or_beat due) answer)) keeps.config keeps.id refl
+          (subst (λ z. FollowsTurn z node.follow.config node.id g.mine (event_by node.id (verb_or_beat due) answer)) (sym keeps.zeal) (follows_made node.follow.config node.id g.mine node (verb_or_beat due) answer going (made_due node.follow.config node.id g.mine node due all (plans.led all) (plans.cycle all) plans.calm))) in
+          step (verb_or_beat due) answer c.settle.new.self full same_config same_number (keeps.config ∙ own) (keeps.id ∙ id) c.requires.1.0 (c.verb.ensures ∙ it.made) c.step-answer.ensures.part c.step-answer.ensures.possible
+          ((c.settle.ensures.took off).stands full planned idles follows it.reads)
     ]
 
 pub returns-clause-made : goal.returns-clause-made
@@ -133,35 +133,35 @@ returns-clause-made g c was =
     let stands = to_own (λ x i l. StandsForNode x i l node) own id c.requires.1.0 was in
     elim (either decision.again) [
       | inl on ↦
-      let asks = c.decide-decision.ensures.asks on in
-      record {
-        verb = c.verb.result;
-        answer = answer;
-        part = c.step-answer.ensures.part;
-        made = to_port (λ x i l. IsMade node.zeal x i l c.verb.result) own id c.requires.1.0
-            (subst (λ v. IsMade node.zeal k node.id g.mine v) (sym (c.verb.ensures ∙ (c.decide-decision.ensures.decided.asks on).verb)) (made_asked node.zeal k node.id g.mine asks.odd asks.out));
-        tells = to_port (λ x i l. TellsNote node.zeal x i l node.lead answer note) own id c.requires.1.0
-            (subst (λ n. TellsNote node.zeal k node.id g.mine node.lead answer n) (sym (c.settle.ensures.asked on).heeds) (tells_asked node.zeal k node.id g.mine node.lead answer decision.plan.heeded asks.odd asks.out asks.told));
-      }
+          let asks = c.decide-decision.ensures.asks on in
+          record {
+            verb = c.verb.result;
+            answer = answer;
+            part = c.step-answer.ensures.part;
+            made = to_port (λ x i l. IsMade node.zeal x i l c.verb.result) own id c.requires.1.0
+                (subst (λ v. IsMade node.zeal k node.id g.mine v) (sym (c.verb.ensures ∙ (c.decide-decision.ensures.decided.asks on).verb)) (made_asked node.zeal k node.id g.mine asks.odd asks.out));
+            tells = to_port (λ x i l. TellsNote node.zeal x i l node.lead answer note) own id c.requires.1.0
+                (subst (λ n. TellsNote node.zeal k node.id g.mine node.lead answer n) (sym (c.settle.ensures.asked on).heeds) (tells_asked node.zeal k node.id g.mine node.lead answer decision.plan.heeded asks.odd asks.out asks.told));
+          }
       | inr off ↦
-      let plans = c.decide-decision.ensures.plans off in
-      let due = due_of decision.plan in
-      let took = c.settle.ensures.took off in
-      let is = c.verb.ensures ∙ (c.decide-decision.ensures.decided.plans off).made in
-      let possible = possible_own (g.P.Port.config old) (g.P.Port.config now) k (g.P.Port.number old) (g.P.Port.number now) node.id (g.P.Port.part old) g.mine (g.P.Port.part now) c.verb.result (verb_or_beat due) answer
-      (g.met.P.Port.same_config old now c.step-answer.ensures.same) (g.met.P.Port.same_number old now c.step-answer.ensures.same)
-      own id c.requires.1.0 is c.step-answer.ensures.part c.step-answer.ensures.possible in
-      let tells = to_own {mine = g.mine} (λ x i l. TellsTook x i l decision.plan.leads due decision.plan.heeded answer note) (sym keeps.config) (sym keeps.id) refl took.tells in
-      let says = to_own {mine = g.mine} (λ x i l. SaysTook x i l decision.plan.leads due decision.plan.heeded new.lead c.settle.new.self.lead answer note) (sym keeps.config) (sym keeps.id) refl took.says in
-      record {
-        verb = c.verb.result;
-        answer = answer;
-        part = c.step-answer.ensures.part;
-        made = to_port (λ x i l. IsMade node.zeal x i l c.verb.result) own id c.requires.1.0
-            (subst (λ v. IsMade node.zeal k node.id g.mine v) (sym is) (made_due k node.id g.mine node due stands (plans.led stands) (plans.cycle stands) plans.calm));
-        tells = to_port (λ x i l. TellsNote node.zeal x i l node.lead answer note) own id c.requires.1.0
-            (note_told node.zeal k node.id g.mine node.lead new.lead c.settle.new.self.lead decision.plan.leads due decision.plan.heeded answer note plans.leads (plans.led stands) plans.heeded possible tells plans.told says stands.lead (stands.placed refl) plans.calm);
-      }
+          let plans = c.decide-decision.ensures.plans off in
+          let due = due_of decision.plan in
+          let took = c.settle.ensures.took off in
+          let is = c.verb.ensures ∙ (c.decide-decision.ensures.decided.plans off).made in
+          let possible = possible_own (g.P.Port.config old) (g.P.Port.config now) k (g.P.Port.number old) (g.P.Port.number now) node.id (g.P.Port.part old) g.mine (g.P.Port.part now) c.verb.result (verb_or_beat due) answer
+          (g.met.P.Port.same_config old now c.step-answer.ensures.same) (g.met.P.Port.same_number old now c.step-answer.ensures.same)
+          own id c.requires.1.0 is c.step-answer.ensures.part c.step-answer.ensures.possible in
+          let tells = to_own {mine = g.mine} (λ x i l. TellsTook x i l decision.plan.leads due decision.plan.heeded answer note) (sym keeps.config) (sym keeps.id) refl took.tells in
+          let says = to_own {mine = g.mine} (λ x i l. SaysTook x i l decision.plan.leads due decision.plan.heeded new.lead c.settle.new.self.lead answer note) (sym keeps.config) (sym keeps.id) refl took.says in
+          record {
+            verb = c.verb.result;
+            answer = answer;
+            part = c.step-answer.ensures.part;
+            made = to_port (λ x i l. IsMade node.zeal x i l c.verb.result) own id c.requires.1.0
+                (subst (λ v. IsMade node.zeal k node.id g.mine v) (sym is) (made_due k node.id g.mine node due stands (plans.led stands) (plans.cycle stands) plans.calm));
+            tells = to_port (λ x i l. TellsNote node.zeal x i l node.lead answer note) own id c.requires.1.0
+                (note_told node.zeal k node.id g.mine node.lead new.lead c.settle.new.self.lead decision.plan.leads due decision.plan.heeded answer note plans.leads (plans.led stands) plans.heeded possible tells plans.told says stands.lead (stands.placed refl) plans.calm);
+          }
     ]
 
 pub returns-clause-going : goal.returns-clause-going
@@ -183,17 +183,17 @@ returns-clause-going g c was =
     to_port (λ x i l. MovesGoing x i l node.lead next note) own id c.requires.1.0
     (elim (either decision.again) [
       | inl on ↦
-      let asks = c.decide-decision.ensures.asks on in
-      let asked = c.settle.ensures.asked on in
-      let named = (asks_parts node.zeal k node.id g.mine asks.out).1.0 in
-      let possible = possible_own (g.P.Port.config old) (g.P.Port.config now) k (g.P.Port.number old) (g.P.Port.number now) node.id (g.P.Port.part old) g.mine (g.P.Port.part now) c.verb.result (Verb.Ask 0) answer
-      (g.met.P.Port.same_config old now c.step-answer.ensures.same) (g.met.P.Port.same_number old now c.step-answer.ensures.same)
-      own id c.requires.1.0 (c.verb.ensures ∙ (c.decide-decision.ensures.decided.asks on).verb) c.step-answer.ensures.part c.step-answer.ensures.possible in
-      let goes = to_own {mine = g.mine} (λ x i l. IsPossible x i (event_by i (Verb.Ask 0) answer ∷ l) → next.under_way ≡ true) (sym keeps.config) (sym keeps.id) refl asked.going in
-      subst (λ n. MovesGoing k node.id g.mine node.lead next n) (sym asked.heeds) (moves_asked k node.id g.mine node.lead next decision.plan.heeded asks.odd named (stands.placed refl) (goes possible) asks.told)
+          let asks = c.decide-decision.ensures.asks on in
+          let asked = c.settle.ensures.asked on in
+          let named = (asks_parts node.zeal k node.id g.mine asks.out).1.0 in
+          let possible = possible_own (g.P.Port.config old) (g.P.Port.config now) k (g.P.Port.number old) (g.P.Port.number now) node.id (g.P.Port.part old) g.mine (g.P.Port.part now) c.verb.result (Verb.Ask 0) answer
+          (g.met.P.Port.same_config old now c.step-answer.ensures.same) (g.met.P.Port.same_number old now c.step-answer.ensures.same)
+          own id c.requires.1.0 (c.verb.ensures ∙ (c.decide-decision.ensures.decided.asks on).verb) c.step-answer.ensures.part c.step-answer.ensures.possible in
+          let goes = to_own {mine = g.mine} (λ x i l. IsPossible x i (event_by i (Verb.Ask 0) answer ∷ l) → next.under_way ≡ true) (sym keeps.config) (sym keeps.id) refl asked.going in
+          subst (λ n. MovesGoing k node.id g.mine node.lead next n) (sym asked.heeds) (moves_asked k node.id g.mine node.lead next decision.plan.heeded asks.odd named (stands.placed refl) (goes possible) asks.told)
       | inr off ↦
-      let plans = c.decide-decision.ensures.plans off in
-      let due = due_of decision.plan in
-      let says = to_own {mine = g.mine} (λ x i l. SaysTook x i l decision.plan.leads due decision.plan.heeded new.lead next answer note) (sym keeps.config) (sym keeps.id) refl (c.settle.ensures.took off).says in
-      going_moves node.zeal k node.id g.mine node.lead new.lead next decision.plan.leads due decision.plan.heeded answer note plans.leads (plans.led stands) plans.heeded plans.told plans.lead says
+          let plans = c.decide-decision.ensures.plans off in
+          let due = due_of decision.plan in
+          let says = to_own {mine = g.mine} (λ x i l. SaysTook x i l decision.plan.leads due decision.plan.heeded new.lead next answer note) (sym keeps.config) (sym keeps.id) refl (c.settle.ensures.took off).says in
+          going_moves node.zeal k node.id g.mine node.lead new.lead next decision.plan.leads due decision.plan.heeded answer note plans.leads (plans.led stands) plans.heeded plans.told plans.lead says
     ])
