@@ -6,7 +6,6 @@ ghost use Rattle.mu_model.specs.Contents.{IsConfig, row_count};
 ghost use Rattle.mu_model.specs.Ends.{outrun};
 ghost use Rattle.mu_model.specs.Parts.{IsPossible};
 ghost use Rattle.mu_model.specs.Room.{reserve};
-ghost use Rattle.mu_node.specs.Due.{asks_out_of_turn};
 ghost use Rattle.mu_node.specs.Journal.{IsListed, WasMade};
 ghost use Rattle.mu_knowledge.specs.Telling.{Tells};
 ghost use Rattle.mu_node.specs.Keeping.{Ends, HasEvents, Leaves};
