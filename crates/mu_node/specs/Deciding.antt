@@ -15,24 +15,22 @@ use Rattle.mu_follow.specs.CatchingUp.{or_else}
 use Rattle.mu_lead.specs.declared.note.Note.{Note}
 use Rattle.mu_lead.specs.declared.place.Place.{Place}
 use Rattle.mu_lead.specs.Again.{TellsAstray}
-use Rattle.mu_lead.specs.Beside.{leads_at}
 use Rattle.mu_lead.specs.Standing.{HasHeeded}
 use Rattle.mu_node.specs.declared.deciding.Decision.{Decision}
 use Rattle.mu_node.specs.declared.node.Node.{Node}
 use Rattle.mu_node.specs.declared.planning.Plan.{Plan}
-use Rattle.mu_node.specs.Cycle.{IsCycleDue}
 use Rattle.mu_node.specs.Due.{FitsLead, IsIdle, asks_out_of_turn, idle_due, is_eager, lead_due, verb_or_beat}
 use Rattle.mu_node.specs.Journal.{FollowsTurn}
-use Rattle.mu_node.specs.Keeping.{Becomes, IdlesBy}
 use Rattle.mu_node.specs.Node.{HasPlanned, IsGone, LivesForNode, StandsAs, StandsForNode}
 use Rattle.mu_node.specs.Notes.{HasTold, SaysTook, TellsTook, note_before}
 use Rattle.mu_node.specs.Plans.{due_of}
 use Rattle.mu_node.specs.Reads.{IsReadNext}
 
 -- it is the first ask of a replica that asks again, whose leader has left its leadership
-pub record AsksAnew (mine : List Event) (node : Node) (decision : Decision) : Type 0 where
+pub record AsksAnew (full : Bool) (mine : List Event) (node : Node)
+    (decision : Decision) : Type 0 where
   pub verb : decision.plan.verb ≡ Verb.Ask 0
-  pub gone : IsGone false node.follow.config node.id mine node
+  pub gone : IsGone full node.follow.config node.id mine node
   pub begins : node.lead.place ≡ Place.Ask 0
   pub heeded : HasHeeded mine node.lead
   pub odd : is_odd (length mine) ≡ true
@@ -40,22 +38,33 @@ pub record AsksAnew (mine : List Event) (node : Node) (decision : Decision) : Ty
   pub asks : asks_again node.follow.config node.id mine ≡ true
   pub eager : is_eager node.zeal ≡ true
 
--- it is what was planned
-pub record GoesOnByPlan (mine : List Event) (node : Node) (decision : Decision) : Type 0 where
+-- it is what was planned; if all is said of the node, one that isn't the leader's is a beat in a turn
+-- of the leader, or the node catches up
+pub record GoesOnByPlan (full : Bool) (mine : List Event) (node : Node)
+    (decision : Decision) : Type 0 where
   pub fits :
       FitsLead node.follow.config node.id mine node.lead decision.plan.leads (due_of decision.plan)
   pub turn : decision.plan.leads ≡ true → is_odd (length mine) ≡ true
-  pub planned : HasPlanned false node.follow.config node.id mine node
+  pub planned : HasPlanned full node.follow.config node.id mine node
   pub made : decision.plan.verb ≡ verb_or_beat (due_of decision.plan)
   pub some : decision.plan.leads ≡ true → is_some (due_of decision.plan) ≡ true
   pub reads : IsReadNext node.follow.config node.id mine (verb_or_beat (due_of decision.plan))
+  pub idles :
+      full ≡ true → decision.plan.leads ≡ false
+      → IsIdle node.follow.config node.id mine node.lead (verb_or_beat (due_of decision.plan))
 
--- the replica decided this after these events: it may do that, and is ready to take what it finds
-pub record HasDecided (mine : List Event) (node : Node) (decision : Decision) : Type 0 where
+-- the replica decided this after these events: it may do that, and is ready to take what it finds; it
+-- stands for them in full, or as far as nothing is said of how they were made
+pub record DecidedAs (full : Bool) (mine : List Event) (node : Node)
+    (decision : Decision) : Type 0 where
   pub config : IsConfig node.follow.config
   pub allowed : Allowed node.follow.config node.id mine decision.plan.verb
-  pub asks : decision.again ≡ true → AsksAnew mine node decision
-  pub plans : decision.again ≡ false → GoesOnByPlan mine node decision
+  pub asks : decision.again ≡ true → AsksAnew full mine node decision
+  pub plans : decision.again ≡ false → GoesOnByPlan full mine node decision
+
+-- the same if the configuration may have grown meanwhile
+abbrev pub HasDecided : List Event → Node → Decision → Type 0
+HasDecided mine node decision = DecidedAs false mine node decision
 
 -- the node lives once it took the answer, if that is possible
 abbrev pub LivesAfter : List Event → Node → Decision → Answer → Node → Type 0
@@ -65,52 +74,49 @@ LivesAfter mine before decision answer after =
     → LivesForNode before.follow.config before.id
     (event_by before.id decision.plan.verb answer ∷ mine) after
 
--- so it decided since a region has gone astray: its leader left its leadership, which is noted, and
--- else the node stands as it did
-pub record LeavesToAsk (mine : List Event) (before after : Node) (note : Note) : Type 0 where
+-- it stands then as it decided, in full if the event was made as it was due
+abbrev pub StandsAfter : List Event → Node → Decision → Answer → Node → Type 0
+StandsAfter mine before decision answer after =
+    (full : Bool) → DecidedAs full mine before decision
+    → (full ≡ true
+    → FollowsTurn before.zeal before.follow.config before.id mine
+    (event_by before.id decision.plan.verb answer))
+    → IsPossible before.follow.config before.id
+    (event_by before.id decision.plan.verb answer ∷ mine)
+    → StandsAs full before.follow.config before.id
+    (event_by before.id decision.plan.verb answer ∷ mine) after
+
+-- so it decided since a region has gone astray, which its note names
+pub record LeavesToAsk (mine : List Event) (before : Node) (note : Note) : Type 0 where
   pub out : asks_out_of_turn before.zeal before.follow.config before.id mine ≡ true
   pub odd : is_odd (length mine) ≡ true
-  pub gone : Becomes IsGone mine before after
   pub told : TellsAstray before.follow.config before.id mine note
 
--- so it decided as it was due: what the leader has due in its turn, or what an idle turn gives, and
--- what the cycle has due in another
+-- so it decided by the turn: its leader was told which leader the scores name in a turn of its own,
+-- in which what it has due is made, or what an idle turn gives
 pub record PlansByTurn (mine : List Event) (before after : Node) (plan : Plan) : Type 0 where
   pub calm :
       is_odd (length mine) ≡ true
       → asks_out_of_turn before.zeal before.follow.config before.id mine ≡ false
-  pub planned : Becomes HasPlanned mine before after
   pub leads :
       plan.leads
       ≡ (is_odd (length mine)
       && is_some (lead_due before.follow.config before.id mine before.lead))
-  pub idles : IdlesBy mine before after plan
   pub led :
       StandsForNode before.follow.config before.id mine before → is_odd (length mine) ≡ true
       → due_of plan
       ≡ or_else (lead_due before.follow.config before.id mine before.lead)
       (idle_due before.zeal before.follow.config before.id mine)
-  pub cycle :
-      StandsForNode before.follow.config before.id mine before → is_odd (length mine) ≡ false
-      → IsCycleDue before.zeal before.follow.config before.id mine (leads_at before.lead.place)
-      (due_of plan)
   pub heeded : plan.heeded ≡ note_before before.follow.config before.id mine before.lead
   pub told :
       is_odd (length mine) ≡ true
       → HasTold before.follow.config before.id mine before.lead after.lead
   pub lead : is_odd (length mine) ≡ false → after.lead ≡ before.lead
 
--- the answer to the first ask was taken, and its note is what was noted before it
+-- the answer to the first ask was taken: a leadership is under way, and the note is what was noted
+-- before it
 pub record SettlesAsk (mine : List Event) (before : Node) (heeded : Note) (answer : Answer)
     (after : Node) (note : Note) : Type 0 where
-  pub stands :
-      (full : Bool) → IsGone full before.follow.config before.id mine before
-      → (full ≡ true
-      → FollowsTurn before.zeal before.follow.config before.id mine
-      (event_by before.id (Verb.Ask 0) answer))
-      → IsPossible before.follow.config before.id (event_by before.id (Verb.Ask 0) answer ∷ mine)
-      → StandsAs full before.follow.config before.id
-      (event_by before.id (Verb.Ask 0) answer ∷ mine) after
   pub going :
       IsPossible before.follow.config before.id (event_by before.id (Verb.Ask 0) answer ∷ mine)
       → after.lead.under_way ≡ true
@@ -119,18 +125,6 @@ pub record SettlesAsk (mine : List Event) (before : Node) (heeded : Note) (answe
 -- the answer to what was planned was taken, and noted as what it means
 pub record SettlesPlan (mine : List Event) (before : Node) (plan : Plan) (answer : Answer)
     (after : Node) (note : Note) : Type 0 where
-  pub stands :
-      (full : Bool) → HasPlanned full before.follow.config before.id mine before
-      → (full ≡ true → plan.leads ≡ false
-      → IsIdle before.follow.config before.id mine before.lead (verb_or_beat (due_of plan)))
-      → (full ≡ true
-      → FollowsTurn before.zeal before.follow.config before.id mine
-      (event_by before.id (verb_or_beat (due_of plan)) answer))
-      → IsReadNext before.follow.config before.id mine (verb_or_beat (due_of plan))
-      → IsPossible before.follow.config before.id
-      (event_by before.id (verb_or_beat (due_of plan)) answer ∷ mine)
-      → StandsAs full before.follow.config before.id
-      (event_by before.id (verb_or_beat (due_of plan)) answer ∷ mine) after
   pub tells :
       TellsTook before.follow.config before.id mine plan.leads (due_of plan) plan.heeded answer note
   pub says :

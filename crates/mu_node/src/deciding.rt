@@ -1,8 +1,10 @@
 //! A step in two halves: what the replica decides to do, and how it takes what that found.
-ghost use Rattle.std.specs.Prelude.{List, false, true, ◌≡◌};
+ghost use Rattle.std.specs.Prelude.{Bool, List, false, true, ◌≡◌};
 ghost use Rattle.mu_model.specs.declared.event.Event.{Event as SomeEvent};
-ghost use Rattle.mu_node.specs.Deciding.{HasDecided, LeavesToAsk, LivesAfter, PlansByTurn, SettlesAsk, SettlesPlan};
+ghost use Rattle.mu_node.specs.Cycle.{IsMade};
+ghost use Rattle.mu_node.specs.Deciding.{DecidedAs, HasDecided, LeavesToAsk, LivesAfter, PlansByTurn, SettlesAsk, SettlesPlan, StandsAfter};
 ghost use Rattle.mu_node.specs.Keeping.{KeepsSelf, MayStep};
+ghost use Rattle.mu_node.specs.Node.{StandsAs, StandsForNode};
 
 use crate::node::Node;
 use crate::planning::Plan;
@@ -37,8 +39,12 @@ impl Node {
         requires { MayStep mine self.old }
         ensures decided { HasDecided mine self.new result }
         ensures keeps { KeepsSelf self.old self.new }
-        ensures asks { result.again ≡ true
-            → LeavesToAsk mine self.old self.new result.plan.heeded }
+        ensures made { StandsForNode self.old.follow.config self.old.id mine self.old
+            → IsMade self.old.zeal self.old.follow.config self.old.id mine result.plan.verb }
+        ensures stands { (full : Bool)
+            → StandsAs full self.old.follow.config self.old.id mine self.old
+            → DecidedAs full mine self.new result }
+        ensures asks { result.again ≡ true → LeavesToAsk mine self.old result.plan.heeded }
         ensures plans { result.again ≡ false → PlansByTurn mine self.old self.new result.plan }
     {
         if self.asks_out_of_turn() {
@@ -66,6 +72,7 @@ impl Node {
         ghost mine: { List SomeEvent }
         requires { HasDecided mine self.old decision }
         ensures lives { LivesAfter mine self.old decision answer self.new }
+        ensures stands { StandsAfter mine self.old decision answer self.new }
         ensures zeal { self.new.zeal ≡ self.old.zeal }
         ensures stops { self.new.stops ≡ self.old.stops }
         ensures asked { decision.again ≡ true
