@@ -27,10 +27,9 @@ use Rattle.mu_node.specs.Plans.{due_of}
 use Rattle.mu_node.specs.Reads.{IsReadNext}
 
 -- it is the first ask of a replica that asks again, whose leader has left its leadership
-pub record AsksAnew (full : Bool) (mine : List Event) (node : Node)
-    (decision : Decision) : Type 0 where
+pub record AsksAnew (mine : List Event) (node : Node) (decision : Decision) : Type 0 where
   pub verb : decision.plan.verb ≡ Verb.Ask 0
-  pub gone : IsGone full node.follow.config node.id mine node
+  pub gone : IsGone false node.follow.config node.id mine node
   pub begins : node.lead.place ≡ Place.Ask 0
   pub heeded : HasHeeded mine node.lead
   pub odd : is_odd (length mine) ≡ true
@@ -38,33 +37,22 @@ pub record AsksAnew (full : Bool) (mine : List Event) (node : Node)
   pub asks : asks_again node.follow.config node.id mine ≡ true
   pub eager : is_eager node.zeal ≡ true
 
--- it is what was planned; if all is said of the node, one that isn't the leader's is a beat in a turn
--- of the leader, or the node catches up
-pub record GoesOnByPlan (full : Bool) (mine : List Event) (node : Node)
-    (decision : Decision) : Type 0 where
+-- it is what was planned
+pub record GoesOnByPlan (mine : List Event) (node : Node) (decision : Decision) : Type 0 where
   pub fits :
       FitsLead node.follow.config node.id mine node.lead decision.plan.leads (due_of decision.plan)
   pub turn : decision.plan.leads ≡ true → is_odd (length mine) ≡ true
-  pub planned : HasPlanned full node.follow.config node.id mine node
+  pub planned : HasPlanned false node.follow.config node.id mine node
   pub made : decision.plan.verb ≡ verb_or_beat (due_of decision.plan)
   pub some : decision.plan.leads ≡ true → is_some (due_of decision.plan) ≡ true
   pub reads : IsReadNext node.follow.config node.id mine (verb_or_beat (due_of decision.plan))
-  pub idles :
-      full ≡ true → decision.plan.leads ≡ false
-      → IsIdle node.follow.config node.id mine node.lead (verb_or_beat (due_of decision.plan))
 
--- the replica decided this after these events: it may do that, and is ready to take what it finds; it
--- stands for them in full, or as far as nothing is said of how they were made
-pub record DecidedAs (full : Bool) (mine : List Event) (node : Node)
-    (decision : Decision) : Type 0 where
+-- the replica decided this after these events: it may do that, and is ready to take what it finds
+pub record HasDecided (mine : List Event) (node : Node) (decision : Decision) : Type 0 where
   pub config : IsConfig node.follow.config
   pub allowed : Allowed node.follow.config node.id mine decision.plan.verb
-  pub asks : decision.again ≡ true → AsksAnew full mine node decision
-  pub plans : decision.again ≡ false → GoesOnByPlan full mine node decision
-
--- the same if the configuration may have grown meanwhile
-abbrev pub HasDecided : List Event → Node → Decision → Type 0
-HasDecided mine node decision = DecidedAs false mine node decision
+  pub asks : decision.again ≡ true → AsksAnew mine node decision
+  pub plans : decision.again ≡ false → GoesOnByPlan mine node decision
 
 -- the node lives once it took the answer, if that is possible
 abbrev pub LivesAfter : List Event → Node → Decision → Answer → Node → Type 0
@@ -74,10 +62,21 @@ LivesAfter mine before decision answer after =
     → LivesForNode before.follow.config before.id
     (event_by before.id decision.plan.verb answer ∷ mine) after
 
--- it stands then as it decided, in full if the event was made as it was due
+-- ready to take the answer it stands for these events, in full or as far as nothing is said of how
+-- they were made; in full, a step of a turn of the leader that isn't the leader's is a beat, or the
+-- replica catches up
+pub record IsReady (full : Bool) (mine : List Event) (node : Node)
+    (decision : Decision) : Type 0 where
+  pub gone : decision.again ≡ true → IsGone full node.follow.config node.id mine node
+  pub planned : decision.again ≡ false → HasPlanned full node.follow.config node.id mine node
+  pub idles :
+      full ≡ true → decision.again ≡ false → decision.plan.leads ≡ false
+      → IsIdle node.follow.config node.id mine node.lead (verb_or_beat (due_of decision.plan))
+
+-- it stands then as it did, in full if the event was made as it was due
 abbrev pub StandsAfter : List Event → Node → Decision → Answer → Node → Type 0
 StandsAfter mine before decision answer after =
-    (full : Bool) → DecidedAs full mine before decision
+    (full : Bool) → IsReady full mine before decision
     → (full ≡ true
     → FollowsTurn before.zeal before.follow.config before.id mine
     (event_by before.id decision.plan.verb answer))

@@ -2,7 +2,7 @@
 ghost use Rattle.std.specs.Prelude.{Bool, List, false, true, ◌≡◌};
 ghost use Rattle.mu_model.specs.declared.event.Event.{Event as SomeEvent};
 ghost use Rattle.mu_node.specs.Cycle.{IsMade};
-ghost use Rattle.mu_node.specs.Deciding.{DecidedAs, HasDecided, LeavesToAsk, LivesAfter, PlansByTurn, SettlesAsk, SettlesPlan, StandsAfter};
+ghost use Rattle.mu_node.specs.Deciding.{HasDecided, IsReady, LeavesToAsk, LivesAfter, PlansByTurn, SettlesAsk, SettlesPlan, StandsAfter};
 ghost use Rattle.mu_node.specs.Keeping.{KeepsSelf, MayStep};
 ghost use Rattle.mu_node.specs.Node.{StandsAs, StandsForNode};
 
@@ -43,7 +43,7 @@ impl Node {
             → IsMade self.old.zeal self.old.follow.config self.old.id mine result.plan.verb }
         ensures stands { (full : Bool)
             → StandsAs full self.old.follow.config self.old.id mine self.old
-            → DecidedAs full mine self.new result }
+            → IsReady full mine self.new result }
         ensures asks { result.again ≡ true → LeavesToAsk mine self.old result.plan.heeded }
         ensures plans { result.again ≡ false → PlansByTurn mine self.old self.new result.plan }
     {

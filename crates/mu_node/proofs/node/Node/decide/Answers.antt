@@ -50,6 +50,16 @@ leave_leadership-note-requires g c =
 
 pub returns-then-asks_out_of_turn-clause-stands : goal.returns-then-asks_out_of_turn-clause-stands
 returns-then-asks_out_of_turn-clause-stands g c full held =
+    let new = c.leave_leadership-note.new.self in
+    let keeps = c.leave_leadership-note.ensures.keeps in
+    record {
+      gone = λ on. to_own {mine = g.mine} (λ x i l. IsGone full x i l new) keeps.config keeps.id refl (c.leave_leadership-note.ensures.gone full held);
+      planned = λ off. absurd (true≢false off);
+      idles = λ whole off. absurd (true≢false off);
+    }
+
+pub returns-then-asks_out_of_turn-clause-decided : goal.returns-then-asks_out_of_turn-clause-decided
+returns-then-asks_out_of_turn-clause-decided g c =
     let node = c.args.self.now in
     let new = c.leave_leadership-note.new.self in
     let keeps = c.leave_leadership-note.ensures.keeps in
@@ -62,7 +72,7 @@ returns-then-asks_out_of_turn-clause-stands g c full held =
       allowed = to_own {mine = g.mine} (λ x i l. Allowed x i l (Verb.Ask 0)) keeps.config keeps.id refl may;
       asks = λ on. record {
         verb = refl;
-        gone = to_own {mine = g.mine} (λ x i l. IsGone full x i l new) keeps.config keeps.id refl (c.leave_leadership-note.ensures.gone full held);
+        gone = to_own {mine = g.mine} (λ x i l. IsGone false x i l new) keeps.config keeps.id refl (c.leave_leadership-note.ensures.gone false c.requires.stands);
         begins = c.leave_leadership-note.ensures.begins;
         heeded = c.leave_leadership-note.ensures.heeded;
         odd = both.1;
@@ -72,9 +82,6 @@ returns-then-asks_out_of_turn-clause-stands g c full held =
       };
       plans = λ off. absurd (true≢false off);
     }
-
-pub returns-then-asks_out_of_turn-clause-decided : goal.returns-then-asks_out_of_turn-clause-decided
-returns-then-asks_out_of_turn-clause-decided g c = returns-then-asks_out_of_turn-clause-stands g c false c.requires.stands
 
 pub returns-then-asks_out_of_turn-clause-keeps : goal.returns-then-asks_out_of_turn-clause-keeps
 returns-then-asks_out_of_turn-clause-keeps g c = c.leave_leadership-note.ensures.keeps
@@ -102,27 +109,33 @@ returns-else-asks_out_of_turn-clause-stands g c full held =
     let node = c.args.self.now in
     let new = c.plan.new.self in
     let plan = c.plan.ensures in
+    record {
+      gone = λ on. absurd (true≢false (sym on));
+      planned = λ off. to_own {mine = g.mine} (λ x i l. HasPlanned full x i l new) plan.keeps.config plan.keeps.id refl (plan.planned full held);
+      idles = λ whole off beside. to_own {mine = g.mine} (λ x i l. IsIdle x i l new.lead (verb_or_beat (due_of c.plan.result))) plan.keeps.config plan.keeps.id refl
+          (plan.idles (in_full full node.follow.config node.id g.mine node whole held) beside);
+    }
+
+pub returns-else-asks_out_of_turn-clause-decided : goal.returns-else-asks_out_of_turn-clause-decided
+returns-else-asks_out_of_turn-clause-decided g c =
+    let node = c.args.self.now in
+    let new = c.plan.new.self in
+    let plan = c.plan.ensures in
     let keeps = plan.keeps in
-    let due = due_of c.plan.result in
     record {
       config = subst (λ x. IsConfig x) (sym keeps.config) c.requires.config;
       allowed = to_own {mine = g.mine} (λ x i l. Allowed x i l c.plan.result.verb) keeps.config keeps.id refl
           (subst (λ v. Allowed node.follow.config node.id g.mine v) (sym plan.is.made) plan.is.allowed);
       asks = λ on. absurd (true≢false (sym on));
       plans = λ off. record {
-        fits = to_own {mine = g.mine} (λ x i l. FitsLead x i l new.lead c.plan.result.leads due) keeps.config keeps.id refl plan.is.fits;
+        fits = to_own {mine = g.mine} (λ x i l. FitsLead x i l new.lead c.plan.result.leads (due_of c.plan.result)) keeps.config keeps.id refl plan.is.fits;
         turn = λ on. (and_parts (is_odd (length g.mine)) (is_some (lead_due node.follow.config node.id g.mine node.lead)) (sym plan.leads ∙ on)).0;
-        planned = to_own {mine = g.mine} (λ x i l. HasPlanned full x i l new) keeps.config keeps.id refl (plan.planned full held);
+        planned = to_own {mine = g.mine} (λ x i l. HasPlanned false x i l new) keeps.config keeps.id refl (plan.planned false c.requires.stands);
         made = plan.is.made;
         some = plan.is.some;
-        reads = to_own {mine = g.mine} (λ x i l. IsReadNext x i l (verb_or_beat due)) keeps.config keeps.id refl plan.is.reads;
-        idles = λ on beside. to_own {mine = g.mine} (λ x i l. IsIdle x i l new.lead (verb_or_beat due)) keeps.config keeps.id refl
-            (plan.idles (in_full full node.follow.config node.id g.mine node on held) beside);
+        reads = to_own {mine = g.mine} (λ x i l. IsReadNext x i l (verb_or_beat (due_of c.plan.result))) keeps.config keeps.id refl plan.is.reads;
       };
     }
-
-pub returns-else-asks_out_of_turn-clause-decided : goal.returns-else-asks_out_of_turn-clause-decided
-returns-else-asks_out_of_turn-clause-decided g c = returns-else-asks_out_of_turn-clause-stands g c false c.requires.stands
 
 pub returns-else-asks_out_of_turn-clause-keeps : goal.returns-else-asks_out_of_turn-clause-keeps
 returns-else-asks_out_of_turn-clause-keeps g c = c.plan.ensures.keeps
