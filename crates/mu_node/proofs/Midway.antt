@@ -1,5 +1,5 @@
 -- What a replica decided to do it may do with one row more too, and with other room in its parts.
-use Rattle.std.proofs.Common.{◌≡◌, ◌∙◌, ◌==◌, ◌<◌, ◌≤◌, ◌∷◌, ◌++◌, ℕ, Bool, true, false, List, [], None, Some, ap, length, refl, subst, sym, true≢false}
+use Rattle.std.proofs.Common.{◌≡◌, ◌∙◌, ◌==◌, ◌<◌, ◌≤◌, ◌∷◌, ◌++◌, ℕ, Bool, true, false, List, [], None, ap, length, refl, subst, sym, true≢false}
 use Rattle.std.specs.declared.option.Option.{Option}
 use Rattle.std.specs.Prelude.{get_or, if◌then◌else◌, is_some, vec_capacity}
 use Rattle.mu_model.specs.declared.config.Config.{Config}
@@ -38,7 +38,13 @@ use Rattle.mu_node.specs.Node.{HasPlanned, HoldsNode, IsGone}
 use Rattle.mu_node.specs.Plans.{due_of}
 use Rattle.mu_node.specs.Reads.{IsReadNext}
 use Rattle.mu_node.proofs.Growing.{follow_roomy, handed_kept, lead_roomy, node_same, read_kept, with_count}
-use Rattle.mu_node.proofs.Moving.{to_own, to_port}
+
+-- what holds of a configuration and a replica holds of those of a node that has them, and back
+owned : {k own : Config} {n id : ℕ} (F : Config → ℕ → Type 0) → own ≡ k → id ≡ n → F k n → F own id
+owned {own = own} {n = n} F same_k same_n it = subst (λ i. F own i) (sym same_n) (subst (λ x. F x n) (sym same_k) it)
+
+ported : {k own : Config} {n id : ℕ} (F : Config → ℕ → Type 0) → own ≡ k → id ≡ n → F own id → F k n
+ported {own = own} {n = n} F same_k same_n it = subst (λ x. F x n) same_k (subst (λ i. F own i) same_n it)
 
 -- what may be made may be made with rows more
 pub allowed_more : (c : Config) (more : List Row) (r : ℕ) (mine : List Event) (verb : Verb) → IsConfig c → IsConfig (with_more c more) → IsPossible c r mine → Allowed c r mine verb → Allowed (with_more c more) r mine verb
@@ -152,36 +158,36 @@ pub record IsOver (c : Config) (row : Row) (r : ℕ) (mine : List Event) (old ne
 asks_over : (c : Config) (row : Row) (r : ℕ) (mine : List Event) (old new : Node) (d : Decision) → IsOver c row r mine old new → AsksAnew mine old d → AsksAnew mine new d
 asks_over c row r mine old new d over it =
     let c2 = with_more c (row ∷ []) in
-    let gone = to_port (λ k i l. IsGone false k i l old) over.was over.own refl it.gone in
+    let gone = ported (λ k i. IsGone false k i mine old) over.was over.own it.gone in
     let count = over.handed ∙ (gone.handed ∙ sym (handed_kept c (row ∷ []) r mine over.good over.grown over.possible)) in
     let id = over.id ∙ over.own in
     record {
       verb = it.verb;
-      gone = to_own (λ k i l. IsGone false k i l new) over.config id refl (with_count c2 r new.follow.progress.handed (handed_before c2 r mine) mine new count over.stands);
+      gone = owned (λ k i. IsGone false k i mine new) over.config id (with_count c2 r new.follow.progress.handed (handed_before c2 r mine) mine new count over.stands);
       begins = over.lead.stays (ap rests it.begins) ∙ it.begins;
       heeded = heeded_over row mine old.lead new.lead over.lead it.heeded;
       odd = it.odd;
-      named = to_own (λ k i l. is_named k i l ≡ true) over.config id refl (to_port (λ k i l. is_named k i l ≡ true) over.was over.own refl it.named);
-      asks = to_own (λ k i l. asks_again k i l ≡ true) over.config id refl (to_port (λ k i l. asks_again k i l ≡ true) over.was over.own refl it.asks);
+      named = owned (λ k i. is_named k i mine ≡ true) over.config id (ported (λ k i. is_named k i mine ≡ true) over.was over.own it.named);
+      asks = owned (λ k i. asks_again k i mine ≡ true) over.config id (ported (λ k i. asks_again k i mine ≡ true) over.was over.own it.asks);
       eager = ap is_eager over.zeal ∙ it.eager;
     }
 
 plans_over : (c : Config) (row : Row) (r : ℕ) (mine : List Event) (old new : Node) (d : Decision) → IsOver c row r mine old new → GoesOnByPlan mine old d → GoesOnByPlan mine new d
 plans_over c row r mine old new d over it =
     let c2 = with_more c (row ∷ []) in
-    let planned = to_port (λ k i l. HasPlanned false k i l old) over.was over.own refl it.planned in
+    let planned = ported (λ k i. HasPlanned false k i mine old) over.was over.own it.planned in
     let count = over.handed ∙ (planned.handed ∙ sym (now_handed_kept c (row ∷ []) r mine over.good over.grown over.possible)) in
     let id = over.id ∙ over.own in
     let due = due_of d.plan in
-    let fits = to_port (λ k i l. FitsLead k i l old.lead d.plan.leads due) over.was over.own refl it.fits in
-    let reads = to_port (λ k i l. IsReadNext k i l (verb_or_beat due)) over.was over.own refl it.reads in
+    let fits = ported (λ k i. FitsLead k i mine old.lead d.plan.leads due) over.was over.own it.fits in
+    let reads = ported (λ k i. IsReadNext k i mine (verb_or_beat due)) over.was over.own it.reads in
     record {
-      fits = to_own (λ k i l. FitsLead k i l new.lead d.plan.leads due) over.config id refl (fits_over c row r mine old.lead new.lead d.plan.leads due over.lead it.some fits);
+      fits = owned (λ k i. FitsLead k i mine new.lead d.plan.leads due) over.config id (fits_over c row r mine old.lead new.lead d.plan.leads due over.lead it.some fits);
       turn = it.turn;
-      planned = to_own (λ k i l. HasPlanned false k i l new) over.config id refl (with_count c2 r new.follow.progress.handed (handed c2 r mine) mine new count over.stands);
+      planned = owned (λ k i. HasPlanned false k i mine new) over.config id (with_count c2 r new.follow.progress.handed (handed c2 r mine) mine new count over.stands);
       made = it.made;
       some = it.some;
-      reads = to_own (λ k i l. IsReadNext k i l (verb_or_beat due)) over.config id refl (read_kept c (row ∷ []) r mine (verb_or_beat due) over.good over.grown over.possible reads);
+      reads = owned (λ k i. IsReadNext k i mine (verb_or_beat due)) over.config id (read_kept c (row ∷ []) r mine (verb_or_beat due) over.good over.grown over.possible reads);
     }
 
 -- it has decided what it had
@@ -189,10 +195,10 @@ pub decided_over : (c : Config) (row : Row) (r : ℕ) (mine : List Event) (old n
 decided_over c row r mine old new d over it =
     let id = over.id ∙ over.own in
     let verb = d.plan.verb in
-    let may = to_port (λ k i l. Allowed k i l verb) over.was over.own refl it.allowed in
+    let may = ported (λ k i. Allowed k i mine verb) over.was over.own it.allowed in
     record {
       config = subst IsConfig (sym over.config) over.grown;
-      allowed = to_own (λ k i l. Allowed k i l verb) over.config id refl (allowed_more c (row ∷ []) r mine verb over.good over.grown over.possible may);
+      allowed = owned (λ k i. Allowed k i mine verb) over.config id (allowed_more c (row ∷ []) r mine verb over.good over.grown over.possible may);
       asks = λ on. asks_over c row r mine old new d over (it.asks on);
       plans = λ off. plans_over c row r mine old new d over (it.plans off);
     }
@@ -269,12 +275,12 @@ roomier_asks mine old new d is it =
     let k = old.follow.config in
     record {
       verb = it.verb;
-      gone = to_own (λ k i l. IsGone false k i l new) is.config is.id refl (roomier_holds k old.id (handed_before k old.id mine) mine old new is it.gone);
+      gone = owned (λ k i. IsGone false k i mine new) is.config is.id (roomier_holds k old.id (handed_before k old.id mine) mine old new is it.gone);
       begins = ap (λ (l : Lead). l.place) is.others ∙ it.begins;
       heeded = subst (λ (l : Lead). HasHeeded mine l) (sym is.others) it.heeded;
       odd = it.odd;
-      named = to_own (λ k i l. is_named k i l ≡ true) is.config is.id refl it.named;
-      asks = to_own (λ k i l. asks_again k i l ≡ true) is.config is.id refl it.asks;
+      named = owned (λ k i. is_named k i mine ≡ true) is.config is.id it.named;
+      asks = owned (λ k i. asks_again k i mine ≡ true) is.config is.id it.asks;
       eager = ap is_eager is.zeal ∙ it.eager;
     }
 
@@ -283,12 +289,12 @@ roomier_plans mine old new d is it =
     let k = old.follow.config in
     let due = due_of d.plan in
     record {
-      fits = to_own (λ k i l. FitsLead k i l new.lead d.plan.leads due) is.config is.id refl (fits_roomy k old.id mine old.lead new.lead d.plan.leads due is.others is.written it.fits);
+      fits = owned (λ k i. FitsLead k i mine new.lead d.plan.leads due) is.config is.id (fits_roomy k old.id mine old.lead new.lead d.plan.leads due is.others is.written it.fits);
       turn = it.turn;
-      planned = to_own (λ k i l. HasPlanned false k i l new) is.config is.id refl (roomier_holds k old.id (handed k old.id mine) mine old new is it.planned);
+      planned = owned (λ k i. HasPlanned false k i mine new) is.config is.id (roomier_holds k old.id (handed k old.id mine) mine old new is it.planned);
       made = it.made;
       some = it.some;
-      reads = to_own (λ k i l. IsReadNext k i l (verb_or_beat due)) is.config is.id refl it.reads;
+      reads = owned (λ k i. IsReadNext k i mine (verb_or_beat due)) is.config is.id it.reads;
     }
 
 -- it stands on
@@ -300,7 +306,7 @@ stands_on old new follow config same others items lead id replicas zeal budget g
   lives = λ c r mine held. roomier_holds c r (handed_before c r mine) mine old new is held;
   decided = λ mine d it. record {
     config = subst IsConfig (sym config) it.config;
-    allowed = to_own (λ k i l. Allowed k i l d.plan.verb) config id refl it.allowed;
+    allowed = owned (λ k i. Allowed k i mine d.plan.verb) config id it.allowed;
     asks = λ on. roomier_asks mine old new d is (it.asks on);
     plans = λ off. roomier_plans mine old new d is (it.plans off);
   };
