@@ -14,7 +14,7 @@ use Rattle.mu_words.proofs.Law.{place_named}
 use Rattle.mu_words.proofs.Limits.{config_is_limited}
 use Rattle.lone_words.specs.declared.access.Shape.{Shape}
 use Rattle.lone_words.specs.declared.access.Spot.{Spot}
-use Rattle.lone_words.specs.Coming.{AreDecided, AreKnown, Decided, IsDecidedOnce, accesses_of}
+use Rattle.lone_words.specs.Coming.{IsDecidedOnce, accesses_of}
 use Rattle.lone_words.specs.Memory.{AreAnswered, IsAnsweredOnce, IsFound, Made, Own, events_after, held, own_after, own_with, stores}
 use Rattle.lone_words.specs.Spots.{IsShapeOf, layout_of, spot_of}
 use Rattle.lone_words.proofs.Coming.{decided_law, held_same}

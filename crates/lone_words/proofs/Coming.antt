@@ -19,7 +19,7 @@ use Rattle.mu_words.specs.Standing.{close_grant}
 use Rattle.mu_words.specs.Verbs.{IsMove, answer_from}
 use Rattle.lone_words.specs.declared.access.Shape.{Shape}
 use Rattle.lone_words.specs.declared.access.Spot.{Spot}
-use Rattle.lone_words.specs.Coming.{AreDecided, AreKnown, Decided, DecidedAreAnswered, IsDecidedOnce, RowsMayCome, accesses_of}
+use Rattle.lone_words.specs.Coming.{Decided, DecidedAreAnswered, IsDecidedOnce, RowsMayCome, accesses_of}
 use Rattle.lone_words.specs.Memory.{AreAnswered, IsAnsweredOnce, Made, Own, events_after, held, left_by, own_after, own_with, spot_made}
 use Rattle.lone_words.specs.Spots.{IsShapeOf, is_same_spot, spot_of}
 use Rattle.lone_words.proofs.OneList.{one_list_law}
@@ -109,5 +109,5 @@ pub decided_law : DecidedAreAnswered
 decided_law c s [] good known decided = tt
 decided_law c s (d ∷ past) good known decided = (
   decided_law c s past good known.0 decided.0,
-  once_known c s (accesses_of past) d known.1.0 known.1.1 good decided.1,
+  once_known c s (accesses_of past) d known.1 known.2 good decided.1,
 )
