@@ -1,6 +1,6 @@
 /* Replicas over an array of words, by random schedules: accesses are made late and taken late, replicas
- * are cut off at any moment, commands come, stray words are offered. Each list is judged, in the order of
- * its accesses, and no two replicas may have different replies.
+ * are cut off at any moment, commands come to each at moments of its own, stray words are offered. Each
+ * list is judged, in the order of its accesses, and no two replicas may have different replies.
  *
  *     cc -std=c11 -Ic c/alone.c out/libmu.a -o alone && ./alone RUNS SEED */
 #include "mu.h"
@@ -18,6 +18,7 @@ struct one {
     mu_operation operation;
     uint64_t found;
     size_t event; /* which access it made last */
+    uint32_t rows, decided, needs; /* how many rows it knows, knew when it decided, and has to know to take the word */
     enum moment moment;
     int has_made;
 };
@@ -25,6 +26,8 @@ struct one {
 struct run {
     struct one each[MOST];
     uint32_t count, words, rows, last_client;
+    uint32_t used; /* the rows by which an access so far was decided */
+    char come[COMMANDS][TEXT];
     uint64_t *memory;
     char (*lines)[LINE];
     size_t *lengths;
@@ -91,6 +94,7 @@ static void begin(struct run *run)
         }
     }
     run->last_client = clients - 1;
+    run->used = run->rows;
     snprintf(run->job + used, JOB - (size_t)used, "end\n");
     uint32_t eager = below(2);
     for (uint32_t r = 0; r < run->count; r++) {
@@ -98,6 +102,7 @@ static void begin(struct run *run)
         if (mu_replica_new(&run->each[r].replica, run->job, strlen(run->job), r, eager, COMMANDS) != MU_DONE)
             fail("no replica");
         run->each[r].moment = RESTS;
+        run->each[r].rows = run->rows;
         run->each[r].has_made = 0;
     }
     run->job[used] = 0;
@@ -108,9 +113,25 @@ static void begin(struct run *run)
     run->events = 0;
 }
 
+/* Appends what has come, up to this row; what is under way stays the same. */
+static void append_to(struct run *run, struct one *one, uint32_t rows)
+{
+    mu_operation again;
+    uint32_t row;
+    for (; one->rows < rows; one->rows++) {
+        const char *line = run->come[one->rows];
+        if (mu_replica_append(&one->replica, run->last_client, line, strlen(line), &row) != MU_DONE || row != one->rows)
+            fail("a command isn't appended");
+        if ((one->moment == ASKED || one->moment == MADE) &&
+            (mu_replica_next(&one->replica, &again) != MU_DONE || memcmp(&again, &one->operation, sizeof again) != 0))
+            fail("a command changes the access");
+    }
+}
+
 /* Takes the word that was found, and keeps the event's line at the place of its access. */
 static void take(struct run *run, struct one *one)
 {
+    append_to(run, one, one->needs);
     if (one->operation.kind != MU_STORE && below(50) == 0 && mu_replica_take(&one->replica, UINT64_MAX) != MU_STRAY)
         fail("a stray word is taken");
     if (mu_replica_take(&one->replica, one->found) != MU_DONE)
@@ -121,18 +142,26 @@ static void take(struct run *run, struct one *one)
     one->has_made = 0;
 }
 
-/* One step of a replica: it asks, its access is made, or it takes the word. */
+/* One step of a replica: it asks, its access is made, or it takes the word. Before that it may take one
+ * command that has come. When it takes a word it has to know the rows by which the accesses before its
+ * own were decided, and no others. */
 static void step(struct run *run, struct one *one)
 {
+    if (one->moment < CUT && one->rows < run->rows && below(20) == 0)
+        append_to(run, one, one->rows + 1);
     if (one->moment == RESTS) {
         uint32_t status = mu_replica_next(&one->replica, &one->operation);
         one->moment = status == MU_DONE ? ASKED : HALTED;
+        one->decided = one->rows;
     } else if (one->moment == ASKED) {
         mu_operation again;
         if (mu_replica_next(&one->replica, &again) != MU_DONE || memcmp(&again, &one->operation, sizeof again) != 0)
             fail("another access");
         one->found = made(&run->memory[(size_t)one->operation.host * run->words + one->operation.place], &again);
         one->event = run->events++;
+        one->needs = run->used;
+        if (run->used < one->decided)
+            run->used = one->decided;
         one->has_made = 1;
         one->moment = MADE;
     } else if (one->moment == MADE) {
@@ -141,24 +170,13 @@ static void step(struct run *run, struct one *one)
     }
 }
 
-/* A command comes: all that go on are at rest then. */
-static void append(struct run *run)
+/* A command comes: each replica takes it when it will. */
+static void come(struct run *run)
 {
-    char line[TEXT];
-    uint32_t row;
     if (run->rows == COMMANDS)
         return;
+    char *line = run->come[run->rows++];
     draw_command(line);
-    for (uint32_t r = 0; r < run->count; r++)
-        while (run->each[r].moment == ASKED || run->each[r].moment == MADE)
-            step(run, &run->each[r]);
-    for (uint32_t r = 0; r < run->count; r++)
-        if (run->each[r].moment == RESTS) {
-            if (mu_replica_append(&run->each[r].replica, run->last_client, line, strlen(line), &row) != MU_DONE ||
-                row != run->rows)
-                fail("a command isn't appended");
-        }
-    run->rows++;
     size_t used = strlen(run->job);
     snprintf(run->job + used, JOB - used, "%s\n", line);
 }
@@ -168,7 +186,7 @@ static uint32_t finished(struct run *run)
     uint32_t ended = 0, how, region, position;
     for (uint32_t r = 0; r < run->count; r++)
         if (run->each[r].moment == CUT || run->each[r].moment == HALTED ||
-            (run->each[r].moment == RESTS &&
+            (run->each[r].moment == RESTS && run->each[r].rows == run->rows &&
              mu_replica_end(&run->each[r].replica, &how, &region, &position) == MU_DONE))
             ended++;
     return ended == run->count;
@@ -229,7 +247,7 @@ int main(int count, char **words)
                 cut++;
             }
             if (below(600) == 0)
-                append(&run);
+                come(&run);
             step(&run, one);
         }
         for (uint32_t r = 0; r < run.count; r++)

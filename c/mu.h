@@ -56,8 +56,7 @@ enum mu_status {
     MU_STOPPED = 10,   /* the replica is stopped */
     MU_MIXED = 11,     /* no text of a job has the commands in this order */
     MU_ENDED = 12,     /* the replica is halted */
-    MU_STRAY = 13,     /* no legal list leaves this word there */
-    MU_UNDER_WAY = 14  /* an access of the replica is under way */
+    MU_STRAY = 13      /* no legal list leaves this word there */
 };
 
 /* What can be asked of an input. */
@@ -261,7 +260,9 @@ uint32_t mu_replica_commit(mu_replica *replica, uint32_t at, uint32_t *position,
 uint32_t mu_replica_reply(mu_replica *replica, uint32_t row, uint32_t *reply, void *out, size_t room,
                           size_t *taken);
 
-/* Appends the next command of a client, as mu_engine_submit; MU_UNDER_WAY if an access is under way. */
+/* Appends the next command of a client, as mu_engine_submit; at any moment, and an access that is under
+ * way stays the same. Before a replica takes a word it is to be given each command that another had when
+ * mu_replica_next first told that one an access which was made before its own. */
 uint32_t mu_replica_append(mu_replica *replica, uint32_t client, const void *line, size_t length,
                            uint32_t *row);
 

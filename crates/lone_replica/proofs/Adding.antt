@@ -1,5 +1,5 @@
--- One row more, seen from a replica without an access under way.
-use Rattle.std.proofs.Common.{◌≡◌, ◌∙◌, ℕ, suc, zero, ◌+◌, ◌%◌, ◌/◌, ◌^◌, ◌<◌, ◌≤◌, ◌==◌, Bool, true, false, List, [], ◌∷◌, None, ap, arith, subst, sym}
+-- One row more, seen from a replica, also while an access is under way.
+use Rattle.std.proofs.Common.{◌≡◌, ◌∙◌, ℕ, suc, zero, ◌+◌, ◌%◌, ◌/◌, ◌^◌, ◌<◌, ◌≤◌, ◌==◌, Bool, true, false, List, [], ◌∷◌, None, Some, ap, arith, refl, subst, sym}
 use Rattle.std.specs.Prelude.{if◌then◌else◌, slice_index}
 use Rattle.std.specs.declared.option.Option.{Option}
 use Rattle.std.proofs.lemmas.List.{length_push}
@@ -7,15 +7,28 @@ use Rattle.kv_store.specs.Commands.{Request}
 use Rattle.mu_model.specs.declared.config.Config.{Config}
 use Rattle.mu_model.specs.declared.config.Row.{Row}
 use Rattle.mu_model.specs.declared.event.Event.{Event}
+use Rattle.mu_model.specs.declared.event.Verb.{Verb}
 use Rattle.mu_model.specs.Contents.{IsConfig, client_of, row_count, rows_before}
 use Rattle.mu_model.specs.Growing.{with_more}
 use Rattle.mu_model.specs.Parts.{IsPossible}
 use Rattle.mu_agree.proofs.Growing.{grown_is_config_law, legal_kept}
 use Rattle.mu_words.proofs.Growing.{found_kept}
+use Rattle.mu_words.specs.Standing.{close_grant}
+use Rattle.mu_words.specs.Verbs.{IsMove}
+use Rattle.lone_words.specs.declared.access.Access.{Access}
+use Rattle.lone_words.specs.declared.access.Shape.{Shape}
 use Rattle.lone_words.specs.declared.accesses.Accesses.{Accesses}
-use Rattle.lone_words.specs.Accesses.{StandsForAccesses}
+use Rattle.lone_words.specs.Accesses.{IsAccessOf, StandsForAccesses}
 use Rattle.lone_words.specs.Memory.{Own}
+use Rattle.lone_words.proofs.Coming.{expected_same}
+use Rattle.mu_node.specs.declared.deciding.Decision.{Decision}
+use Rattle.mu_node.specs.declared.node.Node.{Node}
+use Rattle.mu_node.specs.Deciding.{HasDecided}
+use Rattle.mu_node.specs.Growing.{StandsInTurn, StandsOn}
 use Rattle.mu_node.specs.Node.{LivesForNode}
+use Rattle.mu_node.proofs.Growing.{in_turn}
+use Rattle.mu_node.proofs.Midway.{decided_in_turn}
+use Rattle.mu_node.proofs.Moving.{to_port}
 use Rattle.lone_replica.specs.declared.due.Due.{Due}
 use Rattle.lone_replica.specs.declared.replica.Replica.{Replica}
 use Rattle.lone_replica.specs.Standing.{HoldsNode, StandsForReplica}
@@ -46,10 +59,29 @@ accesses_grown c row r own a room stands =
       found = found_kept c (row ∷ []) r a.found own.0 own.1 stands.found;
     }
 
--- the value stands for the same with the row, if its node does
+-- the access under way is the same
+access_grown : (c : Config) (row : Row) (r : ℕ) (own : Own) (s : Shape) (verb : Verb) (access : Access) → IsAccessOf c r own s verb access → IsAccessOf (with_more c (row ∷ [])) r own s verb access
+access_grown c row r own s verb access it = record {
+  spot = it.spot;
+  step = subst (λ (x : ℕ). IsMove c.ring (close_grant r own.0) verb x access.step) (sym (expected_same c (row ∷ []) r own verb)) it.step;
+}
+
+-- the node lives or has decided what it does
+holds_grown : (c : Config) (row : Row) (r : ℕ) (own : Own) (s : Shape) (old new : Node) (o : Option Due) → new.follow.config ≡ with_more c (row ∷ []) → new.id ≡ old.id
+    → (LivesForNode c r own.0 old → LivesForNode (with_more c (row ∷ [])) r own.0 new) → ((d : Decision) → HasDecided own.0 old d → HasDecided own.0 new d) → HoldsNode c r own s old o → HoldsNode (with_more c (row ∷ [])) r own s new o
+holds_grown c row r own s old new None config id lives decided held = lives held
+holds_grown c row r own s old new (Some due) config id lives decided held = record {
+  config = config;
+  id = id ∙ held.id;
+  decided = decided due.decision held.decided;
+  access = access_grown c row r own s due.decision.plan.verb due.access held.access;
+}
+
+-- so the value stands for the same with the row
 pub replica_grown : (c : Config) (row : Row) (r : ℕ) (own : Own) (old new : Replica) → IsConfig (with_more c (row ∷ [])) → row_count c < old.accesses.shape.rows → StandsForReplica c r own old
-    → new.config ≡ with_more c (row ∷ []) → LivesForNode (with_more c (row ∷ [])) r own.0 new.node → new.due ≡ None → new.id ≡ old.id → new.last ≡ old.last → new.accesses ≡ old.accesses → StandsForReplica (with_more c (row ∷ [])) r own new
-replica_grown c row r own old new grown room stands config lives none id last accesses = record {
+    → new.config ≡ with_more c (row ∷ []) → new.node.follow.config ≡ with_more c (row ∷ []) → new.node.id ≡ old.node.id → (LivesForNode c r own.0 old.node → LivesForNode (with_more c (row ∷ [])) r own.0 new.node)
+    → ((d : Decision) → HasDecided own.0 old.node d → HasDecided own.0 new.node d) → new.due ≡ old.due → new.id ≡ old.id → new.last ≡ old.last → new.accesses ≡ old.accesses → StandsForReplica (with_more c (row ∷ [])) r own new
+replica_grown c row r own old new grown room stands config follow node lives decided due id last accesses = record {
   parts = record {
     good = grown;
     config = config;
@@ -59,7 +91,9 @@ replica_grown c row r own old new grown room stands config lives none id last ac
     few = subst (λ (a : Accesses). a.shape.rows ≤ 1500) (sym accesses) stands.parts.few;
     last = last ∙ stands.parts.last;
   };
-  node = subst (λ (o : Option Due). HoldsNode (with_more c (row ∷ [])) r own new.accesses.shape new.node o) (sym none) lives;
+  node = subst (λ (a : Accesses). HoldsNode (with_more c (row ∷ [])) r own a.shape new.node new.due) (sym accesses)
+      (subst (λ (o : Option Due). HoldsNode (with_more c (row ∷ [])) r own old.accesses.shape new.node o) (sym due)
+      (holds_grown c row r own old.accesses.shape old.node new.node old.due follow node lives decided stands.node));
 }
 
 -- the configuration with the next command of a client is one
@@ -67,10 +101,24 @@ pub next_is_config : (c : Config) (command : Request) (row : Row) → IsConfig c
 next_is_config c command row good few numbered client number rest =
     grown_is_config_law c row good few rest (number ∙ numbered ∙ ap (λ x. rows_before c x (row_count c) + 1) (sym client))
 
--- the value stands for the same with another node that lives for it
-pub replica_same : (c : Config) (r : ℕ) (own : Own) (old new : Replica) → StandsForReplica c r own old → new.config ≡ old.config → new.id ≡ old.id → new.last ≡ old.last → new.accesses ≡ old.accesses → new.due ≡ None
-    → LivesForNode c r own.0 new.node → StandsForReplica c r own new
-replica_same c r own old new stands config id last accesses none lives = record {
+-- the node stands in its turn
+pub in_turn_held : (c : Config) (r : ℕ) (own : Own) (s : Shape) (node : Node) (o : Option Due) → HoldsNode c r own s node o → StandsInTurn c r own.0 node
+in_turn_held c r own s node None held = in_turn c r own.0 node held
+in_turn_held c r own s node (Some due) held = to_port (λ k i l. StandsInTurn k i l node) held.config held.id refl (decided_in_turn own.0 node due.decision held.decided)
+
+holds_on : (c : Config) (r : ℕ) (own : Own) (s : Shape) (old new : Node) (o : Option Due) → StandsOn old new → new.follow.config ≡ old.follow.config → new.id ≡ old.id → HoldsNode c r own s old o → HoldsNode c r own s new o
+holds_on c r own s old new None on config id held = on.lives c r own.0 held
+holds_on c r own s old new (Some due) on config id held = record {
+  config = config ∙ held.config;
+  id = id ∙ held.id;
+  decided = on.decided own.0 due.decision held.decided;
+  access = held.access;
+}
+
+-- the value stands for the same with another node that stands on
+pub replica_on : (c : Config) (r : ℕ) (own : Own) (old new : Replica) → StandsForReplica c r own old → new.config ≡ old.config → new.id ≡ old.id → new.last ≡ old.last → new.accesses ≡ old.accesses → new.due ≡ old.due
+    → StandsOn old.node new.node → new.node.follow.config ≡ old.node.follow.config → new.node.id ≡ old.node.id → StandsForReplica c r own new
+replica_on c r own old new stands config id last accesses due on follow node = record {
   parts = record {
     good = stands.parts.good;
     config = config ∙ stands.parts.config;
@@ -80,5 +128,7 @@ replica_same c r own old new stands config id last accesses none lives = record 
     few = subst (λ (a : Accesses). a.shape.rows ≤ 1500) (sym accesses) stands.parts.few;
     last = last ∙ stands.parts.last;
   };
-  node = subst (λ (o : Option Due). HoldsNode c r own new.accesses.shape new.node o) (sym none) lives;
+  node = subst (λ (a : Accesses). HoldsNode c r own a.shape new.node new.due) (sym accesses)
+      (subst (λ (o : Option Due). HoldsNode c r own old.accesses.shape new.node o) (sym due)
+      (holds_on c r own old.accesses.shape old.node new.node old.due on follow node stands.node));
 }

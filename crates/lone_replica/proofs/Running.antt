@@ -2,9 +2,11 @@
 use Rattle.std.proofs.Common.{◌≡◌, ◌≢◌, ℕ, Bool, false, cond, List, ◌∷◌, Some, refl, sym, ap, subst, ◌∙◌, eq-eqb, ne_eqb}
 use Rattle.std.specs.declared.option.Option.{Option}
 use Rattle.mu_model.specs.declared.config.Config.{Config}
+use Rattle.mu_model.specs.declared.config.Row.{Row}
 use Rattle.mu_model.specs.declared.event.Event.{Event}
 use Rattle.mu_model.specs.Allowed.{Allowed}
 use Rattle.mu_model.specs.Contents.{IsConfig}
+use Rattle.mu_model.specs.Growing.{with_more}
 use Rattle.mu_model.specs.Histories.{part}
 use Rattle.mu_words.specs.Finding.{name_of}
 use Rattle.mu_words.specs.Places.{IsName}
@@ -12,13 +14,15 @@ use Rattle.mu_words.proofs.Law.{place_named}
 use Rattle.mu_words.proofs.Limits.{config_is_limited}
 use Rattle.lone_words.specs.declared.access.Shape.{Shape}
 use Rattle.lone_words.specs.declared.access.Spot.{Spot}
+use Rattle.lone_words.specs.Coming.{IsDecidedOnce, accesses_of}
 use Rattle.lone_words.specs.Memory.{AreAnswered, IsAnsweredOnce, IsFound, Made, Own, events_after, held, own_after, own_with, stores}
 use Rattle.lone_words.specs.Spots.{IsShapeOf, layout_of, spot_of}
+use Rattle.lone_words.proofs.Coming.{decided_law, held_same}
 use Rattle.lone_words.proofs.OneList.{is_layout, one_list_law}
 use Rattle.lone_replica.specs.declared.due.Due.{Due}
 use Rattle.lone_replica.specs.declared.replica.Replica.{Replica}
-use Rattle.lone_replica.specs.Running.{AccessesGoOn, made_by}
-use Rattle.lone_replica.specs.Standing.{HoldsNode, IsDue, MayTake}
+use Rattle.lone_replica.specs.Running.{AccessesGoOn, DecidedGoOn, decided_by, made_by}
+use Rattle.lone_replica.specs.Standing.{HoldsNode, IsDue, MayTake, StandsForReplica}
 
 -- what the replica decided it may do
 allowed_now : (c : Config) (r : ℕ) (own : Own) (s : Shape) (replica : Replica) (due : Due) → IsDue c r own s replica.node due → Allowed c r own.0 due.decision.plan.verb
@@ -50,10 +54,14 @@ found_here c s past r due word good fits answered allowed spot found =
       stands = λ no. found no ∙ (ap (held c s past) spot ∙ one.words (name_of c r own.0 verb) named);
     }
 
+-- the value with an access under way has decided on it
+decided_now : (c : Config) (s : Shape) (r : ℕ) (own : Own) (replica : Replica) (due : Due) → StandsForReplica c r own replica → replica.accesses.shape ≡ s → replica.due ≡ Some due → IsDue c r own s replica.node due
+decided_now c s r own replica due stands shape under = subst (λ (o : Option Due). HoldsNode c r own s replica.node o) under (subst (λ (z : Shape). HoldsNode c r own z replica.node replica.due) shape stands.node)
+
 pub goes_on_law : AccessesGoOn
 goes_on_law c s past r replica due word good fits answered stands shape under found =
     let own = own_after c r past in
-    let node : HoldsNode c r own s replica.node (Some due) = subst (λ (o : Option Due). HoldsNode c r own s replica.node o) under (subst (λ (z : Shape). HoldsNode c r own z replica.node replica.due) shape stands.node) in
+    let node = decided_now c s r own replica due stands shape under in
     let allowed = allowed_now c r own s replica due node in
     let once : IsAnsweredOnce c s past (made_by r due word) = record {
       allowed = allowed;
@@ -70,4 +78,28 @@ goes_on_law c s past r replica due word good fits answered stands shape under fo
       others = λ q ne. own_there c past r due word q ne;
       legal = one.legal;
       parts = one.parts;
+    }
+
+-- the access that was decided by the rows of k
+decided_once : (k : Config) (more : List Row) (s : Shape) (past : List Made) (r : ℕ) (before : Replica) (due : Due) (word : ℕ) → StandsForReplica k r (own_after k r past) before → before.accesses.shape ≡ s → before.due ≡ Some due
+    → (stores due.decision.plan.verb ≡ false → word ≡ held (with_more k more) s past due.access.spot) → IsDecidedOnce s past (decided_by k r due word)
+decided_once k more s past r before due word stands shape under found =
+    let own = own_after k r past in
+    let node = decided_now k s r own before due stands shape under in
+    record {
+      good = stands.parts.good;
+      possible = stands.parts.possible;
+      answered = record {
+        allowed = allowed_now k r own s before due node;
+        step = node.access.step;
+        found = λ no. found no ∙ (held_same k more s past due.access.spot ∙ ap (λ (p : Spot). held k s past p) node.access.spot);
+      };
+    }
+
+pub decided_goes_on_law : DecidedGoOn
+decided_goes_on_law k more s past r before replica due word fits decided known was was_shape was_under stands shape under found =
+    let c = with_more k more in
+    record {
+      decided = (decided, decided_once k more s (accesses_of past) r before due word was was_shape was_under found);
+      goes = goes_on_law c s (accesses_of past) r replica due word stands.parts.good fits (decided_law c s past stands.parts.good known decided) stands shape under found;
     }

@@ -1,11 +1,13 @@
 //! Commands that come while a replica runs.
-ghost use Rattle.std.specs.Prelude.{Err, IfErr, IfOk, None, [], is_some, true, ◌+◌, ◌<◌, ◌∷◌, ◌↔◌, ◌≡◌, ◌≤◌};
+ghost use Rattle.std.specs.Prelude.{Err, IfErr, IfOk, [], ◌+◌, ◌<◌, ◌∷◌, ◌↔◌, ◌≡◌, ◌≤◌};
 ghost use Rattle.kv_store.specs.Commands.{HasShortTexts};
 ghost use Rattle.mu_model.specs.declared.config.Config.{Config as SomeConfig};
 ghost use Rattle.mu_model.specs.Contents.{IsConfig, row_count, rows_before};
 ghost use Rattle.mu_model.specs.Growing.{with_more};
 ghost use Rattle.mu_model.specs.Parts.{IsPossible};
-ghost use Rattle.mu_node.specs.Growing.{Growth, HasRoomForRow};
+ghost use Rattle.mu_node.specs.declared.deciding.Decision.{Decision};
+ghost use Rattle.mu_node.specs.Deciding.{HasDecided};
+ghost use Rattle.mu_node.specs.Growing.{Growth, HasRoomForRow, StandsInTurn};
 ghost use Rattle.mu_node.specs.Node.{LivesForNode};
 ghost use Rattle.lone_words.specs.Memory.{Own};
 ghost use Rattle.lone_replica.specs.declared.appending.Refusal.{Refusal as SomeRefusal};
@@ -22,8 +24,6 @@ use std::alloc::{AllocError, Global};
 /// Why a command isn't appended.
 #[derive(Clone, Copy, Debug, PartialEq, Eq)]
 pub enum Refusal {
-    /// An access is under way.
-    UnderWay,
     /// There is no room for its row in the words.
     Full,
     /// There was no memory for one more.
@@ -110,12 +110,13 @@ impl Copies {
 }
 
 impl Replica {
-    /// Takes the next command of a client, a number from 0 to 15, and tells its row. Takes memory.
+    /// Takes the next command of a client, a number from 0 to 15, and tells its row. An access that
+    /// is under way stays so. Takes memory.
     ///
     /// # Errors
     ///
-    /// `UnderWay` if an access is under way; else `Full` exactly if the words have no room for its
-    /// row; `NoMemory` for want of memory. Then the replica stands for what it did.
+    /// `Full` exactly if the words have no room for its row; `NoMemory` for want of memory. Then the
+    /// replica stands for what it did.
     pub fn append(&mut self, client: u8, op: Op) -> Result<u16, Refusal>
         ghost at: { SomeConfig × Own }
         requires client { client ≤ 15 }
@@ -127,16 +128,12 @@ impl Replica {
         ensures kept { IfErr result
             (λ refusal. StandsForReplica at.0 self.old.id at.1 self.new) }
         ensures due { self.new.due ≡ self.old.due }
-        ensures under_way { (result ≡ Err SomeRefusal.UnderWay) ↔ (is_some self.old.due ≡ true) }
         ensures full { (result ≡ Err SomeRefusal.Full)
-            ↔ ((self.old.due ≡ None) × (self.old.accesses.shape.rows ≤ row_count at.0)) }
+            ↔ (self.old.accesses.shape.rows ≤ row_count at.0) }
         ensures id { self.new.id ≡ self.old.id }
         ensures stops { self.new.node.stops ≡ self.old.node.stops }
         ensures shape { self.new.accesses.shape ≡ self.old.accesses.shape }
     {
-        if self.is_due() {
-            return Err(Refusal::UnderWay);
-        }
         if self.config.rows.len() >= usize::from(self.shape().rows) {
             return Err(Refusal::Full);
         }
@@ -154,11 +151,10 @@ impl Replica {
     /// Makes room for one row more. Takes memory; without it the replica stands as it did.
     fn make_room(&mut self) -> Result<(), NoMemory>
         ghost at: { SomeConfig × Own }
-        requires none { self.old.due ≡ None }
-        requires stands { StandsForReplica at.0 self.old.id at.1 self.old }
+        requires { StandsForReplica at.0 self.old.id at.1 self.old }
         ensures stands { StandsForReplica at.0 self.old.id at.1 self.new }
         ensures room { IfOk result (λ done. HasRoomForRow at.0 self.new.node) }
-        ensures due { self.new.due ≡ None }
+        ensures due { self.new.due ≡ self.old.due }
         ensures id { self.new.id ≡ self.old.id }
         ensures stops { self.new.node.stops ≡ self.old.node.stops }
         ensures accesses { self.new.accesses ≡ self.old.accesses }
@@ -179,9 +175,15 @@ impl Replica {
         requires follow { copies.follow ≡ copies.own }
         requires config { IsConfig copies.own }
         requires possible { IsPossible growth.config growth.replica growth.mine }
-        requires lives { LivesForNode growth.config growth.replica growth.mine self.old.node }
+        requires stands { StandsInTurn growth.config growth.replica growth.mine self.old.node }
         requires room { HasRoomForRow growth.config self.old.node }
-        ensures lives { LivesForNode copies.own growth.replica growth.mine self.new.node }
+        ensures lives { LivesForNode growth.config growth.replica growth.mine self.old.node
+            → LivesForNode copies.own growth.replica growth.mine self.new.node }
+        ensures decided { (decision : Decision)
+            → HasDecided growth.mine self.old.node decision
+            → HasDecided growth.mine self.new.node decision }
+        ensures follow { self.new.node.follow.config ≡ copies.own }
+        ensures node { self.new.node.id ≡ self.old.node.id }
         ensures config { self.new.config ≡ copies.own }
         ensures due { self.new.due ≡ self.old.due }
         ensures id { self.new.id ≡ self.old.id }

@@ -3,7 +3,7 @@
 //! owner's.
 #![tactic(auto)]
 
-ghost use Rattle.lone_replica.specs.Running.{AccessesGoOn};
+ghost use Rattle.lone_replica.specs.Running.{AccessesGoOn, DecidedGoOn};
 
 mod appending;
 mod due;
@@ -16,7 +16,10 @@ pub use replica::{Next, Replica, Untaken};
 pub use telling::State;
 
 /// Over any memory: if each access of the replicas was told what its word held, the replica whose
-/// access is made next may take what this found, and one legal list has the parts of all.
+/// access is made next may take what this found, and one legal list has the parts of all. So it is
+/// also if rows come, for a replica between its access and the word too: when it takes the word it has
+/// to know the rows by which the accesses before its own were decided, and no others.
 pub fn accesses_go_on()
-    ensures { AccessesGoOn }
+    ensures go_on { AccessesGoOn }
+    ensures knowing { DecidedGoOn }
 {}

@@ -4,4 +4,4 @@ pub mod OneList
 mod Reaching
 mod Right
 pub mod Found
-mod Coming
+pub mod Coming

@@ -2,7 +2,7 @@
 //! access was answered by what its word held, one legal list has the events of all replicas.
 #![tactic(auto)]
 
-ghost use Rattle.lone_words.specs.Coming.{RowsMayCome};
+ghost use Rattle.lone_words.specs.Coming.{DecidedAreAnswered, RowsMayCome};
 ghost use Rattle.lone_words.specs.Memory.{FoundIsPossible, OneLegalList};
 ghost use Rattle.lone_words.specs.Right.{FoundMayBeTold, StandingMayStand};
 ghost use Rattle.lone_words.specs.Spots.{SpotsDiffer};
@@ -34,7 +34,9 @@ pub fn words_may_stand()
 {}
 
 /// If rows come at the end of the configuration, the accesses so far were answered with them too, and
-/// nothing that replicas have come to, and no word, is another.
+/// nothing that replicas have come to, and no word, is another. It is enough that each replica decided
+/// on its access by rows that the configuration begins with.
 pub fn rows_may_come()
-    ensures { RowsMayCome }
+    ensures come { RowsMayCome }
+    ensures decided { DecidedAreAnswered }
 {}

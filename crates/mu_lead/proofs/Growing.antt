@@ -1,6 +1,6 @@
 -- What holds at each place but rest holds with more rows at the end too.
 use Rattle.std.proofs.Common.{◌≡◌, ℕ, zero, suc, ◌*◌, ◌+◌, ◌<◌, inl, inr, Bool, true, false, List, [], ◌∷◌, ◌++◌, Some, None, ap, refl, subst, sym, ◌∙◌, arith, get_or, length, length-append, true≢false}
-use Rattle.std.specs.Prelude.{nat_lt}
+use Rattle.std.specs.Prelude.{if◌then◌else◌, nat_lt}
 use Rattle.std.proofs.lemmas.Bool.{cases_lt, false_from_ne_true, ltb-true}
 use Rattle.std.proofs.lemmas.List.{get_or_append_left, get_or_past}
 use Rattle.mu_model.proofs.Putting.{new_met}
@@ -8,12 +8,13 @@ use Rattle.std.specs.declared.option.Option.{Option}
 use Rattle.mu_model.specs.declared.config.Config.{Config}
 use Rattle.mu_model.specs.declared.config.Row.{Row}
 use Rattle.mu_model.specs.declared.event.Event.{Event}
-use Rattle.mu_model.specs.Contents.{IsConfig, client_of, row_count}
+use Rattle.mu_model.specs.declared.event.Verb.{Verb}
+use Rattle.mu_model.specs.Contents.{IsConfig, client_of, config_word, holds_all, row_count}
 use Rattle.mu_model.specs.Knowledge.{known}
 use Rattle.mu_model.specs.Parts.{IsPossible}
 use Rattle.mu_model.specs.Room.{reserve}
 use Rattle.mu_model.specs.Growing.{with_more}
-use Rattle.mu_agree.proofs.Growing.{AllStand, candidate_kept, client_kept, filled_kept, known_kept, lacks_more, legal_kept, marked_kept, more_rows, new_more, new_stands, no_row_written, number_kept, rest_kept, row_batch_kept, session_kept}
+use Rattle.mu_agree.proofs.Growing.{AllStand, candidate_kept, client_kept, filled_kept, known_kept, lacks_more, legal_kept, marked_kept, more_rows, new_more, new_stands, no_row_written, number_kept, rest_kept, row_batch_kept, session_kept, word_kept}
 use Rattle.mu_agree.proofs.Possible.{part_entries_stand_law}
 use Rattle.mu_agree.proofs.Sessions.{row_within}
 use Rattle.mu_lead.specs.declared.place.Place.{Place}
@@ -24,9 +25,10 @@ use Rattle.mu_lead.specs.Confirming.{AtEnterMin, Confirmed, Numbered, Telling}
 use Rattle.mu_lead.specs.Leading.{AtLateEnter, AtLateFuo, Behind, Brought, HoldsTables, IsMember, Late, Leads, Level, Near, end_of}
 use Rattle.mu_lead.specs.Offering.{AtEnter, Looked, Looking, LooksShow, MayBeMarked, Offering, Roomy, Writing, leaves_room}
 use Rattle.mu_lead.specs.Growing.{PlacesStay, Works, rests}
-use Rattle.mu_lead.specs.Listing.{Tables, late_from}
+use Rattle.mu_lead.specs.Beside.{leads_at}
+use Rattle.mu_lead.specs.Listing.{Tables, first_member, heads_from, late_from, low_from, next_position, or_else, stranger_from}
 use Rattle.mu_lead.proofs.StandsOnward.{late_stands}
-use Rattle.mu_lead.specs.Standing.{At}
+use Rattle.mu_lead.specs.Standing.{At, verb_at}
 
 -- while regions are asked and minima are read
 confirmed_more : (c : Config) (more : List Row) (r : ℕ) (mine : List Event) → Confirmed c r mine → Confirmed (with_more c more) r mine
@@ -261,3 +263,59 @@ place_grown c row r b mine up reach written place long m = m
 
 pub places_stay_law : PlacesStay
 places_stay_law c more r b mine up reach written place g h possible w m = place_more c more r b mine up reach written place g h possible w m
+
+-- which word of a row is next is the same
+pub next_word_grown : (written : List ℕ) (j : ℕ) → get_or written j 12 < 12 → (j < length written) × (get_or (written ++ 0 ∷ []) j 12 ≡ get_or written j 12)
+next_word_grown written j l = elim (cases_lt j (length written)) [ inl low ↦ (low, get_or_append_left written (0 ∷ []) 12 j low) | inr high ↦ absurd (let none = get_or_past written j 12 (omega (arith, high)) in omega (arith, none, l)) ]
+
+-- so the verb that writes it is
+pub write_grown : (c : Config) (row : Row) (written : List ℕ) (j : ℕ) → length written ≡ row_count c → get_or written j 12 < 12
+    → Verb.WriteRow j (get_or (written ++ 0 ∷ []) j 12) (config_word (with_more c (row ∷ [])) j (get_or (written ++ 0 ∷ []) j 12)) ≡ Verb.WriteRow j (get_or written j 12) (config_word c j (get_or written j 12))
+write_grown c row written j long l =
+    let next = next_word_grown written j l in
+    let low = next.0 in
+    ap (λ k. Verb.WriteRow j k (config_word (with_more c (row ∷ [])) j k)) next.1
+    ∙ ap (Verb.WriteRow j (get_or written j 12)) (word_kept c (row ∷ []) j (get_or written j 12) (omega (arith, low, long)))
+
+-- and the verb of a place
+pub verb_grown : (c : Config) (row : Row) (r b : ℕ) (mine : List Event) (values up : List ℕ) (reach : List (Option ℕ)) (written : List ℕ) (place : Place) → length written ≡ row_count c → At c r b mine up reach written place
+    → verb_at (with_more c (row ∷ [])) b values up (written ++ 0 ∷ []) place ≡ verb_at c b values up written place
+verb_grown c row r b mine values up reach written (Place.Write j last offer) long m = ap Some (write_grown c row written j long m.1)
+verb_grown c row r b mine values up reach written place long m = refl
+
+-- the places at which a leader goes on after a commit
+abbrev goes_on : Place → Bool
+goes_on (Place.LateFence p) = true
+goes_on (Place.ReadHead q o) = true
+goes_on (Place.Look p i o best) = true
+goes_on Place.Rest = true
+goes_on place = false
+
+either_on : (o : Option ℕ) (there : ℕ → Place) (other : Place) → ((q : ℕ) → goes_on (there q) ≡ true) → goes_on other ≡ true → goes_on (or_else o there other) ≡ true
+either_on None there other at on = on
+either_on (Some q) there other at on = at q
+
+choice_on : (t : Bool) (first second : Place) → goes_on first ≡ true → goes_on second ≡ true → goes_on (if t then first else second) ≡ true
+choice_on true first second on other = on
+choice_on false first second on other = other
+
+late_on : (c : Config) (r : ℕ) (now : List Event) (heads : List ℕ) (p : ℕ) → goes_on (late_from c r now heads p) ≡ true
+late_on c r now heads p =
+    let looks = either_on (low_from c r now heads 0) (λ k. Place.ReadHead k None) (Place.Look (first_member c r now) (end_of c r now) None None) (λ k. refl) refl in
+    let next = choice_on (holds_all c (known c r now)) (or_else (stranger_from c r now 0) Place.LateFence Place.Rest) (if nat_lt (end_of c r now) (row_count c + reserve c) then heads_from c r now heads 0 None else Place.Rest)
+    (either_on (stranger_from c r now 0) Place.LateFence Place.Rest (λ q. refl) refl)
+    (choice_on (nat_lt (end_of c r now) (row_count c + reserve c)) (heads_from c r now heads 0 None) Place.Rest looks refl) in
+    either_on (stranger_from c r now p) Place.LateFence (next_position c r now heads) (λ q. refl) next
+
+on_leads : (place : Place) → goes_on place ≡ true → leads_at place ≡ true
+on_leads (Place.Ask p) on = absurd (true≢false (sym on))
+on_leads (Place.Confirm round p) on = absurd (true≢false (sym on))
+on_leads (Place.Evidence p) on = absurd (true≢false (sym on))
+on_leads place on = refl
+
+-- there it leads, and writes no row
+pub late_leads : (c : Config) (r : ℕ) (now : List Event) (heads : List ℕ) (p : ℕ) → leads_at (late_from c r now heads p) ≡ true
+late_leads c r now heads p = on_leads (late_from c r now heads p) (late_on c r now heads p)
+
+pub late_writes_none : (c : Config) (r : ℕ) (now : List Event) (heads : List ℕ) (p u last : ℕ) (offer : Offer) → late_from c r now heads p ≡ Place.Write u last offer → ⊥
+late_writes_none c r now heads p u last offer same = true≢false (sym (late_on c r now heads p) ∙ ap goes_on same)

@@ -13,7 +13,7 @@ mod Firsts
 pub mod Folding
 mod FuosBeside
 mod Going
-mod Growing
+pub mod Growing
 mod Held
 pub mod Keeping
 pub mod Lates

@@ -14,6 +14,8 @@ impl Lead {
             (λ done. length self.new.written.items < vec_capacity self.new.written) }
         ensures config { self.new.config ≡ self.old.config }
         ensures id { self.new.id ≡ self.old.id }
+        ensures others { self.new ≡ record self.old { written = self.new.written } }
+        ensures written { self.new.written.items ≡ self.old.written.items }
     {
         self.written.reserve(1)
     }

@@ -1,11 +1,12 @@
 //! The leader, at its place in the listing.
-ghost use Rattle.std.specs.Prelude.{vec_capacity, IfOk, IfSome, List, None, Some, [], false, get_or, if◌then◌else◌, length, nat_lt, not, ℕ, ◌%◌, ◌&&◌, ◌<◌, ◌==◌, ◌||◌, ◌∷◌, ◌≡◌, ◌≤◌, ◌⊎◌};
+ghost use Rattle.std.specs.Prelude.{vec_capacity, IfOk, IfSome, List, None, Some, [], false, get_or, if◌then◌else◌, length, nat_lt, not, ℕ, ◌%◌, ◌&&◌, ◌++◌, ◌<◌, ◌==◌, ◌||◌, ◌∷◌, ◌≡◌, ◌≤◌, ◌⊎◌, true};
 ghost use Rattle.mu_model.specs.declared.event.Event.{Event};
 ghost use Rattle.mu_model.specs.declared.event.Target.{Target as SomeTarget};
 ghost use Rattle.mu_model.specs.declared.event.Verb.{Verb as SomeVerb};
 ghost use Rattle.mu_model.specs.declared.config.Row.{Row as SomeRow};
 ghost use Rattle.mu_model.specs.Growing.{with_more};
 ghost use Rattle.mu_lead.specs.Growing.{rests};
+ghost use Rattle.mu_lead.specs.Listing.{late_from};
 ghost use Rattle.mu_model.specs.Allowed.{Allowed};
 ghost use Rattle.mu_model.specs.Contents.{IsConfig, IsInSession, config_word, holds_all};
 ghost use Rattle.mu_model.specs.Knowledge.{known as known_of};
@@ -91,7 +92,8 @@ impl Lead {
         })
     }
 
-    /// Goes over to a configuration with one row more at the end. A leader at rest goes on with it.
+    /// Goes over to a configuration with one row more at the end. A leader at rest goes on with it, as
+    /// after a commit; any other stays where it is.
     pub fn add_last(&mut self, config: Config, known: &[u16], log: &KnownLog)
         ghost mine: { List Event }
         requires stands { StandsFor mine self.old }
@@ -103,6 +105,17 @@ impl Lead {
             → HoldsValues config known.now log.now → StandsFor mine self.new }
         ensures config { self.new.config ≡ config }
         ensures id { self.new.id ≡ self.old.id }
+        ensures others { self.new
+            ≡ record self.old {
+              config = config;
+              place = self.new.place;
+              written = self.new.written;
+            } }
+        ensures written { self.new.written.items ≡ self.old.written.items ++ 0 ∷ [] }
+        ensures stays { rests self.old.place ≡ false → self.new.place ≡ self.old.place }
+        ensures wakes { (row : SomeRow) → config ≡ with_more self.old.config (row ∷ [])
+            → HoldsValues config known.now log.now → rests self.old.place ≡ true
+            → self.new.place ≡ late_from config self.old.id mine self.old.heads 0 }
     {
         self.config = config;
         push_within(&mut self.written, 0);

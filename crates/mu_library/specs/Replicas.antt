@@ -1,6 +1,6 @@
 -- of replica, opens replica, told access, takes found, appends, tells ..: what each call on one
 -- replica makes of it, and what it tells.
-use Rattle.std.specs.Prelude.{Bool, Err, List, None, Ok, Some, [], false, is_some, length, option_map, take, true, ⊤, ℕ, ◌<◌, ◌^◌, ◌∷◌, ◌≡◌, ◌≤◌, ◌⊎◌}
+use Rattle.std.specs.Prelude.{Bool, Err, List, None, Ok, Some, [], false, length, option_map, take, true, ⊤, ℕ, ◌<◌, ◌^◌, ◌∷◌, ◌≡◌, ◌≤◌, ◌⊎◌}
 use Rattle.std.specs.List.{slice_get}
 use Rattle.std.specs.declared.option.Option.{Option}
 use Rattle.std.specs.declared.result.Result.{Result}
@@ -41,7 +41,7 @@ use Rattle.lone_words.specs.Spots.{host_words}
 use Rattle.lone_words.specs.declared.access.Access.{Access}
 use Rattle.mu_library.specs.Engines.{IsUntold, PutsReply}
 use Rattle.mu_library.specs.Front.{Puts}
-use Rattle.mu_library.specs.declared.codes.TheConstants.{ENDED, FULL, STRAY, UNDER_WAY}
+use Rattle.mu_library.specs.declared.codes.TheConstants.{ENDED, FULL, STRAY}
 use Rattle.mu_library.specs.declared.replicas.Asked.{Asked}
 use Rattle.mu_library.specs.declared.shown.Numbers.{Numbers}
 use Rattle.mu_library.specs.declared.shown.Show.{Show}
@@ -200,14 +200,12 @@ TakesNextFound c own word asked old new status =
     ⊎ ((why : Untaken) × (judged_for c old.id own old.due word ≡ Err why)
     × (asked ≡ none_asked (status_of (Err why))) × (new ≡ old)))
 
--- a command was taken, and its row is told; or an access is under way, there is no room for it, or
--- there was no memory, and the replica stands for what it did
+-- a command was taken, and its row is told; or there is no room for it, or there was no memory, and
+-- the replica stands for what it did; an access that is under way stays so
 abbrev pub AppendsOp : Config → Own → ℕ → Op → ℕ → Replica → Replica → ℕ → Type 0
 AppendsOp c own client op row old new status =
-    ((status ≡ 0) × (row ≡ row_count c)
+    ((status ≡ 0) × (row ≡ row_count c) × (new.due ≡ old.due)
     × StandsForReplica (with_next c client op) old.id own new)
-    ⊎ ((status ≡ UNDER_WAY) × (is_some old.due ≡ true) × (row ≡ 0)
-    × StandsForReplica c old.id own new)
     ⊎ ((status ≡ FULL) × (old.accesses.shape.rows ≤ row_count c) × (row ≡ 0)
     × StandsForReplica c old.id own new)
     ⊎ ((status ≡ code_of Status.NoMemory) × (row ≡ 0) × StandsForReplica c old.id own new)

@@ -16,9 +16,6 @@ pub const ENDED: u8 = 12;
 /// No legal list leaves the word where the replica's access was made.
 pub const STRAY: u8 = 13;
 
-/// An access of the replica is under way.
-pub const UNDER_WAY: u8 = 14;
-
 /// The codes are those of `c/mu.h`.
 pub fn codes_are_stated()
     ensures full { FULL ≡ 9 }
@@ -26,5 +23,4 @@ pub fn codes_are_stated()
     ensures mixed { MIXED ≡ 11 }
     ensures ended { ENDED ≡ 12 }
     ensures stray { STRAY ≡ 13 }
-    ensures under_way { UNDER_WAY ≡ 14 }
 {}

@@ -8,7 +8,7 @@ ghost use Rattle.lone_replica.specs.Standing.{MayTake, StandsForReplica, judged_
 ghost use Rattle.lone_words.specs.Memory.{Own};
 ghost use Rattle.mu_library.specs.Replicas.{Appends, AppendsOp, AsksNext, IsMade, MayTakeAt, MayTakeIn, OfReplica, OfReplicaIn, OpensOf, OpensReplica, StandsAt, StandsIn, TakesFound, TakesNextFound, asked_for, expected_told, kind_told, none_asked, value_told};
 
-use crate::codes::{ENDED, FULL, STRAY, UNDER_WAY};
+use crate::codes::{ENDED, FULL, STRAY};
 use crate::engines::{Submitted, wanting};
 use crate::handles::{let_go, taken_out};
 use kv_store::Op;
@@ -353,7 +353,6 @@ fn append_op(replica: &mut Replica, client: u8, op: Op) -> Submitted
             status: Status::Done.code(),
             row,
         },
-        Err(Refusal::UnderWay) => Submitted::refused(UNDER_WAY),
         Err(Refusal::Full) => Submitted::refused(FULL),
         Err(Refusal::NoMemory) => Submitted::refused(Status::NoMemory.code()),
     }

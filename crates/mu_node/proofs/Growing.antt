@@ -1,5 +1,5 @@
 -- What a node stands for, with one row more.
-use Rattle.std.proofs.Common.{◌≡◌, ◌∙◌, ◌%◌, ◌+◌, ◌<◌, ◌≤◌, ◌∷◌, List, [], ap, arith, length, refl, subst, sym, take, ℕ, inl}
+use Rattle.std.proofs.Common.{◌≡◌, ◌∙◌, ◌%◌, ◌+◌, ◌<◌, ◌≤◌, ◌∷◌, List, [], ap, arith, false, length, refl, subst, sym, take, true≢false, ℕ, inl}
 use Rattle.std.specs.Prelude.{if◌then◌else◌, vec_capacity}
 use Rattle.std.specs.List.{slice_get}
 use Rattle.kv_store.specs.Commands.{Request}
@@ -27,13 +27,12 @@ use Rattle.mu_follow.proofs.Growing.{applied_entries, one_more, taken_entries}
 use Rattle.mu_follow.proofs.Spelled.{groups_kept, spelled_before}
 use Rattle.mu_lead.specs.declared.lead.Lead.{Lead}
 use Rattle.mu_lead.specs.Standing.{StandsFor as LeadStandsFor}
-use Rattle.mu_node.proofs.Moving.{lives}
 use Rattle.mu_node.specs.declared.node.Node.{Node}
 use Rattle.mu_node.specs.Answering.{Answering}
 use Rattle.mu_node.specs.Answers.{HoldsAnswers}
 use Rattle.mu_node.specs.Cycle.{handed_before, hands_on}
-use Rattle.mu_node.specs.Growing.{HasRoomForRow}
-use Rattle.mu_node.specs.Node.{LivesForNode, StandsForLead}
+use Rattle.mu_node.specs.Growing.{HasRoomForRow, StandsInTurn}
+use Rattle.mu_node.specs.Node.{HoldsNode, LivesForNode, StandsForLead}
 use Rattle.mu_node.specs.Reads.{IsNext, IsReadNext, ReadsNext}
 
 -- how far it has handed on
@@ -65,22 +64,21 @@ next_kept c more r mine w good grown possible next = record { of = of; low = low
     low : was.position ≤ length (applied (with_more c more) r mine)
     low = subst (λ l. was.position ≤ length l) (sym (applied_stays_law c more r mine good grown possible)) next.low
 
+pub read_kept : (c : Config) (more : List Row) (r : ℕ) (mine : List Event) (verb : Verb) → IsConfig c → IsConfig (with_more c more) → IsPossible c r mine → IsReadNext c r mine verb → IsReadNext (with_more c more) r mine verb
+read_kept c more r mine (Verb.ReadRow w k) good grown possible next = next_kept c more r mine w good grown possible next
+read_kept c more r mine verb good grown possible next = tt
+
 pub reads_kept : (c : Config) (more : List Row) (r : ℕ) (mine : List Event) → IsConfig c → IsConfig (with_more c more) → IsPossible c r mine → ReadsNext c r mine → ReadsNext (with_more c more) r mine
 reads_kept c more r [] good grown possible reads = tt
-reads_kept c more r (e ∷ mine) good grown possible reads = (reads_kept c more r mine good grown before reads.0, by_verb e.verb reads.1)
-  where
-    before : IsPossible c r mine
-    before = (parts_shorten_law c r mine e possible).before
-
-    by_verb : (verb : Verb) → IsReadNext c r mine verb → IsReadNext (with_more c more) r mine verb
-    by_verb (Verb.ReadRow w k) next = next_kept c more r mine w good grown before next
-    by_verb verb next = tt
+reads_kept c more r (e ∷ mine) good grown possible reads =
+    let before = (parts_shorten_law c r mine e possible).before in
+    (reads_kept c more r mine good grown before reads.0, read_kept c more r mine e.verb good grown before reads.1)
 
 -- what it answered, if there is room for one reply more
-pub answers_kept : (c : Config) (row : Row) (r : ℕ) (mine : List Event) (a : Answering) → IsConfig c → IsConfig (with_more c (row ∷ [])) → IsPossible c r mine → row_count c < a.left + length a.replies
-    → ((commands : List Request) → AreSpelled c commands → HoldsAnswers c commands (take (handed_before c r mine) (applied c r mine)) a)
-    → (commands : List Request) → AreSpelled (with_more c (row ∷ [])) commands → HoldsAnswers (with_more c (row ∷ [])) commands (take (handed_before (with_more c (row ∷ [])) r mine) (applied (with_more c (row ∷ [])) r mine)) a
-answers_kept c row r mine a good grown possible room held commands are = record {
+answers_kept : (c : Config) (row : Row) (r n : ℕ) (mine : List Event) (a : Answering) → IsConfig c → IsConfig (with_more c (row ∷ [])) → IsPossible c r mine → row_count c < a.left + length a.replies
+    → ((commands : List Request) → AreSpelled c commands → HoldsAnswers c commands (take n (applied c r mine)) a)
+    → (commands : List Request) → AreSpelled (with_more c (row ∷ [])) commands → HoldsAnswers (with_more c (row ∷ [])) commands (take n (applied (with_more c (row ∷ [])) r mine)) a
+answers_kept c row r n mine a good grown possible room held commands are = record {
   replies = told;
   table = was.table ∙ ap store (sym same);
   left = (let long = ap length told in let count = length-replies (groups_of c2 commands now) in let one = one_more c row in omega (arith, long, count, one, room));
@@ -90,68 +88,101 @@ answers_kept c row r mine a good grown possible room held commands are = record 
     c2 = with_more c (row ∷ [])
 
     now : List ℕ
-    now = take (handed_before c2 r mine) (applied c2 r mine)
+    now = take n (applied c2 r mine)
 
     first : List Request
     first = take (row_count c) commands
 
-    was : HoldsAnswers c first (take (handed_before c r mine) (applied c r mine)) a
+    was : HoldsAnswers c first (take n (applied c r mine)) a
     was = held first (spelled_before c (row ∷ []) commands are)
 
-    same : groups_of c2 commands now ≡ groups_of c first (take (handed_before c r mine) (applied c r mine))
+    same : groups_of c2 commands now ≡ groups_of c first (take n (applied c r mine))
     same =
-        ap (λ n. groups_of c2 commands (take n (applied c2 r mine))) (handed_kept c (row ∷ []) r mine good grown possible)
-        ∙ (ap (λ l. groups_of c2 commands (take (handed_before c r mine) l)) (applied_stays_law c (row ∷ []) r mine good grown possible)
-        ∙ groups_kept c (row ∷ []) commands (take (handed_before c r mine) (applied c r mine)) good grown (taken_entries c (handed_before c r mine) (applied c r mine) (applied_entries c r mine possible)))
+        ap (λ l. groups_of c2 commands (take n l)) (applied_stays_law c (row ∷ []) r mine good grown possible)
+        ∙ groups_kept c (row ∷ []) commands (take n (applied c r mine)) good grown (taken_entries c n (applied c r mine) (applied_entries c r mine possible))
 
     told : a.replies ≡ replies (groups_of c2 commands now)
     told = was.replies ∙ ap replies (sym same)
 
--- the node lives for the same events with one row more if its replayer and its leader stand for them
-pub node_more : (c : Config) (row : Row) (r : ℕ) (mine : List Event) (old new : Node) → IsConfig c → IsConfig (with_more c (row ∷ [])) → IsPossible c r mine → LivesForNode c r mine old → HasRoomForRow c old
+-- what holds with this many entries handed on, wherever the leader is, if no more is said of it
+pub with_count : {There Where : Lead → Type 0} (c : Config) (r m n : ℕ) (mine : List Event) (node : Node) → m ≡ n → HoldsNode false There c r mine m node → HoldsNode false Where c r mine n node
+with_count c r m n mine node same held = record {
+  beside = held.beside;
+  lead = held.lead;
+  handed = held.handed ∙ same;
+  answers = λ commands are. subst (λ (k : ℕ). HoldsAnswers c commands (take k (applied c r mine)) node.answers) same (held.answers commands are);
+  reads = held.reads;
+  made = λ on. absurd (true≢false (sym on));
+  listed = λ on. absurd (true≢false (sym on));
+  placed = λ on. absurd (true≢false (sym on));
+}
+
+-- one that lives stands in its turn
+pub in_turn : (c : Config) (r : ℕ) (mine : List Event) (node : Node) → LivesForNode c r mine node → StandsInTurn c r mine node
+in_turn c r mine node held = with_count c r (handed_before c r mine) node.follow.progress.handed mine node (sym held.handed) held
+
+-- the node stands for the same events with one row more if its replayer and its leader do
+pub node_more : (c : Config) (row : Row) (r : ℕ) (mine : List Event) (old new : Node) → IsConfig c → IsConfig (with_more c (row ∷ [])) → IsPossible c r mine → StandsInTurn c r mine old → HasRoomForRow c old
     → StandsForFollow (with_more c (row ∷ [])) r mine new.follow → new.follow.progress.handed ≡ old.follow.progress.handed → StandsForLead (with_more c (row ∷ [])) r mine new.lead
     → new.id ≡ old.id → new.replicas ≡ old.replicas → new.budget ≡ old.budget → new.grants ≡ old.grants → new.watch ≡ old.watch → new.log.items ≡ old.log.items → vec_capacity old.log ≤ vec_capacity new.log
-    → new.commits.items ≡ old.commits.items → vec_capacity old.commits ≤ vec_capacity new.commits → new.answers ≡ old.answers → LivesForNode (with_more c (row ∷ [])) r mine new
+    → new.commits.items ≡ old.commits.items → vec_capacity old.commits ≤ vec_capacity new.commits → new.answers ≡ old.answers → StandsInTurn (with_more c (row ∷ [])) r mine new
 node_more c row r mine old new good grown possible held room follow handed lead id replicas budget grants watch log log_grows commits commits_grow answers =
     let one = one_more c row in
     let logs = room.log_room in
     let list = room.commit_room in
-    lives (with_more c (row ∷ [])) r mine new
-    (record {
-      id = id ∙ held.beside.id;
-      replicas = replicas ∙ held.beside.replicas;
-      budget = budget ∙ held.beside.budget;
-      grants = rw grants held.beside.grants;
-      watch = rw watch (record { scores = held.beside.watch.scores; named = held.beside.watch.named; failed = held.beside.watch.failed });
-      follow = follow;
-      no_log = log ∙ held.beside.no_log;
-      log_room = omega (arith, one, logs, log_grows);
-      no_commits = commits ∙ held.beside.no_commits;
-      commit_room = omega (arith, one, list, commits_grow);
-    })
-    lead (handed ∙ (held.handed ∙ sym (handed_kept c (row ∷ []) r mine good grown possible))) (λ commands are. subst (λ (a : Answering). HoldsAnswers (with_more c (row ∷ [])) commands (take (handed_before (with_more c (row ∷ [])) r mine) (applied (with_more c (row ∷ [])) r mine)) a) (sym answers) (answers_kept c row r mine old.answers good grown possible room.answers held.answers commands are)) (reads_kept c (row ∷ []) r mine good grown possible held.reads)
+    let c2 = with_more c (row ∷ []) in
+    let told : (commands : List Request) → AreSpelled c2 commands → HoldsAnswers c2 commands (take old.follow.progress.handed (applied c2 r mine)) new.answers =
+    λ commands are. subst (λ (a : Answering). HoldsAnswers c2 commands (take old.follow.progress.handed (applied c2 r mine)) a) (sym answers) (answers_kept c row r old.follow.progress.handed mine old.answers good grown possible room.answers held.answers commands are) in
+    record {
+      beside = record {
+        id = id ∙ held.beside.id;
+        replicas = replicas ∙ held.beside.replicas;
+        budget = budget ∙ held.beside.budget;
+        grants = rw grants held.beside.grants;
+        watch = rw watch (record { scores = held.beside.watch.scores; named = held.beside.watch.named; failed = held.beside.watch.failed });
+        follow = follow;
+        no_log = log ∙ held.beside.no_log;
+        log_room = omega (arith, one, logs, log_grows);
+        no_commits = commits ∙ held.beside.no_commits;
+        commit_room = omega (arith, one, list, commits_grow);
+      };
+      lead = lead;
+      handed = refl;
+      answers = λ commands are. subst (λ (k : ℕ). HoldsAnswers c2 commands (take k (applied c2 r mine)) new.answers) (sym handed) (told commands are);
+      reads = reads_kept c (row ∷ []) r mine good grown possible held.reads;
+      made = λ on. absurd (true≢false (sym on));
+      listed = λ on. absurd (true≢false (sym on));
+      placed = λ on. absurd (true≢false (sym on));
+    }
 
 -- and for the same rows with other room in its parts
-pub node_same : (c : Config) (r : ℕ) (mine : List Event) (old new : Node) → LivesForNode c r mine old → StandsForFollow c r mine new.follow → new.follow.progress.handed ≡ old.follow.progress.handed → StandsForLead c r mine new.lead
+pub node_same : {There Where : Lead → Type 0} (c : Config) (r n : ℕ) (mine : List Event) (old new : Node) → HoldsNode false There c r mine n old → StandsForFollow c r mine new.follow → new.follow.progress.handed ≡ old.follow.progress.handed → StandsForLead c r mine new.lead
     → new.id ≡ old.id → new.replicas ≡ old.replicas → new.budget ≡ old.budget → new.grants ≡ old.grants → new.watch ≡ old.watch → new.log.items ≡ old.log.items → vec_capacity old.log ≤ vec_capacity new.log
-    → new.commits.items ≡ old.commits.items → vec_capacity old.commits ≤ vec_capacity new.commits → new.answers.table ≡ old.answers.table → new.answers.replies ≡ old.answers.replies → old.answers.left ≤ new.answers.left → LivesForNode c r mine new
-node_same c r mine old new held follow handed lead id replicas budget grants watch log log_grows commits commits_grow table told left =
+    → new.commits.items ≡ old.commits.items → vec_capacity old.commits ≤ vec_capacity new.commits → new.answers.table ≡ old.answers.table → new.answers.replies ≡ old.answers.replies → old.answers.left ≤ new.answers.left → HoldsNode false Where c r mine n new
+node_same c r n mine old new held follow handed lead id replicas budget grants watch log log_grows commits commits_grow table told left =
     let logs = held.beside.log_room in
     let list = held.beside.commit_room in
-    lives c r mine new
-    (record {
-      id = id ∙ held.beside.id;
-      replicas = replicas ∙ held.beside.replicas;
-      budget = budget ∙ held.beside.budget;
-      grants = rw grants held.beside.grants;
-      watch = rw watch held.beside.watch;
-      follow = follow;
-      no_log = log ∙ held.beside.no_log;
-      log_room = omega (arith, logs, log_grows);
-      no_commits = commits ∙ held.beside.no_commits;
-      commit_room = omega (arith, list, commits_grow);
-    })
-    lead (handed ∙ held.handed) (λ commands are. (let was = held.answers commands are in let room = was.left in record { replies = told ∙ was.replies; table = table ∙ was.table; left = omega (arith, room, left) })) (held.reads)
+    record {
+      beside = record {
+        id = id ∙ held.beside.id;
+        replicas = replicas ∙ held.beside.replicas;
+        budget = budget ∙ held.beside.budget;
+        grants = rw grants held.beside.grants;
+        watch = rw watch held.beside.watch;
+        follow = follow;
+        no_log = log ∙ held.beside.no_log;
+        log_room = omega (arith, logs, log_grows);
+        no_commits = commits ∙ held.beside.no_commits;
+        commit_room = omega (arith, list, commits_grow);
+      };
+      lead = lead;
+      handed = handed ∙ held.handed;
+      answers = λ commands are. (let was = held.answers commands are in let room = was.left in record { replies = told ∙ was.replies; table = table ∙ was.table; left = omega (arith, room, left) });
+      reads = held.reads;
+      made = λ on. absurd (true≢false (sym on));
+      listed = λ on. absurd (true≢false (sym on));
+      placed = λ on. absurd (true≢false (sym on));
+    }
 
 -- what makes room in its replayer and its leader, whatever its configuration is called
 pub follow_roomy : (c : Config) (r : ℕ) (mine : List Event) (old new : Follow) → StandsForFollow c r mine old → (StandsForFollow old.config r mine old → StandsForFollow old.config r mine new) → StandsForFollow c r mine new
@@ -173,11 +204,15 @@ pub known_before : (c : Config) (row : Row) (r : ℕ) (mine : List Event) (value
 known_before c row r mine values lead held is =
     is ∙ (known_kept c (row ∷ []) r mine ∙ (ap (λ z. known z r mine) (sym held.config) ∙ ap (λ i. known lead.config i mine) (sym held.id)))
 
+-- what is told is what it knows with the row
+pub values_there : (c : Config) (row : Row) (r : ℕ) (mine : List Event) (config : Config) (values : List ℕ) (log : KnownLog) → config ≡ with_more c (row ∷ []) → values ≡ known (with_more c (row ∷ [])) r mine → HoldsValues (with_more c (row ∷ [])) (known (with_more c (row ∷ [])) r mine) log → HoldsValues config values log
+values_there c row r mine config values log grown is holds = subst (λ z. HoldsValues z values log) (sym grown) (subst (λ l. HoldsValues (with_more c (row ∷ [])) l log) (sym is) holds)
+
 pub lead_over : (c : Config) (row : Row) (r : ℕ) (mine : List Event) (config : Config) (values : List ℕ) (log : KnownLog) (old new : Lead) → config ≡ with_more c (row ∷ []) → StandsForLead c r mine old
     → HoldsValues (with_more c (row ∷ [])) (known (with_more c (row ∷ [])) r mine) log → values ≡ known (with_more c (row ∷ [])) r mine → new.config ≡ config → new.id ≡ old.id
     → ((next : Row) → config ≡ with_more old.config (next ∷ []) → HoldsValues config values log → LeadStandsFor mine new) → StandsForLead (with_more c (row ∷ [])) r mine new
 lead_over c row r mine config values log old new grown held holds is same id adds = record {
   config = same ∙ grown;
   id = id ∙ held.id;
-  stands = adds row (grown ∙ ap (λ z. with_more z (row ∷ [])) (sym held.config)) (subst (λ z. HoldsValues z values log) (sym grown) (subst (λ l. HoldsValues (with_more c (row ∷ [])) l log) (sym is) holds));
+  stands = adds row (grown ∙ ap (λ z. with_more z (row ∷ [])) (sym held.config)) (values_there c row r mine config values log grown is holds);
 }

@@ -13,6 +13,7 @@ pub mod FewRows
 pub mod Growing
 pub mod Leading
 pub mod Left
+pub mod Midway
 pub mod Moving
 pub mod Reading
 pub mod Turning

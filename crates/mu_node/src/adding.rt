@@ -6,7 +6,9 @@ ghost use Rattle.mu_model.specs.declared.event.Event.{Event as SomeEvent};
 ghost use Rattle.mu_model.specs.Contents.{IsConfig, row_count};
 ghost use Rattle.mu_model.specs.Parts.{IsPossible};
 ghost use Rattle.mu_model.specs.Room.{reserve};
-ghost use Rattle.mu_node.specs.Growing.{Growth, HasRoomForRow};
+ghost use Rattle.mu_node.specs.declared.deciding.Decision.{Decision};
+ghost use Rattle.mu_node.specs.Deciding.{HasDecided};
+ghost use Rattle.mu_node.specs.Growing.{Growth, HasRoomForRow, StandsInTurn, StandsOn};
 ghost use Rattle.mu_node.specs.Node.{LivesForNode};
 
 use crate::node::Node;
@@ -46,10 +48,10 @@ impl Node {
     /// Makes room for one row more. Takes memory. Without it the replica stands as it did.
     pub fn make_room(&mut self) -> Result<(), NoMemory>
         requires config { IsConfig self.old.follow.config }
-        ensures keeps { (c : Config) → (r : ℕ) → (mine : List SomeEvent)
-            → LivesForNode c r mine self.old → LivesForNode c r mine self.new }
+        ensures keeps { StandsOn self.old self.new }
         ensures room { IfOk result (λ done. (c : Config) → (r : ℕ) → (mine : List SomeEvent)
-            → LivesForNode c r mine self.old → HasRoomForRow c self.new) }
+            → StandsInTurn c r mine self.old → HasRoomForRow c self.new) }
+        ensures config { self.new.follow.config ≡ self.old.follow.config }
         ensures id { self.new.id ≡ self.old.id }
         ensures zeal { self.new.zeal ≡ self.old.zeal }
         ensures stops { self.new.stops ≡ self.old.stops }
@@ -62,7 +64,7 @@ impl Node {
     }
 
     /// Goes over to a configuration with one row more at the end, of which the leader and the
-    /// replayer have a copy each. Takes no memory.
+    /// replayer have a copy each; also once it decided what it does next. Takes no memory.
     pub fn add_last(&mut self, config: Config, copy: Config)
         ghost growth: { Growth }
         requires was { IsConfig growth.config }
@@ -70,9 +72,14 @@ impl Node {
         requires copy { copy ≡ config }
         requires grown { config ≡ with_more growth.config (growth.row ∷ []) }
         requires possible { IsPossible growth.config growth.replica growth.mine }
-        requires lives { LivesForNode growth.config growth.replica growth.mine self.old }
+        requires stands { StandsInTurn growth.config growth.replica growth.mine self.old }
         requires room { HasRoomForRow growth.config self.old }
-        ensures lives { LivesForNode config growth.replica growth.mine self.new }
+        ensures stands { StandsInTurn config growth.replica growth.mine self.new }
+        ensures lives { LivesForNode growth.config growth.replica growth.mine self.old
+            → LivesForNode config growth.replica growth.mine self.new }
+        ensures decided { (decision : Decision) → HasDecided growth.mine self.old decision
+            → HasDecided growth.mine self.new decision }
+        ensures config { self.new.follow.config ≡ config }
         ensures id { self.new.id ≡ self.old.id }
         ensures zeal { self.new.zeal ≡ self.old.zeal }
         ensures stops { self.new.stops ≡ self.old.stops }

@@ -5,6 +5,7 @@ use Rattle.std.proofs.lemmas.Option.{slice_get-get_or, slice_get_within}
 use Rattle.mu_model.specs.Contents.{IsConfig}
 use Rattle.mu_model.proofs.Lists.{set_get}
 use Rattle.mu_node.specs.Growing.{HasRoomForRow}
+use Rattle.mu_node.proofs.Growing.{in_turn}
 use Rattle.mu_engine.specs.declared.seat.Seat.{Seat}
 use Rattle.mu_engine.specs.Seats.{Sits, part_of}
 use Rattle.mu_engine.proofs.Holds.{held_map}
@@ -30,12 +31,12 @@ loop-k-preserved c =
     let low : k < length seats = omega (arith, c.loop-k-test.true, c.loop-k.invariant.count) in
     let at : slice_get seats k ≡ Some old = slice_get-get_or seats k c.index-seats-k.result low in
     let sits = c.loop-k.invariant.seated.each k old at in
-    let kept : Sits f k events new = record { lives = c.make_room.ensures.keeps f k (part_of k events) sits.lives; stops = ap (λ v. v.items) c.make_room.ensures.stops ∙ sits.stops; zeal = c.make_room.ensures.zeal ∙ sits.zeal } in
+    let kept : Sits f k events new = record { lives = c.make_room.ensures.keeps.lives f k (part_of k events) sits.lives; stops = ap (λ v. v.items) c.make_room.ensures.stops ∙ sits.stops; zeal = c.make_room.ensures.zeal ∙ sits.zeal } in
     record {
       count = length-set seats k new ∙ c.loop-k.invariant.count;
       seated = seated_set f events seats k new kept c.loop-k.invariant.seated;
       room = λ r seat below there. elim (set_get seats k new r seat there) [
-        | inl here ↦ subst (λ (s : Seat). HasRoomForRow f s.node) here.1 (c.in_ok-make_room.ensures.room f k (part_of k events) sits.lives)
+        | inl here ↦ subst (λ (s : Seat). HasRoomForRow f s.node) here.1 (c.in_ok-make_room.ensures.room f k (part_of k events) (in_turn f k (part_of k events) old.node sits.lives))
         | inr other ↦ c.loop-k.invariant.room r seat (let differ = other.0 in omega (arith, below, differ)) other.1
       ];
       holds = held_map seats k old new at refl ∙ c.loop-k.invariant.holds;
@@ -52,7 +53,7 @@ returns-in_err-make_room-clause-seated c =
     let low : k < length seats = omega (arith, c.loop-k-test.true, c.loop-k.invariant.count) in
     let at : slice_get seats k ≡ Some old = slice_get-get_or seats k c.index-seats-k.result low in
     let sits = c.loop-k.invariant.seated.each k old at in
-    let kept : Sits f k events new = record { lives = c.make_room.ensures.keeps f k (part_of k events) sits.lives; stops = ap (λ v. v.items) c.make_room.ensures.stops ∙ sits.stops; zeal = c.make_room.ensures.zeal ∙ sits.zeal } in
+    let kept : Sits f k events new = record { lives = c.make_room.ensures.keeps.lives f k (part_of k events) sits.lives; stops = ap (λ v. v.items) c.make_room.ensures.stops ∙ sits.stops; zeal = c.make_room.ensures.zeal ∙ sits.zeal } in
     seated_set f events seats k new kept c.loop-k.invariant.seated
 
 pub returns-in_err-make_room-clause-holds : goal.returns-in_err-make_room-clause-holds

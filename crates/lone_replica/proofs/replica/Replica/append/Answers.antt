@@ -7,11 +7,11 @@ use Rattle.mu_model.specs.Growing.{with_more}
 use Rattle.mu_model.specs.Parts.{IsPossible}
 use Rattle.lone_words.specs.declared.access.Shape.{Shape}
 use Rattle.lone_words.specs.declared.accesses.Accesses.{Accesses}
+use Rattle.mu_node.specs.Growing.{StandsInTurn}
 use Rattle.mu_node.specs.Node.{LivesForNode}
 use Rattle.lone_replica.specs.Appending.{next_request, row_of}
 use Rattle.lone_replica.specs.Standing.{StandsForReplica}
-use Rattle.lone_replica.proofs.Adding.{next_is_config, replica_grown}
-use Rattle.lone_replica.proofs.Standing.{lives_alone}
+use Rattle.lone_replica.proofs.Adding.{in_turn_held, next_is_config, replica_grown}
 use Rattle.lone_replica.proofs.replica.Replica.append.Goals as goal
 
 pub grow-requires : goal.grow-requires
@@ -31,7 +31,7 @@ grow-requires g c =
     let grown = next_is_config g.at.0 command row parts.good few number c.encode-row.ensures.client c.encode-row.ensures.number c.encode-row.ensures.rest in
     let mid = c.make_room.new.self in
     let id = c.make_room.ensures.id in
-    let lives = lives_alone g.at.0 old.id g.at.1 mid c.make_room.ensures.stands c.make_room.ensures.due in (
+    let held = in_turn_held g.at.0 old.id g.at.1 mid.accesses.shape mid.node mid.due c.make_room.ensures.stands.node in (
       refl,
       (
         parts.good,
@@ -45,7 +45,7 @@ grow-requires g c =
                 subst IsConfig (sym own) grown,
                 (
                   subst (λ (i : ℕ). IsPossible g.at.0 i g.at.1.0) (sym id) parts.possible,
-                  (subst (λ (i : ℕ). LivesForNode g.at.0 i g.at.1.0 mid.node) (sym id) lives, c.in_ok-make_room.ensures.room),
+                  (subst (λ (i : ℕ). StandsInTurn g.at.0 i g.at.1.0 mid.node) (sym id) held, c.in_ok-make_room.ensures.room),
                 ),
               ),
             ),
@@ -74,6 +74,10 @@ returns-clause-appended g c =
     let new = c.grow.new.self in
     let of : List ℕ → Row = λ ws. record { words = ws } in
     let spelled : row ≡ row_of (next_request g.at.0 c.args.client c.args.op) = ap of c.encode-row.ensures.words ∙ ap row_of told in
-    let there : LivesForNode (with_more g.at.0 (row ∷ [])) old.id g.at.1.0 new.node = subst (λ (k : Config). LivesForNode k old.id g.at.1.0 new.node) own (subst (λ (i : ℕ). LivesForNode c.in_ok-copies.copies.own i g.at.1.0 new.node) c.make_room.ensures.id c.grow.ensures.lives) in
+    let kept = c.make_room.ensures.id in
+    let lives : LivesForNode g.at.0 old.id g.at.1.0 mid.node → LivesForNode (with_more g.at.0 (row ∷ [])) old.id g.at.1.0 new.node =
+    λ was. subst (λ (k : Config). LivesForNode k old.id g.at.1.0 new.node) own
+    (subst (λ (i : ℕ). LivesForNode c.in_ok-copies.copies.own i g.at.1.0 new.node) kept (c.grow.ensures.lives (subst (λ (i : ℕ). LivesForNode g.at.0 i g.at.1.0 mid.node) (sym kept) was))) in
     subst (λ (x : Row). StandsForReplica (with_more g.at.0 (x ∷ [])) old.id g.at.1 new) spelled
-    (replica_grown g.at.0 row old.id g.at.1 mid new grown (subst (λ (a : Accesses). row_count g.at.0 < a.shape.rows) (sym c.make_room.ensures.accesses) room) c.make_room.ensures.stands (c.grow.ensures.config ∙ own) there (c.grow.ensures.due ∙ c.make_room.ensures.due) c.grow.ensures.id c.grow.ensures.last c.grow.ensures.accesses)
+    (replica_grown g.at.0 row old.id g.at.1 mid new grown (subst (λ (a : Accesses). row_count g.at.0 < a.shape.rows) (sym c.make_room.ensures.accesses) room) c.make_room.ensures.stands (c.grow.ensures.config ∙ own)
+    (c.grow.ensures.follow ∙ own) c.grow.ensures.node lives c.grow.ensures.decided c.grow.ensures.due c.grow.ensures.id c.grow.ensures.last c.grow.ensures.accesses)

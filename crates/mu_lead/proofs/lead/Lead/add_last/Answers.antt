@@ -62,3 +62,26 @@ returns-else-is_resting-clause-stands g c row same counts =
       tables = subst (λ z. HoldsTables z r mine l.up l.reach l.heads words) (sym same) tables;
       at = subst (λ z. At z r l.number mine l.up l.reach words l.place) (sym same) here;
     }
+
+pub returns-then-is_resting-clause-wakes : goal.returns-then-is_resting-clause-wakes
+returns-then-is_resting-clause-wakes g c row same counts rests =
+    let mine = g.mine in
+    let l = c.args.self.now in
+    let k = l.config in
+    let r = l.id in
+    let new : Config = c.args.config in
+    let stands = c.requires.0 in
+    let good = subst (λ z. IsConfig z) same c.requires.1.1.1.0 in
+    let possible = possible_more k (row ∷ []) r mine stands.config good c.requires.1.0 in
+    let pushed = c.push_within.ensures.items c.requires.1.1.1.1 in
+    let words = c.push_within.new.items.items in
+    let tables = subst (λ w. HoldsTables (with_more k (row ∷ [])) r mine l.up l.reach l.heads w) (sym pushed) (tables_more k row r mine l.up l.reach l.heads l.written.items c.requires.1.0 stands.tables) in
+    c.late_from-self.ensures counts mine
+    (record {
+      possible = subst (λ z. IsPossible z r mine) (sym same) possible;
+      config = c.requires.1.1.1.0;
+      inside = subst (λ (z : Config). r < z.replicas) (sym same) stands.inside;
+      leading = stands.leading;
+      tables = subst (λ z. HoldsTables z r mine l.up l.reach l.heads words) (sym same) tables;
+    })
+    (c.requires.1.1.0 ∙ sym (known_kept k (row ∷ []) r mine) ∙ ap (λ z. known_of z r mine) (sym same))
