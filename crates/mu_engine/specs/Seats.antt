@@ -35,4 +35,4 @@ abbrev pub Plays : Config → ℕ → Hold → List Event → List Event → Typ
 Plays c r hold old new =
     ((new ≡ old) × (is_free hold ≡ true → IsHalted c r (part_of r old)))
     ⊎ ((e : Event) × (e.by ≡ r) × (is_free hold ≡ true) × (IsHalted c r (part_of r old) → ⊥)
-        × (new ≡ old ++ e ∷ []))
+    × (new ≡ old ++ e ∷ []))
