@@ -23,9 +23,8 @@ use Rattle.mu_lead.specs.declared.note.Note.{Note}
 use Rattle.mu_lead.specs.Going.{begins_at, going_after}
 use Rattle.mu_lead.specs.Noting.{or_idle}
 use Rattle.mu_model.proofs.Basics.{none_some}
-use Rattle.mu_model.specs.Histories.{event_by}
 use Rattle.mu_node.specs.Notes.{MovesGoing, TellsNote}
-use Rattle.mu_node.specs.Due.{asks_out_of_turn, idle_due, is_eager, lead_due, turn_due, verb_or_beat}
+use Rattle.mu_node.specs.Due.{asks_out_of_turn, idle_due, is_eager, lead_due, verb_or_beat}
 
 -- a leader that left its leadership has the first ask due
 pub asked_due : (c : Config) (r : ℕ) (mine : List Event) (lead : Lead) → is_named c r mine ≡ true → lead.place ≡ Place.Ask 0 → lead_due c r mine lead ≡ Some (Verb.Ask 0)

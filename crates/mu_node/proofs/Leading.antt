@@ -1,6 +1,6 @@
 -- Whom the scores name while a leader leads, and events without an end.
 use Rattle.std.proofs.Common.{◌≡◌, ◌∙◌, ℕ, zero, suc, ◌+◌, ◌<◌, ◌≤◌, ◌==◌, ◌&&◌, ◌||◌, inl, inr, Bool, true, false, cond, None, Some, List, ap, arith, length, refl, subst, sym}
-use Rattle.std.specs.Prelude.{if◌then◌else◌, nat_lt, not}
+use Rattle.std.specs.Prelude.{nat_lt, not}
 use Rattle.std.specs.declared.option.Option.{Option}
 use Rattle.std.proofs.lemmas.Bool.{and_parts, cases_eq, eqb-false, lt-ltb, ne_eqb, true≢false}
 use Rattle.mu_model.specs.declared.config.Config.{Config}

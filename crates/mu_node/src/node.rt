@@ -185,7 +185,8 @@ impl Node {
         }
     }
 
-    /// One step: what the replica decides to do, its access, and what the answer means.
+    /// One step: what the replica decides, one access, and what it makes of the answer. The ask out
+    /// of turn has a call of its own, so that no step carries along which of the two it was.
     /// Inlined: it is so long that the compiler would otherwise leave it out of a turn at times.
     #[inline(always)]
     fn step<P: Port>(&mut self, port: &mut P) -> Note
@@ -215,8 +216,13 @@ impl Node {
             self.old.lead self.new.lead result }
     {
         let decision = self.decide();
-        let answer = port.step(decision.verb());
-        self.settle(decision, answer)
+        if decision.again {
+            let answer = port.ask(0);
+            self.settle(decision, answer)
+        } else {
+            let answer = port.step(decision.verb());
+            self.settle(decision, answer)
+        }
     }
 
     /// What the replica leaves. Takes no memory.
