@@ -110,6 +110,8 @@ class Attested:
             return f"not allowed: replica {by} has not applied row {row}"
         if right != reply:
             return f"wrong reply: expected {right}"
+        if row not in self.got:
+            return f"not allowed: row {row} was never got"
         self.told += 1
         return None
 
@@ -185,9 +187,11 @@ def cases():
     yield "got_late_second", put_into(small, (0, "got 0"), (put[1] + 1, "got 1"))
     yield "got_twice", put_into(small, (0, "got 1"), (5, "got 1"))
     yield "got_twice_late", put_into(small, (0, "got 0"), (put[0] + 1, "got 0"))
+    yield "told_never_got", put_into(small, (leader, "0 told 0 = done"))
+    yield "told_never_got_second", put_into(small, (0, "got 0"), (leader, "0 told 0 = done"), (count, "2 told 1 = value 5"))
     yield "told_early", put_into(small, (leader - 1, "0 told 0 = done"))
     yield "told_early_second", put_into(small, (applied[2, 1] - 1, "2 told 1 = value 5"))
-    yield "told_late", put_into(small, (count, "0 told 0 = done"), (count, "2 told 0 = done"), (count, "2 told 0 = done"))
+    yield "told_late", put_into(small, (0, "got 0"), (count, "0 told 0 = done"), (count, "2 told 0 = done"), (count, "2 told 0 = done"))
     yield "told_elsewhere", put_into(small, (leader, "1 told 0 = done"))
     yield "told_first", put_into(small, (0, "0 told 0 = done"))
     yield "told_value", put_into(small, (count, "1 told 1 = value 6"))

@@ -1,5 +1,5 @@
 -- What is known of a trace whose items are judged as they are read.
-use Rattle.std.proofs.Common.{◌≡◌, ℕ, ◌+◌, ◌-◌, ◌≤◌, List, [], ◌∷◌, ◌++◌, length, take, sym, ap, subst, ◌∙◌, append_assoc, arith, Some, None, Ok, Err}
+use Rattle.std.proofs.Common.{◌≡◌, ℕ, ◌+◌, ◌-◌, ◌≤◌, Bool, List, [], ◌∷◌, ◌++◌, length, take, sym, ap, subst, ◌∙◌, append_assoc, arith, Some, None, Ok, Err}
 use Rattle.std.proofs.Math.Seq.{take-append_seam}
 use Rattle.std.proofs.lemmas.List.{length-reverse, length_push, reverse-append}
 use Rattle.kv_store.specs.declared.store.Reply.{Reply}
@@ -24,7 +24,7 @@ use Rattle.mu_input.specs.Readings.{Fits}
 use Rattle.mu_input.specs.declared.job.Job.{Job}
 use Rattle.mu_model.proofs.Budgets.{short_history}
 use Rattle.mu_model.proofs.Lists.{get_front, get_push_here}
-use Rattle.mu_model.specs.Contents.{IsConfig, row_count}
+use Rattle.mu_model.specs.Contents.{IsConfig, includes, row_count}
 use Rattle.mu_text.specs.Lines.{Left, ended, lines}
 
 -- some items were read and are attested, and the states are those that they lead to
@@ -97,20 +97,21 @@ counts_fit (Item.Got row ∷ past) = let rest = counts_fit past in let one = len
 counts_fit (Item.Told by row reply ∷ past) = let rest = counts_fit past in omega (arith, rest)
 
 -- a reply that was told is right, or this is wrong with it
-pub told_judged : (job : Job) (past : List Item) (by row : ℕ) (reply : Reply) (right : Option Reply) (flaw : Option Flaw) (attestor : Attestor) → right ≡ reply_by job by (events_in past) row → FlawOfReply right reply flaw
+pub told_judged : (job : Job) (past : List Item) (by row : ℕ) (reply : Reply) (right : Option Reply) (is_got : Bool) (flaw : Option Flaw) (attestor : Attestor) → right ≡ reply_by job by (events_in past) row → is_got ≡ includes row attestor.got.items → FlawOfReply right reply is_got flaw
     → StandsForAttestor job past attestor → StaysOrTakes job past (Item.Told by row reply) attestor flaw
-told_judged job past by row reply right None attestor is judged held = record {
-  attested = (held.attested, sym is ∙ judged);
+told_judged job past by row reply right is_got None attestor is had judged held = record {
+  attested = (held.attested, (sym is ∙ judged.0, ap (includes row) (sym held.got) ∙ sym had ∙ judged.1));
   walk = held.walk;
   got = held.got;
   put = held.put;
   events = held.events;
 }
-told_judged job past by row reply right (Some (Flaw.Fault fault)) attestor is judged held = absurd judged
-told_judged job past by row reply right (Some Flaw.GotBefore) attestor is judged held = absurd judged
-told_judged job past by row reply right (Some Flaw.PutBefore) attestor is judged held = absurd judged
-told_judged job past by row reply right (Some Flaw.NotApplied) attestor is judged held = sym is ∙ judged
-told_judged job past by row reply right (Some (Flaw.OtherReply other)) attestor is judged held = (sym is ∙ judged.0, judged.1)
+told_judged job past by row reply right is_got (Some (Flaw.Fault fault)) attestor is had judged held = absurd judged
+told_judged job past by row reply right is_got (Some Flaw.GotBefore) attestor is had judged held = absurd judged
+told_judged job past by row reply right is_got (Some Flaw.PutBefore) attestor is had judged held = absurd judged
+told_judged job past by row reply right is_got (Some Flaw.NotApplied) attestor is had judged held = sym is ∙ judged
+told_judged job past by row reply right is_got (Some (Flaw.OtherReply other)) attestor is had judged held = (sym is ∙ judged.0, judged.1)
+told_judged job past by row reply right is_got (Some Flaw.NeverGot) attestor is had judged held = (sym is ∙ judged.0, ap (includes row) (sym held.got) ∙ sym had ∙ judged.1)
 
 -- what is left of so many items is the replies
 pub counts_all : (past : List Item) (items events gots : ℕ) (counts : Attested) → items ≡ length past → events ≡ length (events_in past) → gots ≡ length (rows_got past) → counts.events ≡ events → counts.gots ≡ gots

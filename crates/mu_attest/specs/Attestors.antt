@@ -1,6 +1,6 @@
 -- stands for (attestor), stays or takes: the items are attested, and the states are those that they
 -- lead to; an item was taken, or this is wrong with it.
-use Rattle.std.specs.Prelude.{◌+◌, ◌≡◌, ◌≢◌, List, ◌∷◌, None, Some, length}
+use Rattle.std.specs.Prelude.{◌+◌, ◌≡◌, ◌≢◌, Bool, List, ◌∷◌, None, Some, false, length, true}
 use Rattle.std.specs.declared.option.Option.{Option}
 use Rattle.kv_store.specs.declared.store.Reply.{Reply}
 use Rattle.mu_attest.specs.declared.attestor.Attestor.{Attestor}
@@ -24,12 +24,14 @@ abbrev pub StaysOrTakes : Job → List Item → Item → Attestor → Option Fla
 StaysOrTakes job past item new None = StandsForAttestor job (item ∷ past) new
 StaysOrTakes job past item new (Some flaw) = IsFlaw job past item flaw
 
--- what is wrong with a reply, if this is the right one, or there is none
-abbrev pub FlawOfReply : Option Reply → Reply → Option Flaw → Type 0
-FlawOfReply right reply None = right ≡ Some reply
-FlawOfReply right reply (Some Flaw.NotApplied) = right ≡ None
-FlawOfReply right reply (Some (Flaw.OtherReply other)) = (right ≡ Some other) × (other ≢ reply)
-FlawOfReply right reply (Some _) = ⊥
+-- what is wrong with a reply, if this is the right one, or there is none; and if its command was got
+abbrev pub FlawOfReply : Option Reply → Reply → Bool → Option Flaw → Type 0
+FlawOfReply right reply is_got None = (right ≡ Some reply) × (is_got ≡ true)
+FlawOfReply right reply is_got (Some Flaw.NotApplied) = right ≡ None
+FlawOfReply right reply is_got (Some (Flaw.OtherReply other)) =
+    (right ≡ Some other) × (other ≢ reply)
+FlawOfReply right reply is_got (Some Flaw.NeverGot) = (right ≡ Some reply) × (is_got ≡ false)
+FlawOfReply right reply is_got (Some _) = ⊥
 
 -- how many of these items there are of each kind
 pub record CountsItems (past : List Item) (counts : Attested) : Type 0 where

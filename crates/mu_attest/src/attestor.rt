@@ -129,7 +129,8 @@ impl Attestor {
             → IfOk result (StaysOrTakes job.now past (item.Told by row reply.now) self.now) }
     {
         let right = reply_over(alloc, job, self.walk.applied_values(by), row)?;
-        Ok(flaw_of_reply(right, reply))
+        let is_got = has_row(self.got.as_slice(), row);
+        Ok(flaw_of_reply(right, reply, is_got))
     }
 }
 
@@ -140,17 +141,19 @@ fn is_same(right: &Reply, reply: &Reply) -> bool
     *right == *reply
 }
 
-/// What is wrong with a reply, if this is the right one.
-fn flaw_of_reply(right: Option<Reply>, reply: &Reply) -> Option<Flaw>
-    ensures { FlawOfReply right reply.now result }
+/// What is wrong with a reply, if this is the right one, and if its command was got.
+fn flaw_of_reply(right: Option<Reply>, reply: &Reply, is_got: bool) -> Option<Flaw>
+    ensures { FlawOfReply right reply.now is_got result }
 {
     match right {
         None => Some(Flaw::NotApplied),
         Some(right) => {
-            if is_same(&right, reply) {
+            if !is_same(&right, reply) {
+                Some(Flaw::OtherReply(right))
+            } else if is_got {
                 None
             } else {
-                Some(Flaw::OtherReply(right))
+                Some(Flaw::NeverGot)
             }
         }
     }

@@ -42,8 +42,8 @@ attested_agree job items held i j r s row first second one two =
     let here = events_in (reverse (take i items)) in
     let there = events_in (reverse (take j items)) in
     elim (logs_agree job.config r s (events_in (reverse items)) here there a.newer b.newer (events_legal job (reverse items) held) a.all b.all) [
-      | inl begins ↦ same_some first second (sym (reply_along job (applied job.config r (part r here)) (applied job.config s (part s there)) row first begins a.may) ∙ b.may)
-      | inr begins ↦ same_some first second (sym a.may ∙ reply_along job (applied job.config s (part s there)) (applied job.config r (part r here)) row second begins b.may)
+      | inl begins ↦ same_some first second (sym (reply_along job (applied job.config r (part r here)) (applied job.config s (part s there)) row first begins a.may.0) ∙ b.may.0)
+      | inr begins ↦ same_some first second (sym a.may.0 ∙ reply_along job (applied job.config s (part s there)) (applied job.config r (part r here)) row second begins b.may.0)
     ]
 
 -- a place in a list and what comes behind
@@ -66,7 +66,7 @@ attested_in_time job items held i j r s sooner later reply low one two k at =
     let got = stands_at job items j (Item.Got later) held two in
     let before = earlier items i j (Item.Told r sooner reply) low one in
     let inside = stands_at job (take j items) i (Item.Told r sooner reply) got.before before.0 in
-    let seen : (x : ℕ) × (slice_get (rows_in job.config log) x ≡ Some sooner) = beside_at sooner (rows_in job.config log) _ reply told.may in
+    let seen : (x : ℕ) × (slice_get (rows_in job.config log) x ≡ Some sooner) = beside_at sooner (rows_in job.config log) _ reply told.may.0 in
     let never : (x : ℕ) → slice_get (rows_in job.config log) x ≡ Some later → ⊥ =
     λ x there.
     let put = applied_put job.config r x later here (events_legal job (reverse (take i items)) told.before) there in

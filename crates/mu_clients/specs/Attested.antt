@@ -1,8 +1,8 @@
 -- attested: a list of events and of what clients see of the service is right: its events are legal,
 -- no command is got twice, or after an entry with its row was put, and each reply that a replica
--- tells is the store's over what that replica has applied.
+-- tells is the store's over what that replica has applied, to a command that was got.
 --
--- Of a row that has no `got` nothing is asked.
+-- Of a row that has neither a `got` nor a reply nothing is asked.
 use Rattle.std.specs.Prelude.{ℕ, ◌++◌, ◌==◌, ◌≡◌, ◌≢◌, List, [], ◌∷◌, None, Some, false, if◌then◌else◌, reverse, true}
 use Rattle.std.specs.declared.option.Option.{Option}
 pub use Rattle.kv_store.specs.Beside.{beside}
@@ -58,13 +58,15 @@ abbrev pub reply_by : Job → ℕ → List Event → ℕ → Option Reply
 reply_by job r past j = reply_over job (applied job.config r (part r past)) j
 
 -- the item may come after these: the event may follow; the command wasn't got yet, and no entry
--- with its row was put; the replica has applied the row, and this is the store's reply
+-- with its row was put; the replica has applied the row, this is the store's reply, and the command
+-- was got
 abbrev pub MayCome : Job → List Item → Item → Type 0
 MayCome job past (Item.Event event) = MayFollow job.config (events_in past) event
 MayCome job past (Item.Got row) =
     (includes row (rows_got past) ≡ false)
     × (includes row (rows_put job.config (events_in past)) ≡ false)
-MayCome job past (Item.Told by row reply) = reply_by job by (events_in past) row ≡ Some reply
+MayCome job past (Item.Told by row reply) =
+    (reply_by job by (events_in past) row ≡ Some reply) × (includes row (rows_got past) ≡ true)
 
 -- each item may come after those before it, with the newest first
 abbrev pub IsAttestedBack : Job → List Item → Type 0
@@ -87,4 +89,6 @@ IsFlaw job past (Item.Told by row reply) Flaw.NotApplied =
     reply_by job by (events_in past) row ≡ None
 IsFlaw job past (Item.Told by row reply) (Flaw.OtherReply right) =
     (reply_by job by (events_in past) row ≡ Some right) × (right ≢ reply)
+IsFlaw job past (Item.Told by row reply) Flaw.NeverGot =
+    (reply_by job by (events_in past) row ≡ Some reply) × (includes row (rows_got past) ≡ false)
 IsFlaw job past _ _ = ⊥

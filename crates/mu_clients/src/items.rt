@@ -34,6 +34,8 @@ pub enum Flaw {
     NotApplied,
     /// It has, and this is the reply.
     OtherReply(Reply),
+    /// The reply is right, but the command was never got.
+    NeverGot,
 }
 
 /// The first item that breaks an attested list.

@@ -53,7 +53,7 @@ use Rattle.mu_cluster.proofs.Outliving.{leads_last}
 use Rattle.mu_cluster.proofs.Pausing.{AreRun, HoldsBy, holds_after_pauses, none_outrun_in_large, paused_run}
 use Rattle.mu_cluster.proofs.Raised.{RaisedBy, alone_at, full_holds, holds_whole, late_or_raised, least_or_none}
 use Rattle.mu_cluster.proofs.Taken.{GoOn, TakenAt, fetches_at, taken_at}
-use Rattle.mu_cluster.proofs.Turning.{least_most}
+use Rattle.mu_node.proofs.Leading.{least_most}
 use Rattle.mu_cluster.proofs.Unblocking.{StopBy, lower_stop, unblocked_at}
 use Rattle.mu_enough.specs.Committed.{committed_by, steps_after, steps_after_in_any_ring, steps_after_pauses}
 use Rattle.mu_enough.specs.Lines.{disturbed_until, has_large_ring, has_pause, has_stop, is_left, is_majority_left, last_line_step, last_pause_step, last_stop_below, last_stop_step, least_left, most_paused_rounds, paused_rounds}

@@ -50,7 +50,7 @@ use Rattle.mu_cluster.proofs.Outliving.{After, after, fails_then}
 use Rattle.mu_cluster.proofs.Outrunning.{none_outrun}
 use Rattle.mu_cluster.proofs.Raised.{RaisedBy, full_holds, holds_whole, late_or_raised}
 use Rattle.mu_cluster.proofs.Taken.{GoOn}
-use Rattle.mu_cluster.proofs.Turning.{least_most}
+use Rattle.mu_node.proofs.Leading.{least_most}
 use Rattle.mu_agree.proofs.Sessions.{same_list}
 use Rattle.mu_pace.proofs.Pasts.{cut, has_later}
 use Rattle.mu_alive.proofs.Settling.{score-part}

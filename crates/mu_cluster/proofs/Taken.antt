@@ -41,7 +41,7 @@ use Rattle.mu_alive.specs.Last.{FetchesInTime}
 use Rattle.mu_alive.specs.Near.{IsNear}
 use Rattle.mu_alive.specs.Opens.{OpensInTime}
 use Rattle.mu_alive.specs.Stopping.{ReadsInOrder}
-use Rattle.mu_cluster.proofs.Turning.{least_most}
+use Rattle.mu_node.proofs.Leading.{least_most}
 use Rattle.mu_pace.proofs.Pasts.{cut, Cut}
 use Rattle.mu_alive.proofs.LastRaising.{heads_before, replays_before}
 

@@ -1,9 +1,9 @@
 -- In a replay whose script has no pause replicas ask in turn.
-use Rattle.std.proofs.Common.{◌≡◌, ◌∙◌, ◌≢◌, ◌⊎◌, ℕ, suc, zero, ◌+◌, ◌*◌, ◌<◌, ◌≤◌, ◌==◌, ◌&&◌, inl, inr, Bool, true, false, cond, None, Some, List, [], ◌∷◌, ◌++◌, ap, append_assoc, arith, length, refl, subst, sym}
+use Rattle.std.proofs.Common.{◌≡◌, ◌∙◌, ◌≢◌, ◌⊎◌, ℕ, suc, ◌+◌, ◌*◌, ◌<◌, ◌≤◌, ◌==◌, ◌&&◌, inl, inr, Bool, true, false, cond, None, Some, List, [], ◌∷◌, ◌++◌, ap, append_assoc, arith, length, refl, subst, sym}
 use Rattle.std.specs.declared.option.Option.{Option}
 use Rattle.std.specs.Prelude.{nat_lt, not, slice_index}
 use Rattle.std.proofs.Math.Nat.{mul-le-mul_right}
-use Rattle.std.proofs.lemmas.Bool.{cases_eq, cases_lt, le-ltb, ne_eqb, true≢false}
+use Rattle.std.proofs.lemmas.Bool.{cases_lt, le-ltb, true≢false}
 use Rattle.std.proofs.lemmas.List.{length-append}
 use Rattle.mu_agree.proofs.Legal.{legal_older}
 use Rattle.mu_model.specs.declared.config.Config.{Config}
@@ -17,9 +17,9 @@ use Rattle.mu_model.specs.Regions.{asks}
 use Rattle.mu_model.specs.Scores.{alive_after, beat_read, least_below, leader, points_after, score, score_after_read}
 use Rattle.mu_model.specs.Steps.{is_asking, is_beat_read, is_beat_read_verb}
 use Rattle.mu_model.proofs.Parts.{filter-append}
-use Rattle.mu_model.proofs.Scans.{least_below_fits}
 use Rattle.mu_detect.proofs.Leaders.{alive_leads, may_lead}
 use Rattle.mu_node.specs.Journal.{WasMade}
+use Rattle.mu_node.proofs.Leading.{least_most}
 use Rattle.mu_lively.proofs.Naming.{asker_named, reads_apart}
 use Rattle.mu_agree.specs.Moments.{AtEachStep}
 use Rattle.mu_pace.proofs.Counting.{steps_before}
@@ -29,21 +29,6 @@ use Rattle.mu_cluster.proofs.InStep.{StaysAhead, in_step}
 use Rattle.mu_cluster.proofs.Naming.{AreUnpaused, part_before, part_step}
 use Rattle.mu_cluster.proofs.Trusting.{trusts}
 use Rattle.mu_pace.proofs.Pasts.{has_newer}
-
--- the least that passes is at most each that does
-pub least_most : (n q : ℕ) (test : ℕ → Bool) → q < n → test q ≡ true → least_below n test ≤ q
-least_most zero q test low passes = absurd (omega (arith, low))
-least_most (suc n) q test low passes = elim (cases_eq q n) [
-  | inl same ↦ (let fits = least_below_fits n test in last (least_below n test == n) refl (subst (λ x. test x ≡ true) same passes) fits same)
-  | inr other ↦
-      let ih = least_most n q test (omega (arith, low, other)) passes in
-      let differs : (least_below n test == n) ≡ false = ne_eqb (least_below n test) n (λ is. omega (arith, is, ih, low, other)) in
-      rw differs ih
-]
-  where
-    last : (t : Bool) → (least_below n test == n) ≡ t → test n ≡ true → least_below n test ≤ n → q ≡ n → cond t (cond (test n) n (n + 1)) (least_below n test) ≤ q
-    last true is passes fits same = rw passes (omega (arith, same))
-    last false is passes fits same = omega (arith, fits, same)
 
 -- who names itself holds each lower one to be failed
 pub names_failed : (c : Config) (r q : ℕ) (mine : List Event) → leader c r mine ≡ r → q < r → r < c.replicas → (score r q mine).1 ≡ false

@@ -17,7 +17,7 @@ part_kept s old e other = ap (part s) (reverse-append old (e ∷ [])) ∙ rw (ne
 
 others_kept : (c : Config) (r s : ℕ) (hold : Hold) (old new : List Event) → Plays c r hold old new → s ≢ r → part_of s new ≡ part_of s old
 others_kept c r s hold old new (inl none) other = ap (part_of s) none.0
-others_kept c r s hold old new (inr one) other = ap (part_of s) one.3 ∙ part_kept s old one.0 (λ is. other (is ∙ one.1))
+others_kept c r s hold old new (inr one) other = ap (part_of s) one.4 ∙ part_kept s old one.0 (λ is. other (is ∙ one.1))
 
 pub seated_on : (c : Config) (old new : List Event) (seats : List Seat) (k : ℕ) (hold : Hold) (after : Seat) → Plays c k hold old new → Sits c k new after → AreSeated c old seats → AreSeated c new (set seats k after)
 seated_on c old new seats k hold after plays sits was = record {

@@ -28,7 +28,7 @@ part_waits k events steps below =
 -- the steps with one more turn
 pub steps_on : (c : Config) (holds : List Hold) (events old new steps : List Event) (k : ℕ) (hold : Hold) → old ≡ events ++ steps → slice_get holds k ≡ Some hold → Plays c k hold old new → AreSteps c holds events k steps
     → (more : List Event) × (new ≡ events ++ more) × AreSteps c holds events (suc k) more
-steps_on c holds events old new steps k hold list held (inl none) was = (steps, none.0 ∙ list, record { free = free; ascending = was.ascending; all = all })
+steps_on c holds events old new steps k hold list held (inl none) was = (steps, none.0 ∙ list, record { free = free; ascending = was.ascending; all = all; none = was.none })
   where
     free : (i : ℕ) (e : Event) → slice_get steps i ≡ Some e → (e.by < suc k) × (takes_turn holds e.by ≡ true)
     free i e at = let had = was.free i e at in let low = had.0 in (omega (arith, low), had.1)
@@ -45,8 +45,8 @@ steps_on c holds events old new steps k hold list held (inl none) was = (steps, 
     ]
 steps_on c holds events old new steps k hold list held (inr one) was = (
   steps ++ e ∷ [],
-  one.3 ∙ ap (λ l. l ++ e ∷ []) list ∙ append_assoc events steps (e ∷ []),
-  record { free = free; ascending = ascending; all = all },
+  one.4 ∙ ap (λ l. l ++ e ∷ []) list ∙ append_assoc events steps (e ∷ []),
+  record { free = free; ascending = ascending; all = all; none = still },
 )
   where
     e : Event
@@ -83,4 +83,16 @@ steps_on c holds events old new steps k hold list held (inr one) was = (
         | inr halted ↦ inr halted
       ]
       | inr above ↦ (let here : r ≡ k = omega (arith, low, above) in inl (record { place = length steps; event = one.0; there = get_push_here steps (length steps) one.0 refl; own = one.1 ∙ sym here }))
+    ]
+
+    still : (r : ℕ) → HasStep r (steps ++ one.0 ∷ []) → IsHalted c r (part r (history events)) → ⊥
+    still r made halted = elim (cases_eq made.place (length steps)) [
+      | inl last ↦
+          let same = same_some one.0 made.event (sym (get_push_here steps made.place one.0 last) ∙ made.there) in
+          let here : r ≡ k = sym made.own ∙ sym (ap (λ (x : Event). x.by) same) ∙ one.1 in
+          let mine = ap (part_of k) list ∙ part_waits k events steps (λ i f at. (was.free i f at).0) in
+          one.3 (subst (IsHalted c k) (sym mine) (subst (λ i. IsHalted c i (part_of i events)) here halted))
+      | inr other ↦
+          let at = sym (get_push_other steps made.place one.0 other) ∙ made.there in
+          was.none r (record { place = made.place; event = made.event; there = at; own = made.own }) halted
     ]

@@ -37,5 +37,8 @@ turned c old new p q r id turn node at_id is_id config events at_same same_confi
 pub plays_on : (c : Config) (r : ℕ) (hold : Hold) (old new : List Event) (turn : Turn) (node : Node) → is_free hold ≡ true → Turned c c r r old new turn node → Plays c r hold old new
 plays_on c r hold old new (Turn.Took note) node free t =
     let e = event_by r t.did.1.verb t.did.1.answer in
-    inr (e, refl, free, same_some new (old ++ e ∷ []) t.did.1.told.list)
+    inr (e, refl, free, (λ halted. cant (t.did.0 halted.end halted.ends) halted.halt), same_some new (old ++ e ∷ []) t.did.1.told.list)
+  where
+    cant : {b : Bool} → b ≡ false → b ≡ true → ⊥
+    cant no yes = absurd (sym no ∙ yes)
 plays_on c r hold old new (Turn.Ended end) node free t = inl (same_some new old t.did.2, λ _. record { end = end; ends = t.did.0.0; halt = t.did.0.1 })

@@ -34,10 +34,13 @@ pub record AreSteps (c : Config) (holds : List Hold) (events : List Event) (n : 
   pub ascending :
       (j k : ℕ) (d e : Event) → slice_get steps j ≡ Some d → slice_get steps k ≡ Some e → j < k
       → d.by < e.by
-  -- a replica that nothing holds makes one, if its events don't halt it
+  -- a replica that nothing holds makes one, unless its events halt it
   pub all :
       (r : ℕ) → r < n → takes_turn holds r ≡ true
       → HasStep r steps ⊎ IsHalted c r (part r (history events))
+  -- and none if they do
+  pub none :
+      (r : ℕ) → HasStep r steps → IsHalted c r (part r (history events)) → ⊥
 
 -- the steps of a whole round
 abbrev pub IsRound : Config → List Hold → List Event → List Event → Type 0

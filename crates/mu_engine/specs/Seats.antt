@@ -34,4 +34,5 @@ pub record AreSeated (c : Config) (events : List Event) (seats : List Seat) : Ty
 abbrev pub Plays : Config → ℕ → Hold → List Event → List Event → Type 0
 Plays c r hold old new =
     ((new ≡ old) × (is_free hold ≡ true → IsHalted c r (part_of r old)))
-    ⊎ ((e : Event) × (e.by ≡ r) × (is_free hold ≡ true) × (new ≡ old ++ e ∷ []))
+    ⊎ ((e : Event) × (e.by ≡ r) × (is_free hold ≡ true) × (IsHalted c r (part_of r old) → ⊥)
+    × (new ≡ old ++ e ∷ []))

@@ -1,4 +1,4 @@
 mod Events
 mod Others
-pub mod Places
+mod Places
 pub mod Waiting

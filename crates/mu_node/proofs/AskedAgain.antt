@@ -18,8 +18,6 @@ use Rattle.mu_lead.specs.Journal.{IsWhere, due_after}
 use Rattle.mu_lead.specs.Standing.{verb_of}
 use Rattle.mu_node.specs.Cycle.{handed, handed_before, place_now, IsMade}
 use Rattle.mu_follow.specs.CatchingUp.{or_else}
-use Rattle.mu_model.specs.Ends.{outrun}
-use Rattle.mu_node.specs.declared.node.Node.{Node}
 use Rattle.mu_node.specs.declared.zeal.Zeal.{Zeal}
 use Rattle.mu_lead.specs.declared.note.Note.{Note}
 use Rattle.mu_lead.specs.Going.{begins_at, going_after}
@@ -27,9 +25,7 @@ use Rattle.mu_lead.specs.Noting.{or_idle}
 use Rattle.mu_model.proofs.Basics.{none_some}
 use Rattle.mu_model.specs.Histories.{event_by}
 use Rattle.mu_node.specs.Notes.{MovesGoing, TellsNote}
-use Rattle.mu_node.specs.Journal.{FollowsTurn}
 use Rattle.mu_node.specs.Due.{asks_out_of_turn, idle_due, is_eager, lead_due, turn_due, verb_or_beat}
-use Rattle.mu_node.specs.Node.{StandsForNode}
 
 -- a leader that left its leadership has the first ask due
 pub asked_due : (c : Config) (r : ℕ) (mine : List Event) (lead : Lead) → is_named c r mine ≡ true → lead.place ≡ Place.Ask 0 → lead_due c r mine lead ≡ Some (Verb.Ask 0)
@@ -47,22 +43,12 @@ pub asks_parts : (zeal : Zeal) (c : Config) (r : ℕ) (mine : List Event) → as
 asks_parts Zeal.Plain c r mine asks = absurd (true≢false (sym asks))
 asks_parts Zeal.Eager c r mine asks = (refl, and_parts (is_named c r mine) (asks_again c r mine) asks)
 
--- the first ask out of turn follows the turn
-pub follows_asked : (c : Config) (r : ℕ) (mine : List Event) (node : Node) (answer : Answer) → is_odd (length mine) ≡ true → outrun c r mine ≡ None → StandsForNode c r mine node → asks_out_of_turn node.zeal c r mine ≡ true → FollowsTurn node.zeal c r mine (event_by r (Verb.Ask 0) answer)
-follows_asked c r mine node answer odd going stands asks = record {
-  made = record {
-    own = refl;
-    going = going;
-    zeal = node.zeal;
-    made = record { replication = listed; background = λ even. absurd (true≢false (sym odd ∙ even)) };
-  };
-  listed = listed;
-}
-  where
-    listed : is_odd (length mine) ≡ true → Verb.Ask 0 ≡ verb_or_beat (turn_due node.zeal c r mine)
-    listed odd = sym (ap (λ t. verb_or_beat (if t then Some (Verb.Ask 0) else or_else (due_after c r mine) (idle_due node.zeal c r mine))) asks)
+-- who doesn't ask out of turn in this turn does not in one of the leader
+pub left_calm : (asks odd : Bool) → (asks && odd) ≡ false → odd ≡ true → asks ≡ false
+left_calm true odd none on = absurd (true≢false (sym on ∙ none))
+left_calm false odd none on = refl
 
--- which is what is made
+-- the first ask out of turn is what is made
 pub made_asked : (zeal : Zeal) (c : Config) (r : ℕ) (mine : List Event) → is_odd (length mine) ≡ true → asks_out_of_turn zeal c r mine ≡ true → IsMade zeal c r mine (Verb.Ask 0)
 made_asked zeal c r mine odd asks = record {
   replication = λ odd. sym (ap (λ t. verb_or_beat (if t then Some (Verb.Ask 0) else or_else (due_after c r mine) (idle_due zeal c r mine))) asks);

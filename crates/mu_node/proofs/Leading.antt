@@ -1,8 +1,8 @@
 -- Whom the scores name while a leader leads, and events without an end.
-use Rattle.std.proofs.Common.{◌≡◌, ◌∙◌, ℕ, zero, suc, ◌+◌, ◌<◌, ◌≤◌, ◌==◌, ◌&&◌, ◌||◌, inl, inr, Bool, true, false, None, Some, List, ap, arith, length, refl, sym}
+use Rattle.std.proofs.Common.{◌≡◌, ◌∙◌, ℕ, zero, suc, ◌+◌, ◌<◌, ◌≤◌, ◌==◌, ◌&&◌, ◌||◌, inl, inr, Bool, true, false, cond, None, Some, List, ap, arith, length, refl, subst, sym}
 use Rattle.std.specs.Prelude.{if◌then◌else◌, nat_lt, not}
 use Rattle.std.specs.declared.option.Option.{Option}
-use Rattle.std.proofs.lemmas.Bool.{and_parts, cases_eq, eqb-false, eqb-true, lt-ltb, true≢false}
+use Rattle.std.proofs.lemmas.Bool.{and_parts, cases_eq, eqb-false, lt-ltb, ne_eqb, true≢false}
 use Rattle.mu_model.specs.declared.config.Config.{Config}
 use Rattle.mu_model.specs.declared.event.Event.{Event}
 use Rattle.mu_model.specs.declared.script.End.{End}
@@ -14,20 +14,26 @@ use Rattle.mu_model.proofs.Basics.{same_number}
 use Rattle.mu_node.specs.Turns.{HasNoEnd}
 use Rattle.mu_model.proofs.Scans.{least_below_fits}
 
-least_low : (n : ℕ) (test : ℕ → Bool) (q : ℕ) → test q ≡ true → q < n → least_below n test ≤ q
-least_low zero test q is low = absurd (omega (arith, low))
-least_low (suc n) test q is low = go (λ l. least_low n test q is l) (least_below n test == n) refl (test n) refl
+-- the least that passes is at most each that does
+pub least_most : (n q : ℕ) (test : ℕ → Bool) → q < n → test q ≡ true → least_below n test ≤ q
+least_most zero q test low passes = absurd (omega (arith, low))
+least_most (suc n) q test low passes = elim (cases_eq q n) [
+  | inl same ↦ (let fits = least_below_fits n test in last (least_below n test == n) refl (subst (λ x. test x ≡ true) same passes) fits same)
+  | inr other ↦
+      let ih = least_most n q test (omega (arith, low, other)) passes in
+      let differs : (least_below n test == n) ≡ false = ne_eqb (least_below n test) n (λ is. omega (arith, is, ih, low, other)) in
+      rw differs ih
+]
   where
-    go : (q < n → least_below n test ≤ q) → (s : Bool) → (least_below n test == n) ≡ s → (t : Bool) → test n ≡ t → (if s then (if t then n else n + 1) else least_below n test) ≤ q
-    go ih true whole true last = elim (cases_eq q n) [ inl e ↦ omega (arith, e) | inr e ↦ (let l = ih (omega (arith, e, low)) in let w = eqb-true (least_below n test) n whole in omega (arith, l, w)) ]
-    go ih true whole false last = elim (cases_eq q n) [ inl e ↦ absurd (true≢false (sym is ∙ (ap test e ∙ last))) | inr e ↦ (let l = ih (omega (arith, e, low)) in let w = eqb-true (least_below n test) n whole in absurd (e (omega (arith, l, w, low)))) ]
-    go ih false part t last = elim (cases_eq q n) [ inl e ↦ (let most = least_below_fits n test in omega (arith, e, most)) | inr e ↦ ih (omega (arith, e, low)) ]
+    last : (t : Bool) → (least_below n test == n) ≡ t → test n ≡ true → least_below n test ≤ n → q ≡ n → cond t (cond (test n) n (n + 1)) (least_below n test) ≤ q
+    last true is passes fits same = rw passes (omega (arith, same))
+    last false is passes fits same = omega (arith, fits, same)
 
 -- if r isn't named a lower replica is
 pub lower_named : (c : Config) (r : ℕ) (mine : List Event) → r < c.replicas → is_named c r mine ≡ false → nat_lt (leader c r mine) r ≡ true
 lower_named c r mine inside other =
     let own : ((r == r) || not (is_failed r r mine)) ≡ true = ap (λ t. t || not (is_failed r r mine)) (same_number r) in
-    let low = least_low c.replicas (λ q. (q == r) || not (is_failed r q mine)) r own inside in
+    let low = least_most c.replicas r (λ q. (q == r) || not (is_failed r q mine)) inside own in
     let apart = eqb-false (leader c r mine) r other in
     lt-ltb (leader c r mine) r (omega (arith, low, apart))
 

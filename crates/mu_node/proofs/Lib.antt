@@ -11,7 +11,7 @@ pub mod Cycled
 pub mod Failing
 pub mod FewRows
 pub mod Growing
-mod Leading
+pub mod Leading
 pub mod Left
 pub mod Midway
 pub mod Moving

@@ -1,5 +1,6 @@
--- decided: what a replica decided to do may be done, and the replica is ready to take what it finds.
-use Rattle.std.specs.Prelude.{List, false, is_some, length, true, ◌∷◌, ◌≡◌}
+-- decided, settled: what a replica decided to do may be done, and the replica is ready to take what
+-- it finds; how it decided, and how it took the answer.
+use Rattle.std.specs.Prelude.{Bool, List, false, is_some, length, true, ◌&&◌, ◌∷◌, ◌≡◌}
 use Rattle.mu_model.specs.declared.event.Answer.{Answer}
 use Rattle.mu_model.specs.declared.event.Event.{Event}
 use Rattle.mu_model.specs.declared.event.Verb.{Verb}
@@ -10,12 +11,18 @@ use Rattle.mu_model.specs.Histories.{event_by}
 use Rattle.mu_model.specs.Parts.{IsPossible}
 use Rattle.mu_model.specs.Steps.{is_named}
 use Rattle.mu_model.specs.Stretches.{is_odd}
+use Rattle.mu_follow.specs.CatchingUp.{or_else}
+use Rattle.mu_lead.specs.declared.note.Note.{Note}
 use Rattle.mu_lead.specs.declared.place.Place.{Place}
+use Rattle.mu_lead.specs.Again.{TellsAstray}
 use Rattle.mu_lead.specs.Standing.{HasHeeded}
 use Rattle.mu_node.specs.declared.deciding.Decision.{Decision}
 use Rattle.mu_node.specs.declared.node.Node.{Node}
-use Rattle.mu_node.specs.Due.{FitsLead, is_eager, verb_or_beat}
-use Rattle.mu_node.specs.Node.{HasPlanned, IsGone, LivesForNode}
+use Rattle.mu_node.specs.declared.planning.Plan.{Plan}
+use Rattle.mu_node.specs.Due.{FitsLead, IsIdle, asks_out_of_turn, idle_due, is_eager, lead_due, verb_or_beat}
+use Rattle.mu_node.specs.Journal.{FollowsTurn}
+use Rattle.mu_node.specs.Node.{HasPlanned, IsGone, LivesForNode, StandsAs, StandsForNode}
+use Rattle.mu_node.specs.Notes.{HasTold, SaysTook, TellsTook, note_before}
 use Rattle.mu_node.specs.Plans.{due_of}
 use Rattle.mu_node.specs.Reads.{IsReadNext}
 
@@ -54,3 +61,71 @@ LivesAfter mine before decision answer after =
     (event_by before.id decision.plan.verb answer ∷ mine)
     → LivesForNode before.follow.config before.id
     (event_by before.id decision.plan.verb answer ∷ mine) after
+
+-- ready to take the answer it stands for these events, in full or as far as nothing is said of how
+-- they were made; in full, a step of a turn of the leader that isn't the leader's is a beat, or the
+-- replica catches up
+pub record IsReady (full : Bool) (mine : List Event) (node : Node)
+    (decision : Decision) : Type 0 where
+  pub gone : decision.again ≡ true → IsGone full node.follow.config node.id mine node
+  pub planned : decision.again ≡ false → HasPlanned full node.follow.config node.id mine node
+  pub idles :
+      full ≡ true → decision.again ≡ false → decision.plan.leads ≡ false
+      → IsIdle node.follow.config node.id mine node.lead (verb_or_beat (due_of decision.plan))
+
+-- it stands then as it did, in full if the event was made as it was due
+abbrev pub StandsAfter : List Event → Node → Decision → Answer → Node → Type 0
+StandsAfter mine before decision answer after =
+    (full : Bool) → IsReady full mine before decision
+    → (full ≡ true
+    → FollowsTurn before.zeal before.follow.config before.id mine
+    (event_by before.id decision.plan.verb answer))
+    → IsPossible before.follow.config before.id
+    (event_by before.id decision.plan.verb answer ∷ mine)
+    → StandsAs full before.follow.config before.id
+    (event_by before.id decision.plan.verb answer ∷ mine) after
+
+-- so it decided since a region has gone astray, which its note names
+pub record LeavesToAsk (mine : List Event) (before : Node) (note : Note) : Type 0 where
+  pub out : asks_out_of_turn before.zeal before.follow.config before.id mine ≡ true
+  pub odd : is_odd (length mine) ≡ true
+  pub told : TellsAstray before.follow.config before.id mine note
+
+-- so it decided by the turn: its leader was told which leader the scores name in a turn of its own,
+-- in which what it has due is made, or what an idle turn gives
+pub record PlansByTurn (mine : List Event) (before after : Node) (plan : Plan) : Type 0 where
+  pub calm :
+      is_odd (length mine) ≡ true
+      → asks_out_of_turn before.zeal before.follow.config before.id mine ≡ false
+  pub leads :
+      plan.leads
+      ≡ (is_odd (length mine)
+      && is_some (lead_due before.follow.config before.id mine before.lead))
+  pub led :
+      StandsForNode before.follow.config before.id mine before → is_odd (length mine) ≡ true
+      → due_of plan
+      ≡ or_else (lead_due before.follow.config before.id mine before.lead)
+      (idle_due before.zeal before.follow.config before.id mine)
+  pub heeded : plan.heeded ≡ note_before before.follow.config before.id mine before.lead
+  pub told :
+      is_odd (length mine) ≡ true
+      → HasTold before.follow.config before.id mine before.lead after.lead
+  pub lead : is_odd (length mine) ≡ false → after.lead ≡ before.lead
+
+-- the answer to the first ask was taken: a leadership is under way, and the note is what was noted
+-- before it
+pub record SettlesAsk (mine : List Event) (before : Node) (heeded : Note) (answer : Answer)
+    (after : Node) (note : Note) : Type 0 where
+  pub going :
+      IsPossible before.follow.config before.id (event_by before.id (Verb.Ask 0) answer ∷ mine)
+      → after.lead.under_way ≡ true
+  pub heeds : note ≡ heeded
+
+-- the answer to what was planned was taken, and noted as what it means
+pub record SettlesPlan (mine : List Event) (before : Node) (plan : Plan) (answer : Answer)
+    (after : Node) (note : Note) : Type 0 where
+  pub tells :
+      TellsTook before.follow.config before.id mine plan.leads (due_of plan) plan.heeded answer note
+  pub says :
+      SaysTook before.follow.config before.id mine plan.leads (due_of plan) plan.heeded before.lead
+      after.lead answer note

@@ -39,8 +39,8 @@ listed_due c r mine =
     verb_at c (number_due r mine) (known c r mine) (tables_at c r mine).up
     (tables_at c r mine).written (place_after c r mine)
 
--- what is due in a turn of the leader in which the leader has nothing due: nothing for a plain node;
--- for an eager one what it reads on with, unless it is named, or led before that turn
+-- what is due in a turn of the leader in which the leader has nothing due: nothing for a plain
+-- node; for an eager one what it reads on with, unless it is named, or led before that turn
 abbrev pub idle_due : Zeal → Config → ℕ → List Event → Option Verb
 idle_due Zeal.Plain c r mine = None
 idle_due Zeal.Eager c r mine =

@@ -1,5 +1,5 @@
--- was made, is listed: how each event of a node's journal was made: it is the node's own, it was due
--- in its turn, and it came before the node was outrun.
+-- was made, is listed: how each event of a node's journal was made: it is the node's own, it was
+-- due in its turn, and it came before the node was outrun.
 use Rattle.std.specs.Prelude.{List, None, length, true, ℕ, ◌≡◌}
 use Rattle.mu_model.specs.declared.config.Config.{Config}
 use Rattle.mu_model.specs.declared.event.Event.{Event}
@@ -14,8 +14,8 @@ abbrev pub IsListed : Zeal → Config → ℕ → List Event → Event → Type 
 IsListed zeal c r mine e =
     is_odd (length mine) ≡ true → e.verb ≡ verb_or_beat (turn_due zeal c r mine)
 
--- r, plain or eager, made the event as it was due by the journal, and no look had found a place used
--- again that r still had to read
+-- r, plain or eager, made the event as it was due by the journal, and no look had found a place
+-- used again that r still had to read
 pub record WasMade (c : Config) (r : ℕ) (mine : List Event) (e : Event) : Type 0 where
   pub own : e.by ≡ r
   pub going : outrun c r mine ≡ None

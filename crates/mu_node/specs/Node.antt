@@ -55,8 +55,8 @@ pub record StandsForLead (c : Config) (r : ℕ) (mine : List Event) (lead : Lead
 -- the node stands for the events, with its leader; it has handed on `count` entries, answered to
 -- their commands, and read only rows of known batches. If all is said of it (`full`), it also made
 -- each event as it was due for such a node, and its leader is where its journal has it
-pub record HoldsNode (full : Bool) (IsThere : Lead → Type 0) (c : Config) (r : ℕ) (mine : List Event)
-    (count : ℕ) (node : Node) : Type 0 where
+pub record HoldsNode (full : Bool) (IsThere : Lead → Type 0) (c : Config) (r : ℕ)
+    (mine : List Event) (count : ℕ) (node : Node) : Type 0 where
   pub beside : HoldsBeside c r mine node
   pub lead : StandsForLead c r mine node.lead
   pub handed : node.follow.progress.handed ≡ count
@@ -84,8 +84,8 @@ LivesForNode c r mine node = StandsAs false c r mine node
 -- the same once its leader was told which leader the scores name
 abbrev pub HasHeard : Bool → Config → ℕ → List Event → Node → Type 0
 HasHeard full c r mine node =
-    HoldsNode full (IsWhereTold (not (is_named c r mine)) c r mine) c r mine (handed_before c r mine)
-    node
+    HoldsNode full (IsWhereTold (not (is_named c r mine)) c r mine) c r mine
+    (handed_before c r mine) node
 
 -- the same once the next step is planned, before which what is there is handed on
 abbrev pub HasPlanned : Bool → Config → ℕ → List Event → Node → Type 0

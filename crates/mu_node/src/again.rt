@@ -82,7 +82,8 @@ impl Node {
         ensures stands { (full : Bool)
             → IsGone full self.old.follow.config self.old.id mine self.old
             → (full ≡ true
-            → FollowsTurn self.old.zeal self.old.follow.config id mine (event_by id (SomeVerb.Ask 0) answer))
+            → FollowsTurn self.old.zeal self.old.follow.config id mine
+            (event_by id (SomeVerb.Ask 0) answer))
             → IsPossible self.old.follow.config id (event_by id (SomeVerb.Ask 0) answer ∷ mine)
             → StandsAs full self.old.follow.config id
             (event_by id (SomeVerb.Ask 0) answer ∷ mine) self.new }

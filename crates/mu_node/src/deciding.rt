@@ -1,8 +1,10 @@
 //! A step in two halves: what the replica decides to do, and how it takes what that found.
-ghost use Rattle.std.specs.Prelude.{List, ◌≡◌};
+ghost use Rattle.std.specs.Prelude.{Bool, List, false, true, ◌≡◌};
 ghost use Rattle.mu_model.specs.declared.event.Event.{Event as SomeEvent};
-ghost use Rattle.mu_node.specs.Deciding.{HasDecided, LivesAfter};
+ghost use Rattle.mu_node.specs.Cycle.{IsMade};
+ghost use Rattle.mu_node.specs.Deciding.{HasDecided, IsReady, LeavesToAsk, LivesAfter, PlansByTurn, SettlesAsk, SettlesPlan, StandsAfter};
 ghost use Rattle.mu_node.specs.Keeping.{KeepsSelf, MayStep};
+ghost use Rattle.mu_node.specs.Node.{StandsAs, StandsForNode};
 
 use crate::node::Node;
 use crate::planning::Plan;
@@ -20,6 +22,7 @@ pub struct Decision {
 
 impl Decision {
     /// The verb that is made.
+    #[inline(always)]
     pub fn verb(&self) -> Verb
         ensures { result ≡ self.now.plan.verb }
     {
@@ -30,11 +33,19 @@ impl Decision {
 impl Node {
     /// The first half of a step: the first ask if the replica asks again, out of turn; else what is
     /// due, or a beat. Takes no memory.
+    #[inline(always)]
     pub fn decide(&mut self) -> Decision
         ghost mine: { List SomeEvent }
         requires { MayStep mine self.old }
         ensures decided { HasDecided mine self.new result }
         ensures keeps { KeepsSelf self.old self.new }
+        ensures made { StandsForNode self.old.follow.config self.old.id mine self.old
+            → IsMade self.old.zeal self.old.follow.config self.old.id mine result.plan.verb }
+        ensures stands { (full : Bool)
+            → StandsAs full self.old.follow.config self.old.id mine self.old
+            → IsReady full mine self.new result }
+        ensures asks { result.again ≡ true → LeavesToAsk mine self.old result.plan.heeded }
+        ensures plans { result.again ≡ false → PlansByTurn mine self.old self.new result.plan }
     {
         if self.asks_out_of_turn() {
             let note = self.leave_leadership();
@@ -56,12 +67,18 @@ impl Node {
     }
 
     /// The second half: takes the answer. Takes no memory.
+    #[inline(always)]
     pub fn settle(&mut self, decision: Decision, answer: Answer) -> Note
         ghost mine: { List SomeEvent }
         requires { HasDecided mine self.old decision }
         ensures lives { LivesAfter mine self.old decision answer self.new }
+        ensures stands { StandsAfter mine self.old decision answer self.new }
         ensures zeal { self.new.zeal ≡ self.old.zeal }
         ensures stops { self.new.stops ≡ self.old.stops }
+        ensures asked { decision.again ≡ true
+            → SettlesAsk mine self.old decision.plan.heeded answer self.new result }
+        ensures took { decision.again ≡ false
+            → SettlesPlan mine self.old decision.plan answer self.new result }
     {
         let Decision { plan, again } = decision;
         let id = self.id;

@@ -6,7 +6,6 @@ ghost use Rattle.mu_model.specs.Contents.{IsConfig, row_count};
 ghost use Rattle.mu_model.specs.Ends.{outrun};
 ghost use Rattle.mu_model.specs.Parts.{IsPossible};
 ghost use Rattle.mu_model.specs.Room.{reserve};
-ghost use Rattle.mu_node.specs.Due.{asks_out_of_turn};
 ghost use Rattle.mu_node.specs.Journal.{IsListed, WasMade};
 ghost use Rattle.mu_node.specs.Keeping.{Ends, HasEvents, Leaves};
 ghost use Rattle.mu_node.specs.Node.{LivesForNode, StandsAs, StandsForNode};
@@ -140,9 +139,10 @@ impl Node {
             (P.part port.new) (P.whole port.old) (P.whole port.new) result }
     {
         let id = port.id();
+        prove!(id == self.id);
         match self.halt() {
             Some(end) => Turn::Ended(end),
-            None => Turn::Took(self.step(port, id)),
+            None => Turn::Took(self.step(port)),
         }
     }
 
@@ -170,19 +170,19 @@ impl Node {
             (P.part port.new) }
     {
         let id = port.id();
+        prove!(id == self.id);
         match self.end() {
             Some(end) => Turn::Ended(end),
-            None => Turn::Took(self.step(port, id)),
+            None => Turn::Took(self.step(port)),
         }
     }
 
-    /// One step: the first ask if the replica asks again, out of turn; else what is due, or a beat.
+    /// One step: what the replica decides to do, its access, and what the answer means.
     /// Inlined: it is so long that the compiler would otherwise leave it out of a turn at times.
     #[inline(always)]
-    fn step<P: Port>(&mut self, port: &mut P, id: u8) -> Note
+    fn step<P: Port>(&mut self, port: &mut P) -> Note
         ghost mine: { List SomeEvent }
         requires mine { P.part port.old ≡ mine }
-        requires id { id ≡ P.number port.old }
         requires config { IsConfig (P.config port.old) }
         requires possible { IsPossible (P.config port.old) (P.number port.old) (P.part port.old) }
         requires left { length (P.part port.old) < (P.config port.old).budget }
@@ -206,16 +206,9 @@ impl Node {
             self.old → MovesGoing (P.config port.old) (P.number port.old) (P.part port.old)
             self.old.lead self.new.lead result }
     {
-        if self.asks_out_of_turn() {
-            let note = self.leave_leadership();
-            let answer = port.ask(0);
-            self.took_again(id, answer);
-            note
-        } else {
-            let plan = self.plan();
-            let answer = port.step(plan.verb);
-            self.took(plan, id, answer)
-        }
+        let decision = self.decide();
+        let answer = port.step(decision.verb());
+        self.settle(decision, answer)
     }
 
     /// What the replica leaves. Takes no memory.

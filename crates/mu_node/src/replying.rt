@@ -40,8 +40,8 @@ impl Node {
         self.answers.replies()
     }
 
-    /// The reply to the command of a row, once an entry that holds the row is handed on. Before that
-    /// it looks at one mark, and at the few entries that are applied and still to hand on.
+    /// The reply to the command of a row, once an entry that holds the row is handed on. Before
+    /// that it looks at one mark, and at the few entries that are applied and still to hand on.
     pub fn reply_to(&self, row: u16) -> Option<Reply>
         ensures { (c : Config) → (r : ℕ) → (mine : List SomeEvent) → (commands : List Request)
             → IsConfig c → IsPossible c r mine → AreSpelled c commands

@@ -39,6 +39,8 @@ flaw_words item Flaw.NotApplied =
     codes "not allowed: replica " ++ decimal (maker_of item) ++ codes " has not applied row "
     ++ decimal (row_in item)
 flaw_words item (Flaw.OtherReply right) = codes "wrong reply: expected " ++ reply_words right
+flaw_words item Flaw.NeverGot =
+    codes "not allowed: row " ++ decimal (row_in item) ++ codes " was never got"
 
 -- after how many events the item comes, and its line in the input
 abbrev pub place_words : Flawed → List ℕ

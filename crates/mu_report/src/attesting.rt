@@ -127,6 +127,11 @@ fn flaw_line(item: &Item, flaw: &Flaw) -> Line
             line.push(b"wrong reply: expected ");
             push_reply(&mut line, right);
         }
+        Flaw::NeverGot => {
+            line.push(b"not allowed: row ");
+            line.push_number(u64::from(row_in(item)));
+            line.push(b" was never got");
+        }
     }
     line
 }

@@ -16,7 +16,7 @@ step-requires g c =
     let told = c.end.ensures k script r mine refl c.requires.config possible c.requires.stands in
     let none = subst (λ o. TellsEnd k script r mine o) c.in-None.is told in
     let left = is_left k script r mine possible none in
-    λ κs lives. (lives, (refl, (c.id-id.ensures.number, (c.requires.config, (possible, (left, (as_far true k r mine c.args.self.now c.requires.stands, is_going k script r mine none)))))))
+    λ κs lives. (lives, (refl, (c.requires.config, (possible, (left, (as_far true k r mine c.args.self.now c.requires.stands, is_going k script r mine none))))))
 
 pub returns-in-None-clause-stands : goal.returns-in-None-clause-stands
 returns-in-None-clause-stands g c = c.step.ensures.stands true c.requires.stands

@@ -14,7 +14,7 @@ step-requires g c =
     let told = c.halt.ensures k script r mine refl c.requires.config possible c.requires.lives in
     let none = subst (λ o. TellsHalt k script r mine o) c.in-None.is told in
     let left = is_unspent k script r mine possible none in
-    λ κs lives. (lives, (refl, (c.id-id.ensures.number, (c.requires.config, (possible, (left, (c.requires.lives, is_unhalted k script r mine none)))))))
+    λ κs lives. (lives, (refl, (c.requires.config, (possible, (left, (c.requires.lives, is_unhalted k script r mine none))))))
 
 pub returns-in-None-clause-lives : goal.returns-in-None-clause-lives
 returns-in-None-clause-lives g c = c.step.ensures.stands false c.requires.lives
