@@ -147,7 +147,7 @@ static void take(struct run *run, struct one *one)
  * own were decided, and no others. */
 static void step(struct run *run, struct one *one)
 {
-    if (one->moment < CUT && one->rows < run->rows && below(20) == 0)
+    if (one->moment < CUT && one->rows < run->rows && below(200) == 0)
         append_to(run, one, one->rows + 1);
     if (one->moment == RESTS) {
         uint32_t status = mu_replica_next(&one->replica, &one->operation);

@@ -1,4 +1,5 @@
 mod Standing
 mod Running
 mod Adding
+mod Handing
 mod Judging

@@ -1,5 +1,5 @@
-//! What a replica tells of itself, if no access of it is under way.
-ghost use Rattle.std.specs.Prelude.{List, None, map, take, ◌≡◌};
+//! What a replica tells of itself, also while an access of it is under way.
+ghost use Rattle.std.specs.Prelude.{List, None, length, map, take, ◌≡◌};
 ghost use Rattle.kv_store.specs.Beside.{beside};
 ghost use Rattle.kv_store.specs.Commands.{Request};
 ghost use Rattle.kv_store.specs.Tables.{replies};
@@ -15,6 +15,7 @@ ghost use Rattle.mu_node.specs.Cycle.{handed_before};
 ghost use Rattle.mu_node.specs.Turns.{TellsEnd};
 ghost use Rattle.lone_words.specs.Memory.{Own};
 ghost use Rattle.lone_replica.specs.Standing.{StandsForReplica, newest_of};
+ghost use Rattle.lone_replica.specs.Telling.{entries_after, entries_by};
 
 use crate::replica::Replica;
 use kv_store::Reply;
@@ -42,8 +43,10 @@ impl Replica {
 
     /// Where it stands. Its steps are those that it took.
     pub fn state(&self) -> State
+        ensures steps { (c : SomeConfig) → (own : Own)
+            → StandsForReplica c self.now.id own self.now → result.steps ≡ length own.0 }
         ensures leader { (c : SomeConfig) → (own : Own)
-            → StandsForReplica c self.now.id own self.now → self.now.due ≡ None
+            → StandsForReplica c self.now.id own self.now
             → result.leader ≡ leader_of c self.now.id own.0 }
         ensures leads { result.leads ≡ leads_at self.now.node.lead.place }
     {
@@ -54,7 +57,8 @@ impl Replica {
         }
     }
 
-    /// The end of its events, if they have one. One that has finished goes on all the same.
+    /// The end of its events, if they have one and no access is under way. One that has finished
+    /// goes on all the same.
     pub fn end(&self) -> Option<End>
         ensures { (c : SomeConfig) → (script : Script) → (own : Own)
             → script.stops ≡ self.now.node.stops.items
@@ -67,17 +71,23 @@ impl Replica {
     /// The entries that it has handed on to its store so far, in order.
     pub fn entries_handed_on(&self) -> &[u16]
         ensures { (c : SomeConfig) → (own : Own) → StandsForReplica c self.now.id own self.now
-            → self.now.due ≡ None
-            → result.now
-            ≡ take (handed_before c self.now.id own.0) (applied c self.now.id own.0) }
+            → result.now ≡ entries_by c self.now.id own self.now.due }
     {
         self.node.entries_handed_on()
+    }
+
+    /// The entries that it has applied and hands on next, in order: of one that is halted those that
+    /// its store has no replies to.
+    pub fn entries_ready(&self) -> &[u16]
+        ensures { (c : SomeConfig) → (own : Own) → StandsForReplica c self.now.id own self.now
+            → result.now ≡ entries_after c self.now.id own self.now.due }
+    {
+        self.node.entries_ready()
     }
 
     /// What it committed itself, in order.
     pub fn commits(&self) -> &[Commit]
         ensures { (c : SomeConfig) → (own : Own) → StandsForReplica c self.now.id own self.now
-            → self.now.due ≡ None
             → map pair_of result.now ≡ commits_of c self.now.id own.0 }
     {
         self.node.commits()

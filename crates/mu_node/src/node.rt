@@ -7,7 +7,6 @@ ghost use Rattle.mu_model.specs.Ends.{outrun};
 ghost use Rattle.mu_model.specs.Parts.{IsPossible};
 ghost use Rattle.mu_model.specs.Room.{reserve};
 ghost use Rattle.mu_node.specs.Journal.{IsListed, WasMade};
-ghost use Rattle.mu_knowledge.specs.Telling.{Tells};
 ghost use Rattle.mu_node.specs.Keeping.{Ends, HasEvents, Leaves};
 ghost use Rattle.mu_node.specs.Node.{LivesForNode, StandsAs, StandsForNode};
 ghost use Rattle.mu_node.specs.Notes.{HasMade, MovesGoing, MovesTurn, TellsTurn};
@@ -96,13 +95,6 @@ impl Node {
         ensures { result ≡ self.now.id }
     {
         self.id
-    }
-
-    /// How many steps it has taken.
-    pub fn steps(&self) -> u32
-        ensures { Tells StandsForNode self.now (λ c r mine. length mine) result }
-    {
-        self.follow.steps()
     }
 
     /// The end of its events, if they have one: by the script, by the budget, because it was

@@ -11,7 +11,8 @@ ghost use Rattle.mu_model.specs.Parts.{IsPossible};
 ghost use Rattle.mu_follow.specs.Groups.{AreSpelled, groups_of};
 ghost use Rattle.mu_node.specs.Cycle.{handed_before};
 ghost use Rattle.mu_knowledge.specs.Telling.{Tells};
-ghost use Rattle.mu_node.specs.Node.{LivesForNode};
+ghost use Rattle.mu_node.specs.Growing.{StandsInTurn};
+ghost use Rattle.mu_node.specs.Node.{HoldsBeside, LivesForNode};
 ghost use Rattle.mu_node.specs.Telling.{TellsPlace};
 
 use crate::node::Node;
@@ -22,8 +23,8 @@ use mu_model::{Config, PAYLOADS};
 impl Node {
     /// The entries that it has handed on to its store so far, in order.
     pub fn entries_handed_on(&self) -> &[u16]
-        ensures { Tells LivesForNode self.now
-            (λ c r mine. take (handed_before c r mine) (applied c r mine)) result.now }
+        ensures { Tells HoldsBeside self.now
+            (λ c r mine. take self.now.follow.progress.handed (applied c r mine)) result.now }
     {
         self.follow.entries_handed_on()
     }
@@ -31,10 +32,10 @@ impl Node {
     /// The replies so far: those of its store to the commands of these entries, in order.
     pub fn replies(&self) -> &[Reply]
         ensures { (c : Config) → (r : ℕ) → (mine : List SomeEvent) → (commands : List Request)
-            → AreSpelled c commands → LivesForNode c r mine self.now
+            → AreSpelled c commands → StandsInTurn c r mine self.now
             → result.now
             ≡ replies
-            (groups_of c commands (take (handed_before c r mine) (applied c r mine))) }
+            (groups_of c commands (take self.now.follow.progress.handed (applied c r mine))) }
     {
         self.answers.replies()
     }

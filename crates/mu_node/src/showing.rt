@@ -1,6 +1,6 @@
 //! What a replica shows of itself while it runs, also between the halves of a step.
-ghost use Rattle.std.specs.Prelude.{map, ◌≡◌};
-ghost use Rattle.mu_model.specs.Knowledge.{commits};
+ghost use Rattle.std.specs.Prelude.{drop, length, map, ◌≡◌};
+ghost use Rattle.mu_model.specs.Knowledge.{applied, commits};
 ghost use Rattle.mu_model.specs.Scores.{leader as leader_of};
 ghost use Rattle.mu_knowledge.specs.Commits.{pair_of};
 ghost use Rattle.mu_knowledge.specs.Telling.{Tells};
@@ -11,6 +11,13 @@ use crate::node::Node;
 use mu_knowledge::Commit;
 
 impl Node {
+    /// How many steps it has taken.
+    pub fn steps(&self) -> u32
+        ensures { Tells HoldsBeside self.now (λ c r mine. length mine) result }
+    {
+        self.follow.steps()
+    }
+
     /// The replica that its scores name leader.
     pub fn leader(&self) -> u8
         ensures { Tells HoldsBeside self.now leader_of result }
@@ -30,5 +37,13 @@ impl Node {
         ensures { Tells HoldsBeside self.now commits (map pair_of result.now) }
     {
         self.follow.commits()
+    }
+
+    /// The entries that it has applied and not handed on to its store yet, in order.
+    pub fn entries_ready(&self) -> &[u16]
+        ensures { Tells HoldsBeside self.now
+            (λ c r mine. drop self.now.follow.progress.handed (applied c r mine)) result.now }
+    {
+        self.follow.entries_to_hand_on()
     }
 }

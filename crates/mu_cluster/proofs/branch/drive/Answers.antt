@@ -35,7 +35,7 @@ loop-preserved g c =
     let e : Event = record { by = p.id; verb = took.1.verb; answer = took.1.answer } in
     let possible = subst (λ l. IsPossible q.config q.id l) took.1.part c.turn_rested.ensures.possible in
     let now = c.turn_rested.ensures.stands in
-    let count = c.steps.ensures q.config q.id q.part now in
+    let count = c.steps.ensures q.config q.id q.part now.beside in
     let id = c.id-in-Took.ensures ∙ now.beside.id ∙ c.turn_rested.ensures.same.id in
     let before = subst (λ l. IsNextPause l c.id-in-Took.result (length p.part) c.loop.next) (sym c.as_slice-pauses.ensures) (subst (λ i. IsNextPause script.pauses i (length p.part) c.loop.next) (sym id) c.loop.invariant.6) in
     let after = c.go_on.ensures (length p.part) (count ∙ (ap length took.1.part ∙ omega arith)) before in
@@ -71,6 +71,6 @@ returns g c = elim c.match-next.branch [
 pub turn_rested-requires-clause-yields : goal.turn_rested-requires-clause-yields
 turn_rested-requires-clause-yields g c =
     let p = c.loop.port in
-    let count = c.steps-steps.ensures p.config p.id p.part c.loop.invariant.2.goes.stands in
+    let count = c.steps-steps.ensures p.config p.id p.part c.loop.invariant.2.goes.stands.beside in
     let paused = c.rounds_at-paused.ensures c.args.script.now.pauses p.id (subst (λ n. IsNextPause c.args.script.now.pauses p.id n c.loop.next) (sym count) c.loop.invariant.6) in
     c.rest-rested.ensures.yields ∙ ap (λ n. n + yields_for c.shown.result) (paused ∙ ap (rounds_paused c.args.script.now.pauses p.id) count) ∙ ap (λ s. rounds_paused c.args.script.now.pauses p.id (length p.part) + yields_for s) (c.shown.ensures p.part c.loop.invariant.4)

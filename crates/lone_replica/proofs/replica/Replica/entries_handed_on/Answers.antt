@@ -1,7 +1,12 @@
-use Rattle.lone_replica.proofs.Standing.{lives_alone}
+use Rattle.std.proofs.Common.{◌∙◌, ap, take}
+use Rattle.mu_model.specs.Knowledge.{applied}
+use Rattle.lone_replica.proofs.Adding.{in_turn_held}
+use Rattle.lone_replica.proofs.Handing.{handed_held}
 use Rattle.lone_replica.proofs.replica.Replica.entries_handed_on.Goals as goal
 
 pub returns : goal.returns
-returns c k own stands none =
+returns c k own stands =
     let replica = c.args.self.now in
-    c.entries_handed_on.ensures k replica.id own.0 (lives_alone k replica.id own replica stands none)
+    let s = replica.accesses.shape in
+    c.entries_handed_on.ensures k replica.id own.0 (in_turn_held k replica.id own s replica.node replica.due stands.node).beside
+    ∙ ap (λ n. take n (applied k replica.id own.0)) (handed_held k replica.id own s replica.node replica.due stands.node)

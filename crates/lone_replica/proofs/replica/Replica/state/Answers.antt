@@ -1,7 +1,12 @@
-use Rattle.lone_replica.proofs.Standing.{lives_alone}
+use Rattle.lone_replica.proofs.Adding.{in_turn_held}
 use Rattle.lone_replica.proofs.replica.Replica.state.Goals as goal
 
-pub returns-clause-leader : goal.returns-clause-leader
-returns-clause-leader c k own stands none =
+pub returns-clause-steps : goal.returns-clause-steps
+returns-clause-steps c k own stands =
     let replica = c.args.self.now in
-    c.leader.ensures k replica.id own.0 (lives_alone k replica.id own replica stands none).beside
+    c.steps.ensures k replica.id own.0 (in_turn_held k replica.id own replica.accesses.shape replica.node replica.due stands.node).beside
+
+pub returns-clause-leader : goal.returns-clause-leader
+returns-clause-leader c k own stands =
+    let replica = c.args.self.now in
+    c.leader.ensures k replica.id own.0 (in_turn_held k replica.id own replica.accesses.shape replica.node replica.due stands.node).beside

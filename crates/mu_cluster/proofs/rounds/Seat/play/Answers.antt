@@ -22,13 +22,13 @@ returns-in-Took-clause-plays g c kind script rounds same sits =
     let t = turned k old new c.pass_to.new.self c.turn.new.port r c.id-id.result script c.turn.result c.turn.new.self c.pass_to.ensures.replica c.id-id.ensures c.pass_to.ensures.config c.pass_to.ensures.events c.turn.ensures.same.1 c.turn.ensures.same.0 refl
     (record { stands = c.turn.ensures.stands; possible = c.turn.ensures.possible; did = c.turn.ensures.turn script (sym sits.stops) }) in
     let stops = ap (λ v. v.items) c.turn.ensures.stops ∙ sits.stops in
-    let taken = c.steps.ensures k r (part_of r old) sits.stands in
+    let taken = c.steps.ensures k r (part_of r old) sits.stands.beside in
     let paused = c.rounds_at.ensures script.pauses r (subst (λ n. IsNextPause script.pauses r n before.next) (sym taken) sits.next) ∙ ap (rounds_paused script.pauses r) taken in
     let long : rounds_paused script.pauses r (length (part_of r old)) ≤ before.waited = omega (arith, paused, c.if-self-rounds_at.false) in
     let did = subst (λ u. IsTurn k script r (part_of r old) (part_of r new) (Some old) (Some new) u) c.in-Took.is t.did in
     let e : Event = record { by = r; verb = did.1.verb; answer = did.1.answer } in
     let list = same_some new (old ++ e ∷ []) did.1.told.list in
-    let later = c.steps-in-Took.ensures k r (part_of r new) t.stands in
+    let later = c.steps-in-Took.ensures k r (part_of r new) t.stands.beside in
     let next = subst (λ n. IsNextPause script.pauses r n c.go_on.new.next) later
     (subst (λ p. IsNextPause p r c.steps-in-Took.result c.go_on.new.next) same (subst (λ i. IsNextPause c.args.pauses.now i c.steps-in-Took.result c.go_on.new.next) c.id-id.ensures (c.go_on.ensures (length (part_of r old)) (later ∙ (ap length did.1.part ∙ omega arith)) (subst (λ i. IsNextPause c.args.pauses.now i (length (part_of r old)) before.next) (sym c.id-id.ensures) (subst (λ p. IsNextPause p r (length (part_of r old)) before.next) (sym same) sits.next))))) in
     steps_here k script r old new e before _ rounds sits c.if-self.false long c.if-self.false refl next t.stands stops (c.turn.ensures.zeal ∙ sits.zeal) did.0 list refl did.1.part

@@ -33,7 +33,7 @@ returns-in-Some c k r mine commands good possible are held =
     let entries = take (handed_before k r mine) (applied k r mine) in
     let told = replies (groups_of k commands entries) in
     let few = few_rows_first k r (handed_before k r mine) mine good possible in
-    let place = told_of k c.config-2.result.now c.args.row entries c.entries_handed_on.result.now c.place_in.result (c.config-2.ensures ∙ held.beside.follow.config) (c.entries_handed_on.ensures k r mine held) (omega (arith, few, good.few)) c.place_in.ensures in
+    let place = told_of k c.config-2.result.now c.args.row entries c.entries_handed_on.result.now c.place_in.result (c.config-2.ensures ∙ held.beside.follow.config) (c.entries_handed_on.ensures k r mine held.beside ∙ ap (λ m. take m (applied k r mine)) held.handed) (omega (arith, few, good.few)) c.place_in.ensures in
     let first = subst (λ o. TellsPlace c.args.row (rows_in k entries) o) c.in-Some.is place in
     c.reply.ensures ∙ (ap (λ l. slice_get l c.in-Some.at) (held.answers commands are).replies ∙ sym (beside_place c.args.row (rows_in k entries) told c.in-Some.at first))
 
@@ -42,5 +42,5 @@ returns-in-None c k r mine commands good possible are held =
     let entries = take (handed_before k r mine) (applied k r mine) in
     let told = replies (groups_of k commands entries) in
     let few = few_rows_first k r (handed_before k r mine) mine good possible in
-    let place = told_of k c.config-2.result.now c.args.row entries c.entries_handed_on.result.now c.place_in.result (c.config-2.ensures ∙ held.beside.follow.config) (c.entries_handed_on.ensures k r mine held) (omega (arith, few, good.few)) c.place_in.ensures in
+    let place = told_of k c.config-2.result.now c.args.row entries c.entries_handed_on.result.now c.place_in.result (c.config-2.ensures ∙ held.beside.follow.config) (c.entries_handed_on.ensures k r mine held.beside ∙ ap (λ m. take m (applied k r mine)) held.handed) (omega (arith, few, good.few)) c.place_in.ensures in
     sym (beside_none c.args.row (rows_in k entries) told (subst (λ o. TellsPlace c.args.row (rows_in k entries) o) c.in-None.is place))
