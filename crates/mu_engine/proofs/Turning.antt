@@ -40,5 +40,5 @@ plays_on c r hold old new (Turn.Took note) node free t =
     inr (e, refl, free, (λ halted. cant (t.did.0 halted.end halted.ends) halted.halt), same_some new (old ++ e ∷ []) t.did.1.told.list)
   where
     cant : {b : Bool} → b ≡ false → b ≡ true → ⊥
-    cant no yes = absurd (sym no ∙ yes)
+    cant first second = absurd (sym first ∙ second)
 plays_on c r hold old new (Turn.Ended end) node free t = inl (same_some new old t.did.2, λ _. record { end = end; ends = t.did.0.0; halt = t.did.0.1 })
