@@ -1,5 +1,5 @@
 -- The turn of a replica.
-use Rattle.std.proofs.Common.{◌≡◌, ◌∙◌, Bool, ℕ, false, true, List, [], ◌∷◌, ◌++◌, Some, inl, inr, refl, subst, sym}
+use Rattle.std.proofs.Common.{◌≡◌, ◌∙◌, Bool, ℕ, false, true, List, [], ◌∷◌, ◌++◌, Some, inl, inr, refl, subst, sym, true≢false}
 use Rattle.mu_model.specs.declared.config.Config.{Config}
 use Rattle.mu_model.specs.declared.event.Event.{Event}
 use Rattle.mu_model.specs.Histories.{history, part, event_by}
@@ -40,5 +40,5 @@ plays_on c r hold old new (Turn.Took note) node free t =
     inr (e, refl, free, (λ halted. cant (t.did.0 halted.end halted.ends) halted.halt), same_some new (old ++ e ∷ []) t.did.1.told.list)
   where
     cant : {b : Bool} → b ≡ false → b ≡ true → ⊥
-    cant first second = absurd (sym first ∙ second)
+    cant first second = true≢false (sym second ∙ first)
 plays_on c r hold old new (Turn.Ended end) node free t = inl (same_some new old t.did.2, λ _. record { end = end; ends = t.did.0.0; halt = t.did.0.1 })
