@@ -44,7 +44,7 @@ const CYCLE_ENDED: u32 = 2;
 const QUIET: u32 = 3;
 
 /// So many cycles without a change are quiet: in one a replica sees each ask.
-const QUIET_CYCLES: u8 = 2;
+const QUIET_CYCLES: u16 = 2;
 
 /// Begins the rests of a replica before any step.
 #[unsafe(no_mangle)]

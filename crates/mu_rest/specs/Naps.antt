@@ -3,12 +3,12 @@ use Rattle.std.specs.Prelude.{Bool, false, true, if◌then◌else◌, max, min, 
 use Rattle.mu_rest.specs.declared.naps.Rest.{Rest}
 use Rattle.mu_rest.specs.declared.naps.Shown.{Shown}
 
--- a rest for a silence, if nothing shortens it: a microsecond for each of the first two silent reads,
--- and four times as many with each from there on; none once the other counts as failed
+-- a rest for a silence, if nothing shortens it: four microseconds for each of the first three silent
+-- reads, and four times as many with each from there on; none once the other counts as failed
 pub record IsSilenceNap (silence nanoseconds : ℕ) : Type 0 where
   pub none : silence ≡ 0 → nanoseconds ≡ 0
-  pub first : silence ≡ 1 → nanoseconds ≡ 1_000
-  pub grows : 2 ≤ silence → silence ≤ 8 → nanoseconds ≡ 1_000 * 4 ^ (silence - 2)
+  pub first : 1 ≤ silence → silence ≤ 3 → nanoseconds ≡ 4_000
+  pub grows : 4 ≤ silence → silence ≤ 8 → nanoseconds ≡ 4_000 * 4 ^ (silence - 3)
   pub steady : 9 ≤ silence → silence ≤ 14 → nanoseconds ≡ 8_192_000
   pub failed : 14 < silence → nanoseconds ≡ 0
 
@@ -32,21 +32,17 @@ longest_by late = max 4_000 (min 8_192_000 (late / 4))
 abbrev pub longest : ℕ → ℕ → ℕ
 longest fixed late = if fixed == 0 then longest_by late else fixed
 
--- a rest is for idle cycles if the last step ended one, and processors are scarce or nobody's beats
--- stand still: who stands still may be the leader, dead
-abbrev pub is_for_cycles : Shown → ℕ → Bool
-is_for_cycles shown late = shown.ended && (are_scarce late || not shown.still)
-
--- the cycles that count: in which nothing got done if processors are scarce, else in which nothing
--- was changed either
+-- the cycles in a row that count: if processors are scarce those in which nothing got done, else those
+-- in which nothing was changed either, from the 248th on, since who naps may be held failed
 abbrev pub cycles_counted : Shown → ℕ → ℕ
-cycles_counted shown late = if are_scarce late then shown.idle else shown.quiet
+cycles_counted shown late = if are_scarce late then min 8 shown.idle else shown.quiet - 248
 
--- so many nanoseconds are a rest after a step that shows this: for idle cycles
+-- so many nanoseconds are a rest after a step that shows this: for cycles, if it ended one, else for a
+-- silence
 pub record IsNap (fixed late : ℕ) (shown : Shown) (nanoseconds : ℕ) : Type 0 where
-  pub idle : is_for_cycles shown late ≡ true → (wanted : ℕ) × IsIdleNap (cycles_counted shown late) wanted
+  pub idle : shown.ended ≡ true → (wanted : ℕ) × IsIdleNap (cycles_counted shown late) wanted
       × (nanoseconds ≡ (if fixed == 0 then wanted else min fixed wanted))
-  pub silent : is_for_cycles shown late ≡ false → (wanted : ℕ) × IsSilenceNap shown.silence wanted
+  pub silent : shown.ended ≡ false → (wanted : ℕ) × IsSilenceNap shown.silence wanted
       × (nanoseconds ≡ min (longest fixed late) wanted)
 
 -- a rest is spent awake if it is short and processors aren't scarce: a sleep takes longer than asked

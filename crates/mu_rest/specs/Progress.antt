@@ -56,6 +56,6 @@ HoldHeads signs heads = (q head : ℕ) → slice_get heads q ≡ Some head → h
 -- the state stands for these signs
 pub record StandsForProgress (signs : List Sign) (state : Progress) : Type 0 where
   pub heads : HoldHeads signs state.heads
-  pub idle : state.idle ≡ min 8 (idle_cycles signs)
-  pub quiet : state.quiet ≡ min 8 (quiet_cycles signs)
+  pub idle : state.idle ≡ min 256 (idle_cycles signs)
+  pub quiet : state.quiet ≡ min 256 (quiet_cycles signs)
   pub ended : state.ended ≡ cycle_ended signs

@@ -3,7 +3,7 @@ use Rattle.std.specs.Prelude.{Bool, List, MatchBool, min, nat_lt, ℕ, ◌+◌, 
 use Rattle.mu_rest.specs.Cycles.{EndsCycle, late}
 use Rattle.mu_rest.specs.Naps.{IsRest}
 use Rattle.mu_rest.specs.Progress.{StandsForProgress}
-use Rattle.mu_rest.specs.Silences.{StandsForSilences, some_still}
+use Rattle.mu_rest.specs.Silences.{StandsForSilences}
 use Rattle.mu_rest.specs.declared.cycles.Cycles.{Cycles}
 use Rattle.mu_rest.specs.declared.naps.Rest.{Rest}
 use Rattle.mu_rest.specs.declared.naps.Shown.{Shown}
@@ -22,7 +22,6 @@ shown_by rests = record {
   ended = rests.progress.ended;
   idle = rests.progress.idle;
   quiet = rests.progress.quiet;
-  still = some_still rests.silences.reads;
 }
 
 -- whether a rest may be due: the step shows a silence, or ended a cycle

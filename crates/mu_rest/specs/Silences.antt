@@ -1,7 +1,7 @@
 -- silence: how many reads of another's beats in a row, up to the last step, found no new one. Signs
 -- stand newest first.
-use Rattle.std.specs.Prelude.{Bool, List, None, Some, [], false, if◌then◌else◌, min, nat_lt, suc, ℕ, ◌&&◌, ◌==◌, ◌∷◌, ◌≡◌}
-use Rattle.std.specs.List.{list_any, slice_get}
+use Rattle.std.specs.Prelude.{List, None, Some, [], if◌then◌else◌, min, suc, ℕ, ◌==◌, ◌∷◌, ◌≡◌}
+use Rattle.std.specs.List.{slice_get}
 use Rattle.std.specs.declared.option.Option.{Option}
 use Rattle.mu_rest.specs.declared.sign.Sign.{Sign}
 use Rattle.mu_rest.specs.declared.silences.Reads.{Reads}
@@ -32,36 +32,16 @@ abbrev pub silence : List Sign → ℕ
 silence [] = 0
 silence (s ∷ past) = silence_after s past
 
--- how many reads in a row found a count, with one more read, if there is one
-abbrev pub same_after : Option ℕ → (ℕ → ℕ) → ℕ → ℕ
-same_after None row same = same
-same_after (Some x) row same = suc (row x)
-
--- how many reads of the beats of q in a row, up to the last of them, found the same count
-abbrev pub same_reads : ℕ → List Sign → ℕ
-same_reads q [] = 0
-same_reads q (s ∷ past) =
-    same_after (beats_found q s) (λ x. reads_of q x past) (same_reads q past)
-
--- beats stand still if 3 to 14 reads found the same count: after the fifteenth their replica counts
--- as failed
-abbrev pub is_still : ℕ → Bool
-is_still same = nat_lt 2 same && nat_lt same 15
-
--- the reads stand for those of the beats of q: the count that the last found, and how many did
-pub record HoldsReads (q : ℕ) (signs : List Sign) (reads : Reads) : Type 0 where
-  pub row : (beats : ℕ) →
-      min 15 (reads_of q beats signs) ≡ (if reads.beats == beats then reads.times else 0)
-  pub same : reads.times ≡ min 15 (same_reads q signs)
+-- the reads stand for those of the beats of q: how many of the last, in a row, found a count
+abbrev pub HoldsReads : ℕ → List Sign → Reads → Type 0
+HoldsReads q signs reads =
+    (beats : ℕ) → min 15 (reads_of q beats signs)
+    ≡ (if reads.beats == beats then reads.times else 0)
 
 -- the same of every replica
 abbrev pub HoldReads : List Sign → List Reads → Type 0
 HoldReads signs all =
     (q : ℕ) (reads : Reads) → slice_get all q ≡ Some reads → HoldsReads q signs reads
-
--- the beats of one of these stand still
-abbrev pub some_still : List Reads → Bool
-some_still all = list_any (λ reads. is_still reads.times) all
 
 -- the state stands for these signs
 pub record StandsForSilences (signs : List Sign) (state : Silences) : Type 0 where

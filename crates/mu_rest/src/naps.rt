@@ -1,6 +1,6 @@
 //! For how long a replica lets others on.
 ghost use Rattle.std.specs.Prelude.{max, min, ◌/◌, ◌==◌, ◌≡◌};
-ghost use Rattle.mu_rest.specs.Naps.{IsIdleNap, IsNap, IsRest, IsSilenceNap, are_scarce, cycles_counted, is_awake, is_for_cycles, longest};
+ghost use Rattle.mu_rest.specs.Naps.{IsIdleNap, IsNap, IsRest, IsSilenceNap, are_scarce, cycles_counted, is_awake, longest};
 
 /// Processors are scarce if a cycle takes longer than this, in nanoseconds.
 const SCARCE: u64 = 1_000_000;
@@ -16,6 +16,13 @@ const MOST_LONGEST: u64 = 8_192_000;
 /// No longer rest is spent awake, in nanoseconds: a sleep takes some fifty microseconds more than is
 /// asked for.
 const MOST_AWAKE: u64 = 50_000;
+
+/// More idle cycles make no rest longer.
+const MOST_IDLE: u16 = 8;
+
+/// Where processors aren't scarce, so many cycles without a change count for nothing: whoever naps
+/// beats no more, and the others, who don't nap, would soon hold it failed.
+const QUIET_FIRST: u16 = 248;
 
 /// A rest.
 #[derive(Clone, Copy, Debug, PartialEq, Eq)]
@@ -33,12 +40,10 @@ pub(crate) struct Shown {
     pub silence: u8,
     /// Whether the last step ended a cycle.
     pub ended: bool,
-    /// In how many cycles nothing got done.
-    pub idle: u8,
+    /// In how many cycles in a row nothing got done.
+    pub idle: u16,
     /// In how many nothing was changed either.
-    pub quiet: u8,
-    /// Whether the beats of another stand still.
-    pub still: bool,
+    pub quiet: u16,
 }
 
 /// The rest for a silence, if nothing shortens it.
@@ -46,8 +51,7 @@ fn silence_nap(silence: u8) -> u64
     ensures { IsSilenceNap silence result }
 {
     match silence {
-        1 | 2 => 1_000,
-        3 => 4_000,
+        1..=3 => 4_000,
         4 => 16_000,
         5 => 64_000,
         6 => 256_000,
@@ -59,7 +63,7 @@ fn silence_nap(silence: u8) -> u64
 }
 
 /// The rest after idle cycles. The first three are those in which a leader begins.
-fn idle_nap(cycles: u8) -> u64
+fn idle_nap(cycles: u16) -> u64
     ensures { IsIdleNap cycles result }
 {
     match cycles {
@@ -89,21 +93,14 @@ fn longest(fixed: u64, late: u64) -> u64
     }
 }
 
-/// Whether a rest is for idle cycles.
-fn is_for_cycles(shown: &Shown, late: u64) -> bool
-    ensures { result ≡ is_for_cycles shown.now late }
-{
-    shown.ended && (are_scarce(late) || !shown.still)
-}
-
-/// The idle cycles that count.
-fn cycles_counted(shown: &Shown, late: u64) -> u8
+/// The cycles in a row that count.
+fn cycles_counted(shown: &Shown, late: u64) -> u16
     ensures { result ≡ cycles_counted shown.now late }
 {
     if are_scarce(late) {
-        shown.idle
+        shown.idle.min(MOST_IDLE)
     } else {
-        shown.quiet
+        shown.quiet.saturating_sub(QUIET_FIRST)
     }
 }
 
@@ -111,7 +108,7 @@ fn cycles_counted(shown: &Shown, late: u64) -> u8
 fn nap(fixed: u64, late: u64, shown: &Shown) -> u64
     ensures { IsNap fixed late shown.now result }
 {
-    if is_for_cycles(shown, late) {
+    if shown.ended {
         let wanted = idle_nap(cycles_counted(shown, late));
         if fixed == 0 {
             wanted

@@ -7,7 +7,7 @@ ghost use Rattle.mu_rest.specs.Signs.{IsOfSeven, ends_cycle, is_change};
 use crate::sign::Sign;
 
 /// More cycles in a row make no rest longer.
-const MOST_CYCLES: u8 = 8;
+const MOST_CYCLES: u16 = 256;
 
 /// How long a replica has got nothing done.
 #[repr(C)]
@@ -15,19 +15,19 @@ const MOST_CYCLES: u8 = 8;
 pub(crate) struct Progress {
     /// The heads of all that it read last, 0 before any.
     heads: [u64; 7],
-    /// In how many cycles, in a row, it got nothing done: up to 8.
-    idle: u8,
+    /// In how many cycles, in a row, it got nothing done: up to 256.
+    idle: u16,
     /// In how many of these it changed no fence, minimum or slot either.
-    quiet: u8,
+    quiet: u16,
     /// Whether the last step ended a cycle.
     ended: bool,
 }
 
 /// In how many cycles in a row nothing was done, after one more step.
 #[inline(always)]
-fn next_cycles(done: bool, ends: bool, before: u8) -> u8
-    ensures { (cycles : ℕ) → before ≡ min 8 cycles
-        → result ≡ min 8 (cycles_after done ends cycles) }
+fn next_cycles(done: bool, ends: bool, before: u16) -> u16
+    ensures { (cycles : ℕ) → before ≡ min 256 cycles
+        → result ≡ min 256 (cycles_after done ends cycles) }
 {
     if done {
         0
@@ -97,15 +97,15 @@ impl Progress {
         }
     }
 
-    /// In how many cycles in a row it got nothing done: up to 8.
-    pub(crate) fn idle(&self) -> u8
+    /// In how many cycles in a row it got nothing done: up to 256.
+    pub(crate) fn idle(&self) -> u16
         ensures { result ≡ self.now.idle }
     {
         self.idle
     }
 
-    /// In how many cycles in a row it changed nothing: up to 8.
-    pub(crate) fn quiet(&self) -> u8
+    /// In how many cycles in a row it changed nothing: up to 256.
+    pub(crate) fn quiet(&self) -> u16
         ensures { result ≡ self.now.quiet }
     {
         self.quiet

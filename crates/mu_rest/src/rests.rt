@@ -68,9 +68,9 @@ impl Rests {
         self.progress.has_ended_cycle()
     }
 
-    /// In how many cycles in a row it changed nothing: up to 8.
+    /// In how many cycles in a row it changed nothing: up to 256.
     #[inline(always)]
-    pub fn quiet_cycles(&self) -> u8
+    pub fn quiet_cycles(&self) -> u16
         ensures { result ≡ self.now.progress.quiet }
     {
         self.progress.quiet()
@@ -107,7 +107,6 @@ impl Rests {
             ended: self.progress.has_ended_cycle(),
             idle: self.progress.idle(),
             quiet: self.progress.quiet(),
-            still: self.silences.is_some_still(),
         }
     }
 }

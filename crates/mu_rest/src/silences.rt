@@ -2,15 +2,12 @@
 ghost use Rattle.std.specs.Prelude.{List, [], min, ℕ, ◌<◌, ◌∷◌, ◌≡◌};
 ghost use Rattle.mu_rest.specs.declared.sign.Sign.{Sign as SomeSign};
 ghost use Rattle.mu_rest.specs.Signs.{IsOfSeven};
-ghost use Rattle.mu_rest.specs.Silences.{HoldReads, HoldsReads, StandsForSilences, is_still, reads_of, silence_after, some_still};
+ghost use Rattle.mu_rest.specs.Silences.{HoldReads, HoldsReads, StandsForSilences, reads_of, silence_after};
 
 use crate::sign::Sign;
 
 /// After this many reads without a new beat a replica counts as failed.
 const MOST_READS: u8 = 15;
-
-/// So many reads of the same count are a sign of a replica that stands still.
-const STILL_READS: u8 = 3;
 
 /// What the last reads of the beats of one replica found.
 #[repr(C)]
@@ -50,13 +47,6 @@ impl Reads {
             beats,
             times: self.of(beats).saturating_add(1).min(MOST_READS),
         }
-    }
-
-    /// Whether the beats stand still, and their replica doesn't count as failed yet.
-    fn is_still(&self) -> bool
-        ensures { result ≡ is_still self.now.times }
-    {
-        STILL_READS <= self.times && self.times < MOST_READS
     }
 }
 
@@ -105,13 +95,6 @@ impl Silences {
         ensures { result ≡ self.now.shown }
     {
         self.shown
-    }
-
-    /// Whether the beats of somebody stand still.
-    pub(crate) fn is_some_still(&self) -> bool
-        ensures { result ≡ some_still self.now.reads }
-    {
-        self.reads.iter().any(|reads| reads.is_still())
     }
 
     /// Takes the sign of the newest step.

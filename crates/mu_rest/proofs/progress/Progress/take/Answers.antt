@@ -12,10 +12,10 @@ returns c signs stands =
     record {
       heads = c.take_done-done.ensures.heads signs stands.heads;
       idle = c.next_cycles-self.ensures (idle_cycles signs) stands.idle
-          ∙ ap (λ d. min 8 (cycles_after d c.ends_cycle-ends.result (idle_cycles signs))) done
-          ∙ ap (λ e. min 8 (cycles_after (gets_done sign signs) e (idle_cycles signs))) ends;
+          ∙ ap (λ d. min 256 (cycles_after d c.ends_cycle-ends.result (idle_cycles signs))) done
+          ∙ ap (λ e. min 256 (cycles_after (gets_done sign signs) e (idle_cycles signs))) ends;
       quiet = c.next_cycles-self-2.ensures (quiet_cycles signs) stands.quiet
-          ∙ ap (λ d. min 8 (cycles_after d c.ends_cycle-ends.result (quiet_cycles signs))) changed
-          ∙ ap (λ e. min 8 (cycles_after (gets_done sign signs || is_change sign) e (quiet_cycles signs))) ends;
+          ∙ ap (λ d. min 256 (cycles_after d c.ends_cycle-ends.result (quiet_cycles signs))) changed
+          ∙ ap (λ e. min 256 (cycles_after (gets_done sign signs || is_change sign) e (quiet_cycles signs))) ends;
       ended = ends;
     }
