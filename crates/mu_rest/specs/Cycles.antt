@@ -1,5 +1,5 @@
 -- late: what the longest cycle of late took, in nanoseconds. It is forgotten bit by bit, whole in
--- sixteen times that time.
+-- sixty-four times that time.
 use Rattle.std.specs.Prelude.{if◌then◌else◌, max, min, nat_lt, ℕ, ◌+◌, ◌*◌, ◌-◌, ◌/◌, ◌^◌, ◌≡◌}
 use Rattle.mu_rest.specs.declared.cycles.Cycles.{Cycles}
 
@@ -10,7 +10,7 @@ time_taken began ends rested = min 1_000_000_000 (ends - began - rested)
 
 -- when it is forgotten that a cycle took so long
 abbrev pub forgotten_at : ℕ → ℕ → ℕ
-forgotten_at ended took = min (ended + 16 * took) (2 ^ 64 - 1)
+forgotten_at ended took = min (ended + 64 * took) (2 ^ 64 - 1)
 
 -- what a cycle is taken to have taken before the first: some time slices of others, if more wants to
 -- run than there are processors
@@ -25,7 +25,7 @@ pub record BeginsAmong (moment running processors : ℕ) (cycles : Cycles) : Typ
 
 -- what is left of it at a moment
 abbrev pub late : Cycles → ℕ → ℕ
-late cycles moment = (cycles.forgotten - moment) / 16
+late cycles moment = (cycles.forgotten - moment) / 64
 
 -- a new cycle begins
 pub record BeginsCycle (moment : ℕ) (old new : Cycles) : Type 0 where

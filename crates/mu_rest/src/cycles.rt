@@ -10,7 +10,7 @@ const SLICES: u64 = 16_000_000;
 const MOST_TAKEN: u64 = 1_000_000_000;
 
 /// A time is forgotten in so many times that time.
-const FORGET_PART: u64 = 16;
+const FORGET_PART: u64 = 64;
 
 /// When the cycle began, and how long those before it took. Moments and times are in nanoseconds.
 #[repr(C)]
