@@ -10,11 +10,6 @@
 
 static uint64_t chance;
 
-static inline void chance_begin(uint64_t seed)
-{
-    chance = seed * UINT64_C(0x9e3779b97f4a7c15) + 1;
-}
-
 /* Any 64 bits. */
 static inline uint64_t any_word(void)
 {
@@ -22,6 +17,14 @@ static inline uint64_t any_word(void)
     chance ^= chance >> 7;
     chance ^= chance << 17;
     return chance;
+}
+
+/* Seeds that are alike begin with numbers that are alike: some are passed over. */
+static inline void chance_begin(uint64_t seed)
+{
+    chance = seed * UINT64_C(0x9e3779b97f4a7c15) + 1;
+    for (int passed = 0; passed < 8; passed++)
+        any_word();
 }
 
 /* A random number below this one. */

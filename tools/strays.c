@@ -88,11 +88,6 @@ static uint64_t bits(uint64_t word, uint32_t from, uint32_t count)
     return word >> from & ((UINT64_C(1) << count) - 1);
 }
 
-static int is_number(const struct run *run, uint64_t number)
-{
-    return number % 8 < run->count;
-}
-
 static int is_payload(const struct run *run, uint64_t payload)
 {
     uint64_t row = payload % PAYLOADS;
@@ -115,7 +110,7 @@ static int is_slot(const struct run *run, uint32_t place, uint64_t word)
 {
     uint64_t position = bits(word, 38, 9) * run->ring + place;
     return bits(word, 0, 47) == 0 ||
-           (position < positions(run) && is_number(run, bits(word, 15, 23)) && is_payload(run, bits(word, 0, 15)));
+           (position < positions(run) && bits(word, 15, 23) % 8 < run->count && is_payload(run, bits(word, 0, 15)));
 }
 
 static uint32_t rows_at(const struct run *run)
@@ -137,7 +132,7 @@ static enum answer is_refused(const struct run *run, const mu_operation *o, uint
         return !is_slot(run, o->place - slots, word);
     switch (o->place) {
     case FENCE: return !is_fence(run, word);
-    case MINIMUM: return bits(word, 23, 24) != 0 || !is_number(run, bits(word, 0, 23));
+    case MINIMUM: return bits(word, 23, 24) != 0 || bits(word, 0, 23) % 8 >= run->count;
     case FUO: case HEAD: return word > positions(run);
     default: return word > BUDGET;
     }
@@ -288,8 +283,6 @@ int main(int count, char **words)
     uint64_t seed = count > 2 ? (uint64_t)atoll(words[2]) : 1;
     for (uint32_t k = 0; k < runs; k++) {
         chance_begin(seed + k);
-        for (int warm = 0; warm < 8; warm++)
-            any_word();
         begin(&run);
         play(&run, &told);
         judge(&run, &told);
@@ -297,8 +290,7 @@ int main(int count, char **words)
             mu_replica_free(&run.each[r].replica);
         free(run.memory);
     }
-    printf("%u runs with a stray word: right %u, still %u, refused %u, wrong %u; words taken that are to be refused: %u, and"
-           " refused that are to be taken: %u\n", runs, told.right, told.still, told.refused, told.wrong, told.taken_wrongly,
-           told.refused_wrongly);
+    printf("right %u, still %u, refused %u, wrong %u; words taken that are to be refused: %u, and refused that are to be taken:"
+           " %u\n", told.right, told.still, told.refused, told.wrong, told.taken_wrongly, told.refused_wrongly);
     return told.taken_wrongly + told.refused_wrongly > 0;
 }
