@@ -276,13 +276,14 @@ void mu_replica_free(mu_replica *replica);
  * elsewhere. Moments and times are nanoseconds of a clock that doesn't go back. These calls want no
  * memory. */
 typedef struct mu_rests {
-    uint64_t at[27]; /* the library's */
+    uint64_t at[28]; /* the library's */
 } mu_rests;
 
-/* Begins it, before any access, where so many tasks want to run on so many processors. No rest will be
- * longer than `longest`; if that is 0 they go by how long cycles take. What `*rests` was isn't read. */
-void mu_rests_begin(mu_rests *rests, uint64_t moment, uint32_t running, uint32_t processors,
-                    uint64_t longest);
+/* Begins it, before any access of one of so many replicas here, if so many tasks want to run on so many
+ * processors. No rest will be longer than `longest`; if that is 0 they go by how long cycles take. What
+ * `*rests` was isn't read. */
+void mu_rests_begin(mu_rests *rests, uint64_t moment, uint32_t replicas, uint32_t running,
+                    uint32_t processors, uint64_t longest);
 
 /* What an access shows of rests. */
 enum mu_due {

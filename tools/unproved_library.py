@@ -39,7 +39,7 @@ fn each_export_is_made(rt: HostRuntime) {
     let mut taken = 0usize;
     let (mut number_0, mut number_1, mut number_2, mut number_3, mut number_4) = (0u32, 0u32, 0u32, 0u32, 0u32);
     let mut operation = Operation { value: 0, expected: 0, kind: 0, host: 0, place: 0, reserved: 0 };
-    let mut resting = mu_rest::Rests::new(0, 0, 1, 0);
+    let mut resting = mu_rest::Rests::new(0, 0, 0, 1, 0);
 CALLS}
 """
 

@@ -12,8 +12,8 @@
 
 enum { MICROSECOND = 1000, SECOND = 1000000000 };
 
-/* How many tasks want to run that may keep this one from a processor: at a real-time rank the replicas alone. */
-static uint32_t tasks_running(uint32_t replicas)
+/* How many tasks want to run that may keep this one from a processor: at a real-time rank none is known of. */
+static uint32_t tasks_running(void)
 {
     FILE *from = sched_getscheduler(0) == SCHED_OTHER ? fopen("/proc/loadavg", "r") : NULL;
     unsigned running = 0;
@@ -21,13 +21,13 @@ static uint32_t tasks_running(uint32_t replicas)
         running = 0;
     if (from)
         fclose(from);
-    return running > replicas ? running : replicas;
+    return running;
 }
 
 void rests_begin(mu_rests *rests, uint32_t replicas, uint32_t longest_nap)
 {
     uint32_t processors = (uint32_t)sysconf(_SC_NPROCESSORS_ONLN);
-    mu_rests_begin(rests, now(), tasks_running(replicas), processors, (uint64_t)longest_nap * MICROSECOND);
+    mu_rests_begin(rests, now(), replicas, tasks_running(), processors, (uint64_t)longest_nap * MICROSECOND);
     prctl(PR_SET_TIMERSLACK, 1);
 }
 

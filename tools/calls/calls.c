@@ -27,7 +27,7 @@ int main(int count, char **given)
     uint64_t most = count > 1 ? (uint64_t)atoll(given[1]) : 10000;
     chance_begin(count > 2 ? (uint64_t)atoll(given[2]) : 1);
     calls.out = malloc(ROOM + 8);
-    mu_rests_begin(&calls.rests, 0, 1, 1, 0);
+    mu_rests_begin(&calls.rests, 0, 1, 1, 1, 0);
     for (; calls.count < most; calls.count++) {
         uint32_t kind = below(64);
         if (kind == 0)

@@ -99,7 +99,7 @@ void play_rests(void)
 {
     uint64_t guarded[64];
     memset(guarded, GUARD, sizeof guarded);
-    mu_rests_begin((mu_rests *)guarded, any_word(), any_number(8), any_number(8), below(2) ? 0 : any_word());
+    mu_rests_begin((mu_rests *)guarded, any_word(), any_number(7), any_number(8), any_number(8), below(2) ? 0 : any_word());
     for (size_t k = sizeof calls.rests / sizeof *guarded; k < 64; k++)
         expect(guarded[k] == UINT64_C(0x5a5a5a5a5a5a5a5a), "rests that are larger than mu.h says");
     memcpy(&calls.rests, guarded, sizeof calls.rests);

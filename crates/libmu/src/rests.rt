@@ -1,8 +1,8 @@
 //! The calls for C on how long a process rests between the steps of its replica.
-ghost use Rattle.std.specs.Prelude.{List, [], ◌==◌, ◌∷◌, ◌≡◌};
+ghost use Rattle.std.specs.Prelude.{List, [], nat_lt, ◌==◌, ◌∷◌, ◌≡◌};
 ghost use Rattle.libmu.specs.Rests.{due_told, sign_of, sign_of_compare, sign_of_load, sign_of_store};
 ghost use Rattle.mu_rest.specs.Cycles.{BeginsAmong, BeginsCycle};
-ghost use Rattle.mu_rest.specs.Rests.{StandsForRests, Tells};
+ghost use Rattle.mu_rest.specs.Rests.{HasSettings, StandsForRests, Tells};
 ghost use Rattle.mu_rest.specs.Signs.{IsOfSeven};
 ghost use Rattle.mu_rest.specs.declared.sign.Sign.{Sign as SomeSign};
 
@@ -46,20 +46,21 @@ const QUIET: u32 = 3;
 /// So many cycles without a change are quiet: in one a replica sees each ask.
 const QUIET_CYCLES: u16 = 2;
 
-/// Begins the rests of a replica before any step.
+/// Begins the rests of one of so many replicas before any step.
 #[unsafe(no_mangle)]
 pub extern "C" fn mu_rests_begin(
     rests: &mut Rests,
     moment: u64,
+    replicas: u32,
     running: u32,
     processors: u32,
     fixed: u64,
 )
     ensures stands { StandsForRests [] rests.new }
     ensures cycles { BeginsAmong moment running processors rests.new.cycles }
-    ensures fixed { rests.new.fixed ≡ fixed }
+    ensures settings { HasSettings fixed (nat_lt processors replicas) rests.new }
 {
-    *rests = Rests::new(moment, running, processors, fixed);
+    *rests = Rests::new(moment, replicas, running, processors, fixed);
 }
 
 /// Takes the newest access of the replica, and the word that it found: whether a rest is due.
@@ -74,7 +75,7 @@ pub extern "C" fn mu_rests_take(
     ensures signs { (signs : List SomeSign) → StandsForRests signs rests.old
         → StandsForRests (sign_of operation.now found own rows_at ∷ signs) rests.new }
     ensures cycles { rests.new.cycles ≡ rests.old.cycles }
-    ensures fixed { rests.new.fixed ≡ rests.old.fixed }
+    ensures settings { HasSettings rests.old.fixed rests.old.crowded rests.new }
     ensures due { result ≡ due_told rests.new }
 {
     rests.take(sign_of(operation, found, own, rows_at));
@@ -100,7 +101,7 @@ pub extern "C" fn mu_rests_wake(rests: &mut Rests, moment: u64)
     ensures signs { (signs : List SomeSign) → StandsForRests signs rests.old
         → StandsForRests (SomeSign.Work ∷ signs) rests.new }
     ensures cycles { BeginsCycle moment rests.old.cycles rests.new.cycles }
-    ensures fixed { rests.new.fixed ≡ rests.old.fixed }
+    ensures settings { HasSettings rests.old.fixed rests.old.crowded rests.new }
 {
     rests.wake(moment);
 }

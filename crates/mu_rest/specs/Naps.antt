@@ -45,11 +45,13 @@ pub record IsNap (fixed late : ℕ) (shown : Shown) (nanoseconds : ℕ) : Type 0
   pub silent : shown.ended ≡ false → (wanted : ℕ) × IsSilenceNap shown.silence wanted
       × (nanoseconds ≡ min (longest fixed late) wanted)
 
--- a rest is spent awake if it is short and processors aren't scarce: a sleep takes longer than asked
-abbrev pub is_awake : ℕ → ℕ → Bool
-is_awake late nanoseconds = not (are_scarce late) && nat_le nanoseconds 50_000
+-- a rest is spent awake if it is short, each replica has a processor, and none was scarce of late: a
+-- sleep takes longer than asked
+abbrev pub is_awake : Bool → ℕ → ℕ → Bool
+is_awake crowded late nanoseconds =
+    not crowded && not (are_scarce late) && nat_le nanoseconds 50_000
 
 -- this is the rest
-pub record IsRest (fixed late : ℕ) (shown : Shown) (rest : Rest) : Type 0 where
+pub record IsRest (fixed : ℕ) (crowded : Bool) (late : ℕ) (shown : Shown) (rest : Rest) : Type 0 where
   pub nap : IsNap fixed late shown rest.nanoseconds
-  pub awake : rest.awake ≡ is_awake late rest.nanoseconds
+  pub awake : rest.awake ≡ is_awake crowded late rest.nanoseconds

@@ -32,11 +32,16 @@ may_rest rests = nat_lt 0 rests.silences.shown || rests.progress.ended
 abbrev pub TimesCycle : Bool → ℕ → Cycles → Cycles → Type 0
 TimesCycle ended moment old new = MatchBool ended (EndsCycle moment old new) (new ≡ old)
 
+-- what doesn't change: the longest rest, if it is fixed, and whether not each replica has a processor
+pub record HasSettings (longest : ℕ) (is_crowded : Bool) (rests : Rests) : Type 0 where
+  pub fixed : rests.fixed ≡ longest
+  pub crowded : rests.crowded ≡ is_crowded
+
 -- a rest is told, and counted in the cycle under way
 pub record Tells (moment : ℕ) (old new : Rests) (rest : Rest) : Type 0 where
   pub silences : new.silences ≡ old.silences
   pub progress : new.progress ≡ old.progress
-  pub fixed : new.fixed ≡ old.fixed
+  pub settings : HasSettings old.fixed old.crowded new
   pub times : (cycles : Cycles) × TimesCycle old.progress.ended moment old.cycles cycles
-      × IsRest old.fixed (late cycles moment) (shown_by old) rest
+      × IsRest old.fixed old.crowded (late cycles moment) (shown_by old) rest
       × (new.cycles ≡ record cycles { rested = min (cycles.rested + rest.nanoseconds) (2 ^ 64 - 1) })

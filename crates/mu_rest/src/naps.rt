@@ -104,6 +104,13 @@ fn cycles_counted(shown: &Shown, late: u64) -> u16
     }
 }
 
+/// Whether a rest is spent awake.
+fn is_awake(crowded: bool, late: u64, nanoseconds: u64) -> bool
+    ensures { result ≡ is_awake crowded late nanoseconds }
+{
+    !crowded && !are_scarce(late) && nanoseconds <= MOST_AWAKE
+}
+
 /// How many nanoseconds the rest after a step has that shows this.
 fn nap(fixed: u64, late: u64, shown: &Shown) -> u64
     ensures { IsNap fixed late shown.now result }
@@ -121,13 +128,13 @@ fn nap(fixed: u64, late: u64, shown: &Shown) -> u64
 }
 
 /// The rest after a step that shows this, where the longest cycle of late took so long, and no rest is
-/// to be longer than `fixed`, if that isn't 0.
-pub(crate) fn rest_after(fixed: u64, late: u64, shown: &Shown) -> Rest
-    ensures { IsRest fixed late shown.now result }
+/// to be longer than `fixed`, if that isn't 0; crowded if not each replica has a processor.
+pub(crate) fn rest_after(fixed: u64, crowded: bool, late: u64, shown: &Shown) -> Rest
+    ensures { IsRest fixed crowded late shown.now result }
 {
     let nanoseconds = nap(fixed, late, shown);
     Rest {
         nanoseconds,
-        awake: !are_scarce(late) && nanoseconds <= MOST_AWAKE,
+        awake: is_awake(crowded, late, nanoseconds),
     }
 }

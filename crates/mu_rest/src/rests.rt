@@ -1,8 +1,8 @@
 //! How long a replica lets others on, by its own steps.
-ghost use Rattle.std.specs.Prelude.{List, [], ◌∷◌, ◌≡◌};
+ghost use Rattle.std.specs.Prelude.{List, [], nat_lt, ◌∷◌, ◌≡◌};
 ghost use Rattle.mu_rest.specs.Cycles.{BeginsAmong, BeginsCycle};
 ghost use Rattle.mu_rest.specs.declared.sign.Sign.{Sign as SomeSign};
-ghost use Rattle.mu_rest.specs.Rests.{StandsForRests, Tells, may_rest, shown_by};
+ghost use Rattle.mu_rest.specs.Rests.{HasSettings, StandsForRests, Tells, may_rest, shown_by};
 ghost use Rattle.mu_rest.specs.Signs.{IsOfSeven};
 
 use crate::cycles::Cycles;
@@ -21,21 +21,24 @@ pub struct Rests {
     cycles: Cycles,
     /// The longest rest, or 0 if it isn't fixed.
     fixed: u64,
+    /// Whether there are fewer processors than replicas.
+    crowded: bool,
 }
 
 impl Rests {
-    /// Those of a replica before any step, if so much wants to run on so many processors. Its rests
-    /// are at most `fixed` nanoseconds, or go by its cycles if that is 0.
-    pub fn new(moment: u64, running: u32, processors: u32, fixed: u64) -> Rests
+    /// Those of one of so many replicas before any step, if so much wants to run on so many
+    /// processors. Its rests are at most `fixed` nanoseconds, or go by its cycles if that is 0.
+    pub fn new(moment: u64, replicas: u32, running: u32, processors: u32, fixed: u64) -> Rests
         ensures stands { StandsForRests [] result }
         ensures cycles { BeginsAmong moment running processors result.cycles }
-        ensures fixed { result.fixed ≡ fixed }
+        ensures settings { HasSettings fixed (nat_lt processors replicas) result }
     {
         Rests {
             silences: Silences::new(),
             progress: Progress::new(),
             cycles: Cycles::new(moment, running, processors),
             fixed,
+            crowded: processors < replicas,
         }
     }
 
@@ -46,7 +49,7 @@ impl Rests {
         ensures signs { (signs : List SomeSign) → StandsForRests signs self.old
             → StandsForRests (sign ∷ signs) self.new }
         ensures cycles { self.new.cycles ≡ self.old.cycles }
-        ensures fixed { self.new.fixed ≡ self.old.fixed }
+        ensures settings { HasSettings self.old.fixed self.old.crowded self.new }
     {
         self.silences.take(sign);
         self.progress.take(sign);
@@ -83,7 +86,8 @@ impl Rests {
         if self.progress.has_ended_cycle() {
             self.cycles.end(moment);
         }
-        let rest = rest_after(self.fixed, self.cycles.late(moment), &self.shown());
+        let late = self.cycles.late(moment);
+        let rest = rest_after(self.fixed, self.crowded, late, &self.shown());
         self.cycles.count(rest.nanoseconds);
         rest
     }
@@ -93,7 +97,7 @@ impl Rests {
         ensures signs { (signs : List SomeSign) → StandsForRests signs self.old
             → StandsForRests (SomeSign.Work ∷ signs) self.new }
         ensures cycles { BeginsCycle moment self.old.cycles self.new.cycles }
-        ensures fixed { self.new.fixed ≡ self.old.fixed }
+        ensures settings { HasSettings self.old.fixed self.old.crowded self.new }
     {
         self.take(Sign::Work);
         self.cycles.begin(moment);
