@@ -1,5 +1,5 @@
 -- naps: for how many nanoseconds to rest after a step, and whether asleep.
-use Rattle.std.specs.Prelude.{Bool, false, true, if◌then◌else◌, max, min, nat_le, nat_lt, not, ℕ, ◌&&◌, ◌*◌, ◌-◌, ◌/◌, ◌<◌, ◌==◌, ◌^◌, ◌||◌, ◌≡◌, ◌≤◌}
+use Rattle.std.specs.Prelude.{Bool, false, true, if◌then◌else◌, max, min, nat_le, nat_lt, not, ℕ, ◌&&◌, ◌*◌, ◌-◌, ◌/◌, ◌<◌, ◌==◌, ◌^◌, ◌≡◌, ◌≤◌}
 use Rattle.mu_rest.specs.declared.naps.Rest.{Rest}
 use Rattle.mu_rest.specs.declared.naps.Shown.{Shown}
 

@@ -1,5 +1,5 @@
 -- signs: what is asked of one, and which of them end a cycle.
-use Rattle.std.specs.Prelude.{Bool, false, true, ℕ, ◌<◌}
+use Rattle.std.specs.Prelude.{Bool, false, true, ◌<◌}
 use Rattle.mu_rest.specs.declared.sign.Sign.{Sign}
 
 -- it is of one of seven replicas, if it is of one
