@@ -1,6 +1,6 @@
 //! How long the cycles of a replica take.
 ghost use Rattle.std.specs.Prelude.{min, ◌+◌, ◌-◌, ◌^◌, ◌≡◌};
-ghost use Rattle.mu_rest.specs.Cycles.{BeginsAmong, BeginsCycle, EndsCycle, forgotten_at, late, time_taken};
+ghost use Rattle.mu_rest.specs.Cycles.{BeginsAmong, BeginsCycle, EndsCycle, forgotten_at, late};
 
 /// What a cycle may take if there are fewer processors than want to run: some time slices of
 /// others, in nanoseconds.
