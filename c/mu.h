@@ -272,6 +272,40 @@ uint32_t mu_replica_event(mu_replica *replica, void *out, size_t room, size_t *t
 /* Lets a replica go, with its memory, if there is one. It is MU_NO_REPLICA then. */
 void mu_replica_free(mu_replica *replica);
 
+/* For how long a process rests between the accesses of its eager replica, so that others get on and hold
+ * nobody failed who only waits for a processor (docs/PROCESSES.md). It is yours, and has no memory
+ * elsewhere. Moments and times are nanoseconds of a clock that doesn't go back. These calls want no
+ * memory. */
+typedef struct mu_rests {
+    uint64_t at[28]; /* the library's */
+} mu_rests;
+
+/* Begins it, before any access of one of so many replicas here, if so many tasks want to run on so many
+ * processors. No rest will be longer than `longest`; if that is 0 they go by how long cycles take. What
+ * `*rests` was isn't read. */
+void mu_rests_begin(mu_rests *rests, uint64_t moment, uint32_t replicas, uint32_t running,
+                    uint32_t processors, uint64_t longest);
+
+/* What an access shows of rests. */
+enum mu_due {
+    MU_NOT_DUE = 0,
+    MU_MAY_BE_DUE = 1,
+    MU_CYCLE_ENDED = 2, /* the same, and a cycle of the replica ended */
+    MU_QUIET = 3        /* and in it and the one before nothing was changed; each reads all asks */
+};
+
+/* Takes an access that replica `own` has made, and the word that it found. The rows of each host begin
+ * at `rows_at`. An enum mu_due. */
+uint32_t mu_rests_take(mu_rests *rests, const mu_operation *operation, uint64_t found, uint32_t own,
+                       uint32_t rows_at);
+
+/* How long to rest now, after an access that isn't MU_NOT_DUE: at most 8,192,000. `*awake` is 1 if that
+ * is so short that a sleep would take longer. To be asked once each time. */
+uint64_t mu_rests_due(mu_rests *rests, uint64_t moment, uint32_t *awake);
+
+/* The process slept for another cause, and goes on: a cycle begins. */
+void mu_rests_wake(mu_rests *rests, uint64_t moment);
+
 #ifdef __cplusplus
 }
 #endif

@@ -3,20 +3,25 @@
 
     tools/trusted.py            the list
     tools/trusted.py --check    tells which crate of the kit, and which folder of C, README's "What is trusted" doesn't
-                                name; ./test calls it
+                                name, and which access in C the list lacks; ./test calls it
 
 The toolchain and the statements of its standard library are trusted too; they aren't in the sources.
 """
 import os
 import re
+import shutil
+import subprocess
 import sys
 
+from library_parts import PARTS
 from programs import TOP, tell
 
 EXPORT = re.compile(r"#\[unsafe\(no_mangle\)\]\s*pub extern \"C\" fn (\w+)")
 UNSAFE = re.compile(r"\bunsafe (impl|fn|\{)")
 # What makes an access of shared memory in C: an atomic operation, or one of a network card.
 ACCESS = re.compile(r"\b(atomic_\w+|__atomic_\w+|__sync_\w+|fi_\w*atomic\w*|fi_read\w*|fi_write\w*)\s*\(")
+# What clang says of an access to an atomic word that no operation names.
+UNNAMED = re.compile(r"^(\S+:\d+):\d+: warning: implicit use .*\n(.*)", re.MULTILINE)
 FUNCTION = re.compile(r"^[a-z][\w *]*?\b(\w+)\([^;{}]*\)\s*\{", re.MULTILINE)
 
 
@@ -49,10 +54,14 @@ def unsafes():
 
 
 def exports():
-    """Each function that C may call."""
+    """Each function that C may call: those of the crates, and those of the C files of the library."""
     for path in files("crates", ".rt"):
         text = text_of(path)
         yield from (f"{placed(path, text, found.start())}: {found[1]}" for found in EXPORT.finditer(text))
+    for path in (os.path.join(TOP, "c", f"{name}.c") for name in PARTS):
+        text = text_of(path)
+        yield from (f"{placed(path, text, found.start())}: {found[1]}" for found in FUNCTION.finditer(text)
+                    if not found[0].startswith("static"))
 
 
 def accesses():
@@ -64,6 +73,21 @@ def accesses():
             calls = sorted({found[1] for found in ACCESS.finditer(text, start, end)})
             if calls:
                 yield f"{placed(path, text, start)}: {name}: {', '.join(calls)}"
+
+
+def unlisted():
+    """Each access in C that the list lacks: outside functions, or by the bare name of an atomic word, as clang tells it."""
+    for path in files("c", ".c", ".h"):
+        text = text_of(path)
+        first = FUNCTION.search(text)
+        for found in ACCESS.finditer(text, 0, first.start() if first else len(text)):
+            yield f"{placed(path, text, found.start())}: {found[1]} stands in no function"
+    folders = [os.path.join(TOP, it) for it in c_folders()]
+    words = ["clang", "-std=c11", "-mcx16", "-fsyntax-only", "-Watomic-implicit-seq-cst", *(f"-I{it}" for it in folders)]
+    for path in files("c", ".c") if shutil.which("clang") else ():
+        told = subprocess.run([*words, path], capture_output=True, text=True, check=False).stderr
+        yield from (f"{os.path.relpath(at, TOP)}: an access to an atomic word that no operation names"
+                    for at, line in UNNAMED.findall(told) if not ACCESS.search(line))
 
 
 def kit_crates():
@@ -80,12 +104,14 @@ def c_folders():
 
 
 def judged():
-    """How many crates of the kit and folders of C there are, and which of them README doesn't name as trusted."""
+    """How many crates of the kit and folders of C there are, and the list of accesses; which of them README doesn't name as
+    trusted, and which accesses the list lacks."""
     said = text_of(os.path.join(TOP, "README.md")).split("## What is trusted", 1)[1].split("\n## ", 1)[0]
     # `core`, `std_heap` and the like are the standard library.
     named = [name for name in kit_crates() if not re.fullmatch(r"core|std_\w+", name)]
     named += c_folders()
-    return len(named), [f"README.md: {it} isn't named among what is trusted" for it in named if f"`{it}`" not in said]
+    missing = [f"README.md: {it} isn't named among what is trusted" for it in named if f"`{it}`" not in said]
+    return len(named) + 1, [*missing, *unlisted()]
 
 
 def main():

@@ -31,6 +31,7 @@ from programs import EXAMPLES, TOP
 from run_cases import contents
 
 sys.path.insert(0, OWN)
+TOOLS = os.path.join(TOP, "tools")
 HEADER, FOLDER = os.path.join(TOP, "c"), os.path.abspath(os.environ.get("LIBMU_AT", os.path.join(TOP, "out")))
 ARCHIVE = os.path.join(FOLDER, "libmu.a")
 os.environ["LIBMU"] = os.path.join(FOLDER, "libmu.so")
@@ -105,10 +106,10 @@ def try_alone(tried, folder, compiler):
     example = built(compiler, folder, "alone", "-std=c11", os.path.join(OWN, "alone.c"))
     run = subprocess.run([example], stdout=subprocess.PIPE, timeout=120, check=False)
     tried.expect("alone.c", (run.returncode, run.stdout), (0, contents(os.path.join(EXAMPLES, "put-and-get.trace")) + b"legal 725\n"))
-    program = built(compiler, folder, "schedules", "-std=c11", "-Wno-format-nonliteral", os.path.join(HEADER, "alone.c"))
+    program = built(compiler, folder, "schedules", "-std=c11", "-Wno-format-nonliteral", os.path.join(TOOLS, "schedules.c"))
     runs = QUICK_SCHEDULES if "--quick" in sys.argv else SCHEDULES
     run = subprocess.run([program, str(runs), "1"], stdout=subprocess.PIPE, timeout=600, check=False)
-    tried.expect("c/alone.c", (run.returncode, run.stdout.endswith(b"all lists are legal\n")), (0, True))
+    tried.expect("tools/schedules.c", (run.returncode, run.stdout.endswith(b"all lists are legal\n")), (0, True))
 
 
 def try_engines(tried, library, folder, compiler):

@@ -1,6 +1,5 @@
 /* mu_fabric.c: replicas over libfabric. tools/program_help.bash has what --help says. */
 #define _GNU_SOURCE
-#include "job.h"
 #include "memory.h"
 #include "network.h"
 #include "report.h"
@@ -22,9 +21,10 @@ struct asked {
     uint64_t limit, linger; /* in milliseconds */
 };
 
-/* Reads `lose`, `provider`, `limit` or `linger` and what follows: how many words, 0 if it is none of them, -1 and a line. */
-static int own_read(struct asked *asked, char *const *words)
+/* Reads `provider`, `limit` or `linger` and what follows, as plan_read does the words that all know. */
+static int own_read(void *with, char *const *words)
 {
+    struct asked *asked = with;
     struct plan *plan = &asked->plan;
     if (strcmp(words[0], "limit") == 0)
         return number_read(plan, "limit", words[1], 1, MOST_LIMIT, &asked->limit) ? -1 : 2;
@@ -38,20 +38,9 @@ static int own_read(struct asked *asked, char *const *words)
     return words[1] ? 2 : -1;
 }
 
-/* Reads all words: 0; or -1 and a line. */
-static int words_read(struct asked *asked, char *const *words)
+static int all_read(struct asked *asked, char *const *words)
 {
-    while (*words) {
-        int count = plan_read(&asked->plan, words);
-        if (count == 0)
-            count = own_read(asked, words);
-        if (count == 0)
-            say(&asked->plan, "%s is no word; --help tells those that there are", *words);
-        if (count <= 0)
-            return -1;
-        words += count;
-    }
-    return 0;
+    return words_read(&asked->plan, words, own_read, asked);
 }
 
 static void card_asked(struct card *card, const struct asked *asked, const struct segment *segment, uint32_t self)
@@ -67,13 +56,10 @@ static void card_asked(struct card *card, const struct asked *asked, const struc
 static int segment_made(const struct asked *asked, const char *job, size_t length, struct segment **segment)
 {
     const struct plan *plan = &asked->plan;
-    struct wanted wanted = { .job = job, .length = length };
-    wanted.flags = (plan->trace ? IS_TRACED : 0) | (plan->wants_moments ? WANTS_MOMENTS : 0);
-    uint32_t status = layout_of(job, length, 0, &wanted.layout);
-    if (status == MU_REFUSED)
-        return print_refusal(plan, job, length);
-    if (status != MU_DONE || !plan_fits(plan, wanted.layout.replicas))
-        return status == MU_DONE ? STATUS_USAGE : (int)status;
+    struct wanted wanted;
+    int status = wanted_for(plan, job, length, &wanted);
+    if (status)
+        return status;
     int file = memfd_create("mu notes", 0);
     *segment = file < 0 ? NULL : segment_new(file, &wanted);
     if (*segment == NULL) {
@@ -156,8 +142,9 @@ static void end_memories(const struct hosts *hosts, struct group *group)
 }
 
 /* All on this machine. */
-static int run_job(const struct asked *asked, const char *job, size_t length)
+static int run_job(const void *with, const char *job, size_t length)
 {
+    const struct asked *asked = with;
     struct group group = { 0 };
     struct hosts hosts;
     struct segment *segment = NULL;
@@ -199,7 +186,7 @@ static int run_memory(struct asked *asked, int count, char **words)
         say(&asked->plan, "memory: it should be `memory ID HOSTS`");
         return STATUS_USAGE;
     }
-    if (words_read(asked, words + 4) || host_read(asked, words[2], words[3], &hosts, &host))
+    if (all_read(asked, words + 4) || host_read(asked, words[2], words[3], &hosts, &host))
         return STATUS_USAGE;
     void *at = memory_new(&bytes);
     return one_memory(asked, NULL, &hosts.host[host], at, bytes) ? STATUS_NO_ANSWER : STATUS_DONE;
@@ -217,7 +204,7 @@ static int run_alone(struct asked *asked, int count, char **words)
         say(&asked->plan, "replica: it should be `replica ID HOSTS JOB`");
         return STATUS_USAGE;
     }
-    if (words_read(asked, words + 5) || host_read(asked, words[2], words[3], &hosts, &id))
+    if (all_read(asked, words + 5) || host_read(asked, words[2], words[3], &hosts, &id))
         return STATUS_USAGE;
     if (asked->plan.trace || asked->plan.count) {
         say(&asked->plan, "replica: kills, stops and a trace are for all on one machine");
@@ -242,7 +229,6 @@ int main(int count, char **words)
 {
     struct asked asked = { .plan = { .program = "mu_fabric", .can_lose = 1 }, .provider = "tcp;ofi_rxm",
                            .limit = USUAL_LIMIT, .linger = USUAL_LINGER };
-    size_t length = 0;
     if (count < 2) {
         say(&asked.plan, "a job should follow; --help says what else");
         return STATUS_USAGE;
@@ -251,12 +237,5 @@ int main(int count, char **words)
         return run_memory(&asked, count, words);
     if (strcmp(words[1], "replica") == 0)
         return run_alone(&asked, count, words);
-    if (words_read(&asked, words + 2))
-        return STATUS_USAGE;
-    char *job = text_read(&asked.plan, words[1], &length);
-    if (job == NULL)
-        return STATUS_USAGE;
-    int status = run_job(&asked, job, length);
-    free(job);
-    return status;
+    return all_read(&asked, words + 2) ? STATUS_USAGE : job_run(&asked.plan, words[1], run_job, &asked);
 }

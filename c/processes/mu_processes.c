@@ -1,12 +1,10 @@
 /* mu_processes.c: a process for each replica of a job. tools/program_help.bash has what --help says. */
 #define _GNU_SOURCE
-#include "job.h"
 #include "mapped.h"
 #include "serve.h"
 #include "told.h"
 
 #include <fcntl.h>
-#include <stdlib.h>
 #include <string.h>
 #include <unistd.h>
 
@@ -16,44 +14,41 @@ struct asked {
     int is_by_hand;         /* nobody is started here */
 };
 
-/* Reads the words after the job: 0; or -1 and a line. */
-static int words_read(struct asked *asked, char *const *words)
+/* Reads `wait` or `file NAME`, as plan_read does the words that all know. */
+static int own_read(void *with, char *const *words)
 {
-    struct plan *plan = &asked->plan;
-    while (*words) {
-        int count = plan_read(plan, words);
-        if (count == 0 && strcmp(*words, "wait") == 0)
-            count = asked->is_by_hand = 1;
-        if (count == 0 && strcmp(*words, "file") == 0) {
-            asked->file = words[1];
-            count = words[1] ? 2 : -1;
-            if (count < 0)
-                say(plan, "file: the name of a file should follow");
-        }
-        if (count == 0)
-            say(plan, "%s is no word; --help tells those that there are", *words);
-        if (count <= 0)
-            return -1;
-        words += count;
-    }
+    struct asked *asked = with;
+    if (strcmp(*words, "wait") == 0)
+        return asked->is_by_hand = 1;
+    if (strcmp(*words, "file"))
+        return 0;
+    asked->file = words[1];
+    if (words[1] == NULL)
+        say(&asked->plan, "file: the name of a file should follow");
+    return words[1] ? 2 : -1;
+}
+
+/* Reads the words after the job: 0; or -1 and a line. */
+static int all_read(struct asked *asked, char *const *words)
+{
+    if (words_read(&asked->plan, words, own_read, asked))
+        return -1;
     if (asked->is_by_hand && asked->file == NULL) {
-        say(plan, "wait: processes that others start need `file NAME`");
+        say(&asked->plan, "wait: processes that others start need `file NAME`");
         return -1;
     }
     return 0;
 }
 
-static int run_job(const struct asked *asked, const char *job, size_t length)
+static int run_job(const void *with, const char *job, size_t length)
 {
+    const struct asked *asked = with;
     const struct plan *plan = &asked->plan;
     struct group group = { 0 };
-    struct wanted wanted = { .job = job, .length = length };
-    wanted.flags = (plan->trace ? IS_TRACED : 0) | (plan->wants_moments ? WANTS_MOMENTS : 0);
-    uint32_t status = layout_of(job, length, 0, &wanted.layout);
-    if (status == MU_REFUSED)
-        return print_refusal(plan, job, length);
-    if (status != MU_DONE || !plan_fits(plan, wanted.layout.replicas))
-        return status == MU_DONE ? STATUS_USAGE : (int)status;
+    struct wanted wanted;
+    int status = wanted_for(plan, job, length, &wanted);
+    if (status)
+        return status;
     struct segment *segment = mapped_new(plan, asked->file, &wanted);
     if (segment == NULL || (!asked->is_by_hand && start_mapped(segment, &group)) || let_go(segment, &group)) {
         say(plan, "the replicas can't be started");
@@ -86,7 +81,7 @@ static int run_by_hand(const struct plan *plan, char *const *words)
 static int run_session(struct asked *asked, char *const *words)
 {
     uint64_t replicas = 0;
-    if (number_read(&asked->plan, "serve", words[0], 1, MOST_REPLICAS, &replicas) || words_read(asked, words + 1))
+    if (number_read(&asked->plan, "serve", words[0], 1, MOST_REPLICAS, &replicas) || all_read(asked, words + 1))
         return STATUS_USAGE;
     if (asked->plan.count || asked->file) {
         say(&asked->plan, "serve: kills and stops are lines of the session, and nobody else maps its words");
@@ -98,7 +93,6 @@ static int run_session(struct asked *asked, char *const *words)
 int main(int count, char **words)
 {
     struct asked asked = { .plan = { .program = "mu_processes" } };
-    size_t length = 0;
     if (count < 2) {
         say(&asked.plan, "a job should follow; --help says what else");
         return STATUS_USAGE;
@@ -107,12 +101,5 @@ int main(int count, char **words)
         return run_by_hand(&asked.plan, words + 2);
     if (strcmp(words[1], "serve") == 0)
         return run_session(&asked, words + 2);
-    if (words_read(&asked, words + 2))
-        return STATUS_USAGE;
-    char *job = text_read(&asked.plan, words[1], &length);
-    if (job == NULL)
-        return STATUS_USAGE;
-    int status = run_job(&asked, job, length);
-    free(job);
-    return status;
+    return all_read(&asked, words + 2) ? STATUS_USAGE : job_run(&asked.plan, words[1], run_job, &asked);
 }

@@ -128,6 +128,21 @@ int plan_read(struct plan *plan, char *const *words)
     return 2;
 }
 
+int words_read(struct plan *plan, char *const *words, own_words *own, void *with)
+{
+    while (*words) {
+        int count = plan_read(plan, words);
+        if (count == 0)
+            count = own(with, words);
+        if (count == 0)
+            say(plan, "%s is no word; --help tells those that there are", *words);
+        if (count <= 0)
+            return -1;
+        words += count;
+    }
+    return 0;
+}
+
 int plan_fits(const struct plan *plan, uint32_t replicas)
 {
     for (int k = 0; k < plan->count; k++)

@@ -33,6 +33,12 @@ enum { STATUS_DONE = 0, STATUS_USAGE = 1, STATUS_REFUSED = 2, STATUS_UNFINISHED 
  * programs know; -1 and a line if there is something wrong with it. The last word is NULL. */
 int plan_read(struct plan *plan, char *const *words);
 
+/* Reads a program's own first words, as plan_read does those that all know; `with` is what it was given. */
+typedef int own_words(void *with, char *const *words);
+
+/* Reads all words, those of the plan and the program's own: 0; or -1, and a line. */
+int words_read(struct plan *plan, char *const *words, own_words *own, void *with);
+
 /* Whether the deeds are of replicas that there are; else a line says what is wrong. */
 int plan_fits(const struct plan *plan, uint32_t replicas);
 

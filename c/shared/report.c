@@ -44,7 +44,8 @@ static void print_log(FILE *out, struct segment *segment, const struct group *gr
 static void print_reply(FILE *out, const struct command *it, const struct reply *reply)
 {
     static const char *const names[] = { "lost", "done", "value ", "none", "kept " };
-    fprintf(out, "%u.%u %s%.*s\n", it->client, it->number, names[reply->is], (int)reply->length, reply->text);
+    fprintf(out, "%u.%u %s%.*s\n", it->client, it->number, names[atomic_load(&reply->is)], (int)reply->length,
+            reply->text);
 }
 
 /* Of those that told by themselves, the replica with the longest log: the least at a tie. */

@@ -11,9 +11,6 @@
 #include <sys/mman.h>
 #include <unistd.h>
 
-/* One that has finished sleeps after so many cycles in which it changed nothing: in a cycle it sees each ask. */
-enum { CYCLES_BEFORE_SLEEP = 2 };
-
 enum { MARKS = 4080, PAYLOADS = 4096 };
 
 struct run {
@@ -22,7 +19,9 @@ struct run {
     struct page *page;
     const struct memory *memory;
     struct event *event; /* the next, in a traced run */
-    struct rests rests;
+    mu_rests rests;
+    uint32_t due; /* an enum mu_due, after the last access */
+    uint32_t rung; /* how often its bell had been rung when its cycle began */
     struct last_seen seen;
     uint32_t id, steps, appended, replied;
     uint32_t broken; /* UNANSWERED, REFUSED or LATE, if it ends by that */
@@ -126,36 +125,41 @@ static int is_turned(struct run *run)
     ring_if_asked(run, &op);
     if (op.kind == MU_RAISE && op.place == HEAD)
         publish_applied(run);
-    rests_take(&run->rests, &op, found);
+    run->due = mu_rests_take(&run->rests, &op, found, run->id, rows_at(&run->segment->layout));
     return 1;
 }
 
 /* Sleeps, since there is nothing to do, until it is asked or commands come: whether it goes on then. Commands come only
- * while all sleep, so that nobody finds a word that speaks of one before it knows it (serve.h). */
-static int is_woken(struct run *run, uint32_t count)
+ * while all sleep, so that nobody finds a word that speaks of one before it knows it (serve.h). A ring since the cycle began
+ * that just ended counts: its ask may have come after that cycle had read it. */
+static int is_woken(struct run *run)
 {
     const struct memory *memory = run->memory;
     publish_applied(run);
     if (memory->await_ask && !memory->await_ask(memory->with))
         return 0;
     if (!memory->await_ask)
-        bell_await(&run->page->bell, count);
-    rests_wake(&run->rests);
+        bell_await(&run->page->bell, run->rung);
+    mu_rests_wake(&run->rests, now());
     has_appended(run);
     return atomic_load(&run->segment->over) == 0;
+}
+
+static int has_finished(struct run *run)
+{
+    uint32_t how = RUNNING, region, position;
+    return mu_replica_end(&run->replica, &how, &region, &position) == MU_DONE && how == FINISHED;
 }
 
 /* Whether it goes on after a turn. Who has finished takes no steps while nobody needs it. */
 static int is_going(struct run *run)
 {
-    if (!run->rests.ends_cycle)
+    if (run->due < MU_CYCLE_ENDED)
         return 1;
-    uint32_t how = RUNNING, region, position, count = bell_count(&run->page->bell);
-    if (atomic_load(&run->segment->over))
+    if (atomic_load(&run->segment->over) || (run->due == MU_QUIET && has_finished(run) && !is_woken(run)))
         return 0;
-    if (mu_replica_end(&run->replica, &how, &region, &position) != MU_DONE || how != FINISHED || run->rests.unchanged < CYCLES_BEFORE_SLEEP)
-        return 1;
-    return is_woken(run, count);
+    run->rung = bell_count(&run->page->bell);
+    return 1;
 }
 
 /* Sleeps until this is set. */
@@ -183,7 +187,7 @@ static int is_ready(struct run *run)
     madvise((char *)segment + segment->words_at, hosts * segment->host_bytes, MADV_POPULATE_WRITE);
     atomic_store(&run->page->state, READY);
     await(run, &segment->go);
-    rests_new(&run->rests, run->id, rows_at(layout), segment->longest_nap);
+    rests_begin(&run->rests, run->memory->await_ask ? 1 : layout->replicas, segment->longest_nap);
     return 1;
 }
 
@@ -213,7 +217,8 @@ int run_replica(struct segment *segment, uint32_t id, const struct memory *memor
     run.page->began = now();
     atomic_store(&run.page->state, GOING);
     while (is_going(&run) && is_turned(&run))
-        rest(&run.rests);
+        if (run.due != MU_NOT_DUE)
+            rest(&run.rests);
     tell_all(&run);
     mu_replica_free(&run.replica);
     return 0;

@@ -1,10 +1,13 @@
 /* told.c: trace, moments, report, and what became of processes. */
 #include "told.h"
 
+#include "job.h"
 #include "merge.h"
 #include "moments.h"
 #include "mu.h"
 #include "report.h"
+
+#include <stdlib.h>
 
 int print_refusal(const struct plan *plan, const char *job, size_t length)
 {
@@ -14,6 +17,27 @@ int print_refusal(const struct plan *plan, const char *job, size_t length)
     fwrite(text, 1, taken < sizeof text ? taken : sizeof text, stdout);
     say(plan, "./mu why, given the same input, says what is expected there");
     return (int)status;
+}
+
+int wanted_for(const struct plan *plan, const char *job, size_t length, struct wanted *wanted)
+{
+    *wanted = (struct wanted){ .job = job, .length = length };
+    wanted->flags = (plan->trace ? IS_TRACED : 0) | (plan->wants_moments ? WANTS_MOMENTS : 0);
+    uint32_t status = layout_of(job, length, 0, &wanted->layout);
+    if (status == MU_REFUSED)
+        return print_refusal(plan, job, length);
+    if (status == MU_DONE && !plan_fits(plan, wanted->layout.replicas))
+        return STATUS_USAGE;
+    return (int)status;
+}
+
+int job_run(const struct plan *plan, const char *name, job_runner *run, const void *with)
+{
+    size_t length = 0;
+    char *job = text_read(plan, name, &length);
+    int status = job ? run(with, job, length) : STATUS_USAGE;
+    free(job);
+    return status;
 }
 
 /* Writes the trace, if one is wanted: 0, or -1 and a line. */

@@ -1,5 +1,4 @@
-//! `libmu`: the calls for C. Each is a call of `mu_library` with its contract; `c/mu.h` says what
-//! they are in C, and what a caller owes.
+//! `libmu`: the calls for C, with the contracts of those that they make; `c/mu.h` tells of each.
 #![tactic(auto)]
 
 ghost use Rattle.std.specs.Prelude.{◌≡◌, ⊤, None};
@@ -13,6 +12,8 @@ ghost use Rattle.mu_library.specs.declared.replicas.Asked.{Asked as SomeAsked};
 ghost use Rattle.mu_library.specs.declared.shown.Show.{Show as SomeShow};
 ghost use Rattle.mu_model.specs.declared.config.Config.{Config};
 ghost use Rattle.mu_library.specs.Engines.{Asks, HoldsBy, IsUntold, OfHandle, OpensEngine, PlaysRound, Replies, Submits, Traces};
+
+mod rests;
 
 use mu_handle::Handle;
 use mu_library::{
@@ -351,8 +352,7 @@ pub extern "C" fn mu_replica_take_next(
     u32::from(asked.status)
 }
 
-/// Whether the replica has an end, and which; of one that was outrun also the region and the
-/// position at which it was.
+/// Whether the replica has an end, and which; of one that was outrun also region and position.
 #[unsafe(no_mangle)]
 pub extern "C" fn mu_replica_end(
     alloc: Global,

@@ -2,11 +2,8 @@
  * are cut off at any moment, commands come to each at moments of its own, stray words are offered. Each
  * list is judged, in the order of its accesses, and no two replicas may have different replies.
  *
- *     cc -std=c11 -Ic c/alone.c out/libmu.a -o alone && ./alone RUNS SEED */
-#include "mu.h"
-#include <stdio.h>
-#include <stdlib.h>
-#include <string.h>
+ *     cc -std=c11 -Ic tools/schedules.c out/libmu.a -o schedules && ./schedules RUNS SEED */
+#include "chance.h"
 
 enum { MOST = 7, LINE = 192, TEXT = 64, EVENTS = 60000, JOB = 4096, COMMANDS = 24 };
 
@@ -35,35 +32,10 @@ struct run {
     char job[JOB];
 };
 
-static uint64_t chance;
-
-/* The next random number below this one. */
-static uint32_t below(uint32_t most)
-{
-    chance ^= chance << 13;
-    chance ^= chance >> 7;
-    chance ^= chance << 17;
-    return (uint32_t)((chance >> 16) % most);
-}
-
 static void fail(const char *what)
 {
-    printf("alone: %s\n", what);
+    printf("schedules: %s\n", what);
     exit(1);
-}
-
-static uint64_t made(uint64_t *word, const mu_operation *o)
-{
-    uint64_t found = *word;
-    switch (o->kind) {
-    case MU_STORE: case MU_SWAP: *word = o->value; break;
-    case MU_RAISE: *word = found < o->value ? o->value : found; break;
-    case MU_ADD: *word = found + o->value; break;
-    case MU_SET_BITS: *word = found | o->value; break;
-    case MU_COMPARE: *word = found == o->expected ? o->value : found; break;
-    default: break;
-    }
-    return found;
 }
 
 /* One more command, as a line. */
@@ -235,7 +207,7 @@ int main(int count, char **words)
     static struct run run;
     uint64_t events = 0, told = 0, cut = 0;
     uint32_t runs = count > 1 ? (uint32_t)atoi(words[1]) : 10;
-    chance = (count > 2 ? (uint64_t)atoll(words[2]) : 1) * UINT64_C(0x9e3779b97f4a7c15) + 1;
+    chance_begin(count > 2 ? (uint64_t)atoll(words[2]) : 1);
     run.lines = malloc(EVENTS * sizeof *run.lines);
     run.lengths = malloc(EVENTS * sizeof *run.lengths);
     for (uint32_t k = 0; k < runs; k++) {

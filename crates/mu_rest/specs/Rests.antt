@@ -1,0 +1,47 @@
+-- rests: what a replica's steps and the times of its cycles have come to.
+use Rattle.std.specs.Prelude.{Bool, List, MatchBool, min, nat_lt, ℕ, ◌+◌, ◌-◌, ◌^◌, ◌||◌, ◌≡◌}
+use Rattle.mu_rest.specs.Cycles.{EndsCycle, late}
+use Rattle.mu_rest.specs.Naps.{IsRest}
+use Rattle.mu_rest.specs.Progress.{StandsForProgress}
+use Rattle.mu_rest.specs.Silences.{StandsForSilences}
+use Rattle.mu_rest.specs.declared.cycles.Cycles.{Cycles}
+use Rattle.mu_rest.specs.declared.naps.Rest.{Rest}
+use Rattle.mu_rest.specs.declared.naps.Shown.{Shown}
+use Rattle.mu_rest.specs.declared.rests.Rests.{Rests}
+use Rattle.mu_rest.specs.declared.sign.Sign.{Sign}
+
+-- they stand for the signs of the replica's steps, newest first
+pub record StandsForRests (signs : List Sign) (rests : Rests) : Type 0 where
+  pub silences : StandsForSilences signs rests.silences
+  pub progress : StandsForProgress signs rests.progress
+
+-- what the last step shows, with those before it
+abbrev pub shown_by : Rests → Shown
+shown_by rests = record {
+  silence = rests.silences.shown;
+  ended = rests.progress.ended;
+  idle = rests.progress.idle;
+  quiet = rests.progress.quiet;
+}
+
+-- whether a rest may be due: the step shows a silence, or ended a cycle
+abbrev pub may_rest : Rests → Bool
+may_rest rests = nat_lt 0 rests.silences.shown || rests.progress.ended
+
+-- the cycles are those before, but for the one that the last step ended, if it did
+abbrev pub TimesCycle : Bool → ℕ → Cycles → Cycles → Type 0
+TimesCycle ended moment old new = MatchBool ended (EndsCycle moment old new) (new ≡ old)
+
+-- what doesn't change: the longest rest, if it is fixed, and whether not each replica has a processor
+pub record HasSettings (longest : ℕ) (is_crowded : Bool) (rests : Rests) : Type 0 where
+  pub fixed : rests.fixed ≡ longest
+  pub crowded : rests.crowded ≡ is_crowded
+
+-- a rest is told, and counted in the cycle under way
+pub record Tells (moment : ℕ) (old new : Rests) (rest : Rest) : Type 0 where
+  pub silences : new.silences ≡ old.silences
+  pub progress : new.progress ≡ old.progress
+  pub settings : HasSettings old.fixed old.crowded new
+  pub times : (cycles : Cycles) × TimesCycle old.progress.ended moment old.cycles cycles
+      × IsRest old.fixed old.crowded (late cycles moment) (shown_by old) rest
+      × (new.cycles ≡ record cycles { rested = min (cycles.rested + rest.nanoseconds) (2 ^ 64 - 1) })
