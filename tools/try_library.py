@@ -137,28 +137,40 @@ def raised(mu_library, call, *given):
 
 def try_python(tried, mu_library):
     """The Python layer takes no number for another one, and waits no longer for a reply than it is told."""
-    usage = mu_library.USAGE
-    with mu_library.Engine(replicas=3, ring=8, budget=9_999, commands=3) as engine:
+    with mu_library.Engine(replicas=3, places=9, steps=9_999, commands=3) as engine:
         for name, call, given in [
-                ("submit", engine.submit, [0, b"get a"]), ("stop", engine.stop, [0]), ("pause", engine.pause, [0, 5]),
-                ("reply", engine.reply, [0]), ("show", mu_library.show, [b"", 0]), ("draw", mu_library.draw, [b"", 0, 0]),
-                ("Engine", mu_library.Engine, [3, 8, 9_999, 3])]:
+                ("submit", engine.submit, [0, b"get a"]), ("stop", engine.stop, [0]), ("pause", engine.pause, [0, 5]), ("back", engine.back, [0]),
+                ("hold", engine.hold, [0]), ("show", mu_library.show, [b"", 0]), ("draw", mu_library.draw, [b"", 0, 0]),
+                ("Engine", mu_library.Engine, [3, 9, 9_999, 3])]:
             for place in (k for k, value in enumerate(given) if isinstance(value, int)):
                 for value in (-1, TOO_LARGE, TOO_LARGE + given[place], -TOO_LARGE):
                     other = [*given[:place], value, *given[place + 1:]]
                     tried.expect(f"{name} of {other}", raised(mu_library, call, *other), ValueError)
-        for name, call, given in [("submit", engine.submit, (LARGEST, b"get a")), ("client 16", engine.submit, (16, b"get a")),
-                                  ("stop", engine.stop, (LARGEST,)), ("pause", engine.pause, (3, 5)), ("reply", engine.reply, (0,))]:
-            tried.expect(f"{name} of {given}", raised(mu_library, call, *given), usage)
+        for row in (-1, TOO_LARGE * TOO_LARGE):
+            tried.expect(f"reply of {row}", raised(mu_library, engine.reply, row), ValueError)
+        for name, call, given, status in [
+                ("submit", engine.submit, (LARGEST, b"get a"), mu_library.NO_SUCH_CLIENT), ("client 16", engine.submit, (16, b"get a"), mu_library.NO_SUCH_CLIENT),
+                ("stop", engine.stop, (LARGEST,), mu_library.NO_SUCH_REPLICA), ("pause", engine.pause, (3, 5), mu_library.NO_SUCH_REPLICA),
+                ("reply", engine.reply, (0,), mu_library.NO_SUCH_ROW), ("reply", engine.reply, (TOO_LARGE,), mu_library.NO_SUCH_ROW),
+                ("a log too short", mu_library.Engine, (3, 8, 9_999, 3), mu_library.BEYOND)]:
+            tried.expect(f"{name} of {given}", raised(mu_library, call, *given), status)
         # Nothing was taken, and nobody was stopped. A leader goes on in the regions that it was granted.
         tried.expect("a put", engine.reply_in_time(engine.submit(0, b"put a 5")), b"done")
         engine.stop(1)
         engine.stop(2)
         tried.expect("a get of a leader alone", engine.reply_in_time(engine.submit(1, b"get a")), b"value 5")
         engine.stop(0)
-        tried.expect("a get of nobody", engine.reply_in_time(engine.submit(2, b"get a"), rounds=50), None)
-    tried.expect("a call on one that was let go", raised(mu_library, engine.round), usage)
-    with mu_library.Engine(replicas=1, commands=2) as engine:
+        late = engine.submit(2, b"get a")
+        tried.expect("a get of nobody", engine.reply_in_time(late, rounds=50), None)
+        tried.expect("who is free", (engine.state().free, engine.hold(0).stopped), (0, 1))
+        for replica in range(3):
+            engine.back(replica)
+        tried.expect("a get that is answered later", engine.reply_in_time(late), b"value 5")
+        for number in range(7):
+            tried.expect("a put of later eras", engine.reply_in_time(engine.submit(0, f"swap a {number}")), b"value %d" % (number - 1 if number else 5))
+        tried.expect("an old row", raised(mu_library, engine.reply, 0), mu_library.OLD_ROW)
+    tried.expect("a call on one that was let go", raised(mu_library, engine.round), mu_library.EMPTY)
+    with mu_library.Engine(replicas=1, places=8, commands=2) as engine:
         tried.expect("a str", engine.reply_in_time(engine.submit(0, "put a 5")), b"done")
         try:
             engine.submit(0, "put a ä")

@@ -40,8 +40,8 @@ fn each_export_is_made(rt: HostRuntime) {
     let (mut number_0, mut number_1, mut number_2, mut number_3, mut number_4) = (0u32, 0u32, 0u32, 0u32, 0u32);
     let mut wide = 0u64;
     let mut operation = Operation { value: 0, expected: 0, kind: 0, host: 0, place: 0, reserved: 0 };
-    let mut state = State { commands: 0, first_row: 0, eras: 0, replicas: 0, leader: 0, free: 0, room: 0 };
-    let mut hold = Hold { stopped: 0, rounds: 0 };
+    let mut state = engines::State { commands: 0, first_row: 0, eras: 0, replicas: 0, leader: 0, free: 0, room: 0 };
+    let mut hold = engines::Hold { stopped: 0, rounds: 0 };
 CALLS}
 """
 
@@ -52,15 +52,18 @@ def copy_with_test(folder):
     shutil.copytree(CRATES, os.path.join(folder, "crates"), symlinks=True,
                     ignore=shutil.ignore_patterns("out", "must-fail", "edits", "stdin", "stdout"))
     crate = os.path.join(folder, "crates", CRATE)
-    path = os.path.join(crate, "src", "lib.rt")
-    with open(path, encoding="utf-8") as source:
-        text = source.read()
+    sources = os.path.join(crate, "src")
+    texts = {}
+    for name in os.listdir(sources):
+        with open(os.path.join(sources, name), encoding="utf-8") as source:
+            texts[name.removesuffix(".rt")] = source.read()
+    path, text = os.path.join(sources, "lib.rt"), texts["lib"]
     calls, names = "", []
-    for name, parameters in EXPORT.findall(text):
+    for module, name, parameters in ((it, *found) for it in sorted(texts) for found in EXPORT.findall(texts[it])):
         kinds = [it.split(": ")[1].strip() for it in parameters.split(",") if ":" in it]
         # Each number that a call writes is another.
         given = (GIVEN[it].format(kinds[:at].count(it)) for at, it in enumerate(kinds))
-        calls += f"    {name}({', '.join(given)});\n"
+        calls += f"    {'' if module == 'lib' else f'{module}::'}{name}({', '.join(given)});\n"
         names.append(name)
     with open(path, "w", encoding="utf-8") as source:
         source.write(text + TEST.replace("CALLS", calls))
@@ -82,8 +85,8 @@ def object_of(room, is_checked):
     if not is_checked:
         module = unproved_build.trusting(module)
     named = "|".join(names)
-    module = re.sub(rf'define internal (.*?)@"{CRATE}::({named})"\(', r"define \1@\2(", module)
-    module = re.sub(rf'@"{CRATE}::({named})"', r"@\1", module)
+    module = re.sub(rf'define internal (.*?)@"{CRATE}::(?:\w+::)?({named})"\(', r"define \1@\2(", module)
+    module = re.sub(rf'@"{CRATE}::(?:\w+::)?({named})"', r"@\1", module)
     module = re.sub(r"^define ([^\n]*?)@main\(", r"define \1@rattle_try_main(", module, flags=re.M)
     with open(text, "w", encoding="utf-8", errors="surrogateescape") as written:
         written.write(module)

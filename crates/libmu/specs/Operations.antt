@@ -4,9 +4,9 @@ use Rattle.std.specs.Prelude.{◌≡◌}
 use Rattle.mu_library.specs.declared.replicas.Asked.{Asked}
 use Rattle.mu_library.specs.declared.states.EngineState.{EngineState}
 use Rattle.mu_library.specs.declared.states.ReplicaHold.{ReplicaHold}
-use Rattle.libmu.specs.declared.Hold.{Hold}
+use Rattle.libmu.specs.declared.engines.Hold.{Hold}
 use Rattle.libmu.specs.declared.Operation.{Operation}
-use Rattle.libmu.specs.declared.State.{State}
+use Rattle.libmu.specs.declared.engines.State.{State}
 
 -- it has the numbers of what is asked for
 pub record IsOperation (asked : Asked) (operation : Operation) : Type 0 where

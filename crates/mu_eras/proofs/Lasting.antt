@@ -106,6 +106,7 @@ goes_held live new holds is = subst (λ (l : Live). GoesOn live.job live.events 
 pub keeps_none : (kept : List (Option Reply)) → kept ≡ [] → KeepsLast [] kept
 keeps_none kept none = record {
   before = 0;
+  first = refl;
   count = (let long = ap length none in omega (arith, long));
   told = λ k reply at. absurd (never k reply (sym (ap (λ l. slice_get l k) none) ∙ at));
 }
@@ -118,6 +119,7 @@ keeps_none kept none = record {
 keeps_next : (past : List Era) (e : Succession) (kept : List (Option Reply)) → HoldsEras past e → kept ≡ e.present.replies.items → KeepsLast (era_of e.present ∷ past) kept
 keeps_next past e kept held same = record {
   before = length (submitted_over past);
+  first = refl;
   count =
       (let long = ap length same in
       let places = held.present.places in

@@ -9,6 +9,7 @@ use Rattle.mu_engine.specs.Shapes.{HasLimits}
 use Rattle.mu_eras.specs.Eras.{AreWhole, Era, GoesOver, IsReplyTo, submitted_over}
 use Rattle.mu_eras.specs.Holding.{IsSettledBy}
 use Rattle.mu_eras.specs.Standing.{HoldsPresent, IsInside, era_of}
+use Rattle.mu_eras.specs.Telling.{first_told}
 use Rattle.mu_eras.specs.declared.present.Present.{Present}
 use Rattle.mu_eras.specs.declared.succession.Succession.{Succession}
 
@@ -26,6 +27,7 @@ pub record IsLasting (e : Succession) : Type 0 where
 -- each reply that is kept of the last of these eras is that to the command of its row
 pub record KeepsLast (past : List Era) (kept : List (Option Reply)) : Type 0 where
   pub before : ℕ
+  pub first : before ≡ first_told past
   pub count : before + length kept ≡ length (submitted_over past)
   pub told :
       (k : ℕ) (reply : Reply) → slice_get kept k ≡ Some (Some reply)
