@@ -46,8 +46,7 @@ extern "C" {
 /* How a call ends: the statuses of the programs, and from 9 on those of an engine or a replica. */
 enum mu_status {
     MU_DONE = 0,       /* all commands are in the longest log, the list is legal, or it is drawn */
-    MU_USAGE = 1,      /* no such task, number or steps; of a judge or a replica also: nothing is held,
-                          no such client, replica or row */
+    MU_USAGE = 1,      /* no such task, number, steps, replica or row, or no judge or replica is held */
     MU_REFUSED = 2,    /* the input isn't in the grammar */
     MU_UNFINISHED = 3, /* some command isn't in the longest log, or there is no reply yet */
     MU_NO_MEMORY = 6,
@@ -97,9 +96,7 @@ uint32_t mu_draw_answer(uint32_t first, uint32_t last, const void *input, size_t
 
 /* A judge of a list of events that comes line by line. Its memory doesn't grow with the list. A call on
  * one that isn't there changes nothing, and answers MU_USAGE. */
-typedef struct mu_judge {
-    void *at; /* the library's */
-} mu_judge;
+typedef struct mu_judge { void *at; /* the library's */ } mu_judge;
 #define MU_NO_JUDGE { NULL }
 
 /* Makes a judge of a job: its text up to the first `end`. With MU_DONE it is there, and `*taken` is 0;
@@ -121,12 +118,9 @@ uint32_t mu_judge_why(mu_judge *judge, void *out, size_t room, size_t *taken);
 /* Lets a judge go, with its memory, if there is one. It is MU_NO_JUDGE then. */
 void mu_judge_free(mu_judge *judge);
 
-/* A live engine without an end: replicas in your process, which take commands in eras one after the
- * other; docs/ENGINE.md says what it promises. Each round is a call of yours. A call on one that isn't
- * there changes nothing, and answers MU_EMPTY. */
-typedef struct mu_engine {
-    void *at; /* the library's */
-} mu_engine;
+/* A live engine without an end, of which docs/ENGINE.md tells: replicas in your process that take commands
+ * in eras. Each round is a call of yours. A call on one that isn't there changes nothing: MU_EMPTY. */
+typedef struct mu_engine { void *at; /* the library's */ } mu_engine;
 #define MU_NO_ENGINE { NULL }
 
 /* Starts an engine: 1 to 7 replicas, and for each era 8 to 1,024 places of a log, 1 to 131,071 steps of
@@ -149,12 +143,9 @@ uint32_t mu_engine_submit(mu_engine *engine, uint32_t client, const void *line, 
  * MU_NO_MEMORY if there was none for the next era: the round was played, and this era goes on. */
 uint32_t mu_engine_round(mu_engine *engine);
 
-/* Stops a replica until it is called back. MU_DONE, MU_NO_SUCH_REPLICA, or MU_STOPPED if it is stopped
- * already. Wants no memory. */
+/* Stops a replica until it is called back; or pauses it: it takes no step in the next `rounds` rounds, and
+ * an earlier pause is over, so 0 ends one. MU_DONE, MU_NO_SUCH_REPLICA, or MU_STOPPED if it is stopped. */
 uint32_t mu_engine_stop(mu_engine *engine, uint32_t replica);
-
-/* Pauses a replica: it takes no step in the next `rounds` rounds, and an earlier pause of it is over;
- * with 0 rounds it goes on at once. Answers as mu_engine_stop does. */
 uint32_t mu_engine_pause(mu_engine *engine, uint32_t replica, uint32_t rounds);
 
 /* Calls a replica back from a stop or a pause: it takes steps again, with all that it had. MU_DONE, also
@@ -181,9 +172,8 @@ uint32_t mu_engine_reply(mu_engine *engine, uint64_t row, uint32_t *reply, void 
 uint32_t mu_engine_until(mu_engine *engine, uint64_t row, uint32_t rounds, uint32_t *reply, void *out,
                          size_t room, size_t *taken);
 
-#define MU_NOBODY 255
-
 /* Where an engine stands: MU_DONE. */
+#define MU_NOBODY 255
 typedef struct mu_state {
     uint64_t commands;  /* how many were submitted: the next one's row */
     uint64_t first_row; /* the least row whose reply is kept */
@@ -195,17 +185,16 @@ typedef struct mu_state {
 } mu_state;
 uint32_t mu_engine_state(mu_engine *engine, mu_state *state);
 
-/* What holds a replica: MU_DONE or MU_NO_SUCH_REPLICA. */
+/* What holds a replica, a stop (1) or a pause for so many rounds: MU_DONE or MU_NO_SUCH_REPLICA. */
 typedef struct mu_hold {
-    uint32_t stopped; /* 1 or 0 */
-    uint32_t rounds;  /* in how many of the next rounds it takes no step, by a pause */
+    uint32_t stopped;
+    uint32_t rounds;
 } mu_hold;
 uint32_t mu_engine_hold(mu_engine *engine, uint32_t replica, mu_hold *hold);
 
-/* The commands and the events so far of the era under way, as the trace that mu_answer checks and
- * mu_draw_answer draws. MU_DONE; MU_MIXED, and `*taken` is 0, if some client's command came after one
- * of a client with a greater number, since a job's text has client by client; or MU_NO_MEMORY. The
- * engine stays as it is. The job has no script: what was stopped isn't told. */
+/* The commands and the events so far of the era under way, as a trace for mu_answer and mu_draw_answer.
+ * MU_DONE; MU_MIXED, and `*taken` is 0, if some client's command came after one of a client with a
+ * greater number, since a job's text has client by client; or MU_NO_MEMORY. Stops aren't told. */
 uint32_t mu_engine_trace(mu_engine *engine, void *out, size_t room, size_t *taken);
 
 /* Lets an engine go, with its memory, if there is one. It is MU_NO_ENGINE then. */
@@ -215,9 +204,7 @@ void mu_engine_free(mu_engine *engine);
  * wants to make, and is told the word that this found. docs/ALONE.md says what it promises, and what
  * whoever makes the accesses owes. A call on one that isn't there changes nothing, and answers
  * MU_USAGE. */
-typedef struct mu_replica {
-    void *at; /* the library's */
-} mu_replica;
+typedef struct mu_replica { void *at; /* the library's */ } mu_replica;
 #define MU_NO_REPLICA { NULL }
 
 /* What an access does to its word: one atomic, sequentially consistent step. */
@@ -236,8 +223,7 @@ typedef struct mu_operation {
     uint64_t value;
     uint64_t expected;
     uint32_t kind; /* an enum mu_access */
-    uint32_t host;
-    uint32_t place;
+    uint32_t host, place;
     uint32_t reserved; /* 0 */
 } mu_operation;
 

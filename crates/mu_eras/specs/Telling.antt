@@ -1,5 +1,5 @@
 -- first told, unapplied, has no reply: of which rows an engine without an end has no reply to tell.
-use Rattle.std.specs.Prelude.{List, None, [], length, ℕ, ◌+◌, ◌<◌, ◌≡◌, ◌≤◌, ◌∷◌, ◌⊎◌}
+use Rattle.std.specs.Prelude.{List, None, [], length, ℕ, ◌+◌, ◌<◌, ◌≡◌, ◌∷◌, ◌⊎◌}
 use Rattle.mu_eras.specs.Eras.{Era, submitted_over, told_over}
 
 -- the least row whose reply is kept, if these eras have ended: the first of the last one of them
@@ -12,11 +12,10 @@ abbrev pub IsUnapplied : List Era → Era → ℕ → Type 0
 IsUnapplied past era place =
     (r : ℕ) → r < era.job.config.replicas → told_over past era r place ≡ None
 
--- no reply of the row is told: there is no such row yet; its era is older than the one before that
--- under way; or it is under way, and no replica has applied the command
+-- no reply of the row is told: its era is older than the one before that under way; or it is a row of
+-- the era under way, or one that is still to come, and no replica has applied the command
 abbrev pub HasNoReply : List Era → Era → ℕ → Type 0
 HasNoReply past era row =
-    (length (submitted_over (era ∷ past)) ≤ row)
-    ⊎ (row < first_told past)
+    (row < first_told past)
     ⊎ ((place : ℕ) × (row ≡ length (submitted_over past) + place)
     × IsUnapplied past era place)

@@ -1,5 +1,5 @@
 //! The engine without an end.
-ghost use Rattle.std.specs.Prelude.{Err, IfErr, IfOk, IfSome, List, [], length, map, ◌<◌, ◌↔◌, ◌∷◌, ◌≡◌, ◌≤◌};
+ghost use Rattle.std.specs.Prelude.{Err, IfErr, IfOk, IfSome, List, None, [], length, map, ◌<◌, ◌↔◌, ◌∷◌, ◌≡◌, ◌≤◌};
 ghost use Rattle.kv_store.specs.Commands.{HasShortTexts};
 ghost use Rattle.mu_engine.specs.Live.{after_round, changed_at, first_live, free, held, paused, stopped, submitted};
 ghost use Rattle.mu_engine.specs.Shapes.{HasLimits};
@@ -8,7 +8,7 @@ ghost use Rattle.mu_eras.specs.Eras.{Era, IsReplyTo, submitted_over};
 ghost use Rattle.mu_eras.specs.Inside.{IsLasting-prop};
 ghost use Rattle.mu_eras.specs.Lasting.{HoldsEras, IsLasting, KeepsEras, KeepsOn, Lasts};
 ghost use Rattle.mu_eras.specs.Standing.{era_of};
-ghost use Rattle.mu_eras.specs.Telling.{first_told};
+ghost use Rattle.mu_eras.specs.Telling.{HasNoReply, first_told};
 
 use crate::succession::Succession;
 use kv_store::{NoMemory, Op, Reply};
@@ -82,7 +82,9 @@ impl Eras {
     /// The reply to the command of a row, as soon as some replica has applied it. Only commands of
     /// the era under way and of the one before it are told. Takes no memory.
     pub fn reply_to(&self, row: u64) -> Option<Reply>
-        ensures { (past : List Era) → HoldsEras past self.now.succession
+        ensures untold { (past : List Era) → HoldsEras past self.now.succession → result ≡ None
+            → HasNoReply past (era_of self.now.succession.present) row }
+        ensures told { (past : List Era) → HoldsEras past self.now.succession
             → IfSome result (IsReplyTo (era_of self.now.succession.present ∷ past) row) }
     {
         self.succession.reply_to(row)

@@ -1,5 +1,5 @@
 //! Eras one after the other: the one under way, and what is kept of those before.
-ghost use Rattle.std.specs.Prelude.{Err, IfErr, IfOk, IfSome, List, [], length, ◌+◌, ◌<◌, ◌↔◌, ◌∷◌, ◌≡◌, ◌≤◌};
+ghost use Rattle.std.specs.Prelude.{Err, IfErr, IfOk, IfSome, List, None, [], length, ◌+◌, ◌<◌, ◌↔◌, ◌∷◌, ◌≡◌, ◌≤◌};
 ghost use Rattle.kv_store.specs.Commands.{HasShortTexts};
 ghost use Rattle.mu_engine.specs.Live.{changed_at, first_live, free, held, paused, stopped, submitted};
 ghost use Rattle.mu_engine.specs.Shapes.{HasLimits};
@@ -7,7 +7,7 @@ ghost use Rattle.mu_engine.specs.declared.refusal.Refusal.TheVariants.{Full};
 ghost use Rattle.mu_eras.specs.Eras.{Era, IsReplyTo};
 ghost use Rattle.mu_eras.specs.Lasting.{HoldsEras, IsLasting, KeepsEras, KeepsOn};
 ghost use Rattle.mu_eras.specs.Standing.{era_of};
-ghost use Rattle.mu_eras.specs.Telling.{first_told};
+ghost use Rattle.mu_eras.specs.Telling.{HasNoReply, first_told};
 
 use crate::present::Present;
 use crate::submitting::told;
@@ -96,7 +96,9 @@ impl Succession {
     /// The reply to the command of a row among all commands, if there is one. Only commands of the
     /// era under way and of the one before are told.
     pub(crate) fn reply_to(&self, row: u64) -> Option<Reply>
-        ensures { (past : List Era) → HoldsEras past self.now
+        ensures untold { (past : List Era) → HoldsEras past self.now → result ≡ None
+            → HasNoReply past (era_of self.now.present) row }
+        ensures told { (past : List Era) → HoldsEras past self.now
             → IfSome result (IsReplyTo (era_of self.now.present ∷ past) row) }
     {
         if row >= self.past {
