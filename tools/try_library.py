@@ -4,7 +4,8 @@
     tools/try_library.py                 each call from C, C++ and Python, also on a stack of MU_STACK bytes;
                                          a thousand engines, each let go, in little memory; sessions of a
                                          live engine from each, with random commands, stops and pauses; the
-                                         examples of examples/own; and that a list judged event by event gets
+                                         examples of examples/own; a long session with stops and returns,
+                                         flat in memory and instructions; and that a list judged event by event gets
                                          the answer of the whole trace, over the judged traces and the stored
                                          ones
     tools/try_library.py FOLDER..        the same also over the traces of these folders of cases
@@ -16,7 +17,9 @@ It needs a C compiler, and for C++ one that takes it.
 """
 import os
 import pathlib
+import re
 import resource
+import shutil
 import subprocess
 import sys
 import tempfile
@@ -38,6 +41,10 @@ os.environ["LIBMU"] = os.path.join(FOLDER, "libmu.so")
 NO_EVENT, NO_END, AFTER_END = b"13", b"11", b"12"
 MEMORY_BYTES = 64 << 20
 SESSIONS, QUICK_SESSIONS = 20, 2
+# How many commands a long session has, and a play of many clients, and quick ones.
+LONG, PLAYED = (1_000_000, 40_000), (100_000, 1_500)
+# So many instructions are counted of a session: those of so many commands, early and late.
+EARLY, BLOCK, LATE = 1_000, 500, (20_000, 3_000)
 # How many random schedules of replicas over an array.
 SCHEDULES, QUICK_SCHEDULES = 1000, 20
 # So many engines and judges are let go, or left to Python, and the process takes no more than this many KiB more than
@@ -122,6 +129,31 @@ def try_engines(tried, library, folder, compiler):
     sessions = QUICK_SESSIONS if "--quick" in sys.argv else SESSIONS
     engines = [(language, lambda program=program: ByLines(program)) for language, program in in_both(folder, compiler, "sessions")]
     try_sessions(tried, library, [*engines, ("Python", lambda: ByTypes(library))], sessions)
+
+
+def counted(program, commands):
+    """How many instructions a session of so many commands takes."""
+    run = subprocess.run(["valgrind", "--tool=callgrind", "--callgrind-out-file=/dev/null", program, str(commands)], stdout=subprocess.DEVNULL,
+                         stderr=subprocess.PIPE, check=False)
+    return int(re.search(rb"Collected : (\d+)", run.stderr)[1])
+
+
+def try_long(tried, library, folder, compiler):
+    """A long session: each reply is a store's, the memory is flat, and so are the instructions; and plays of many clients."""
+    program, is_quick = built(compiler, folder, "long", "-std=c11", os.path.join(HEADER, "long.c")), "--quick" in sys.argv
+    run = subprocess.run([program, str(LONG[is_quick])], stdout=subprocess.PIPE, timeout=3_600, check=False)
+    print(run.stdout.decode(), end="")
+    tried.expect("c/long.c", run.returncode, 0)
+    if shutil.which("valgrind"):
+        first, last = (counted(program, from_here + BLOCK) - counted(program, from_here) for from_here in (EARLY, LATE[is_quick]))
+        print(f"{first // BLOCK} instructions a command after {EARLY}, {last // BLOCK} after {LATE[is_quick]}")
+        tried.expect("instructions of a late command: no more than a tenth more", last <= 1.1 * first, True)
+    else:
+        print("try_library: skipped: there is no valgrind, so instructions aren't counted")
+    for word in ([], ["any"]):
+        run = subprocess.run([sys.executable, os.path.join(TOP, "tools", "play_eras.py"), str(PLAYED[is_quick]), "1", *word], stdout=subprocess.PIPE,
+                             timeout=3_600, check=False)
+        tried.expect(f"play_eras.py {' '.join(word)}", run.returncode, 0)
 
 
 def raised(mu_library, call, *given):
@@ -311,6 +343,7 @@ def main():
     with tempfile.TemporaryDirectory() as folder:
         try_calls(tried, folder, compiler)
         try_engines(tried, mu_library, folder, compiler)
+        try_long(tried, mu_library, folder, compiler)
         try_python(tried, mu_library)
         try_letting_go(tried, mu_library)
         try_own(tried, folder, compiler)

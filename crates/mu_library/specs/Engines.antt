@@ -1,6 +1,6 @@
 -- of engine, opens engine, submits, holds by, replies, trace of, traces: what each call on a live
 -- engine without an end makes of it, and what it tells.
-use Rattle.std.specs.Prelude.{Bool, List, None, Some, [], ◌∷◌, false, length, map, nat_le, true, ℕ, ⊤, ◌&&◌, ◌*◌, ◌++◌, ◌+◌, ◌<◌, ◌≡◌, ◌≢◌, ◌≤◌, ◌⊎◌}
+use Rattle.std.specs.Prelude.{Bool, List, None, Some, [], ◌∷◌, false, length, map, nat_le, true, ℕ, ◌&&◌, ◌*◌, ◌++◌, ◌+◌, ◌<◌, ◌≡◌, ◌≢◌, ◌≤◌, ◌⊎◌}
 use Rattle.std.specs.List.{All, slice_get}
 use Rattle.std.specs.declared.option.Option.{Option}
 use Rattle.kv_store.specs.Commands.{Request}
@@ -15,7 +15,7 @@ use Rattle.mu_engine.specs.declared.shape.Shape.{Shape}
 use Rattle.mu_eras.specs.Eras.{Era, IsReplyTo, submitted_over}
 use Rattle.mu_eras.specs.Lasting.{HoldsEras, KeepsEras, KeepsOn, Lasts}
 use Rattle.mu_eras.specs.Standing.{era_of}
-use Rattle.mu_eras.specs.Telling.{first_told}
+use Rattle.mu_eras.specs.Telling.{HasNoReply, first_told}
 use Rattle.mu_eras.specs.declared.eras.Eras.{Eras}
 use Rattle.mu_handle.specs.declared.holding.Held.{Held}
 use Rattle.mu_input.specs.Grammar.{job}
@@ -187,9 +187,10 @@ WhyUntold row e status =
     ⊎ ((status ≡ OLD_ROW) × ((past : List Era) → HoldsEras past e.succession
     → row < first_told past))
 
--- what is told of a row is the reply of one store over all eras
+-- what is told of a row is the reply of one store over all eras; if nothing is, it has no reply
 abbrev pub TellsRow : ℕ → Option Reply → Eras → Type 0
-TellsRow row None e = ⊤
+TellsRow row None e =
+    (past : List Era) → HoldsEras past e.succession → HasNoReply past (era_now e) row
 TellsRow row (Some reply) e =
     (past : List Era) → HoldsEras past e.succession → IsReplyTo (era_now e ∷ past) row reply
 

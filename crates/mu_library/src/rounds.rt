@@ -9,7 +9,7 @@ use crate::handles::taken_out;
 use crate::replies::{Replied, put_told, untold};
 use crate::telling::why_untold;
 use kv_store::Reply;
-use mu_eras::Eras;
+use mu_eras::{Eras, eras_go_further};
 use mu_handle::{Handle, Held};
 use mu_model::NoMemory;
 use mu_outcome::Status;
@@ -101,6 +101,8 @@ fn wait_for(eras: &mut Eras, row: u64, rounds: u32) -> Result<Option<Reply>, NoM
     ensures told { IfOk result (λ told. HasWaited row rounds told eras.old eras.new) }
     ensures vain { IfErr result (λ refusal. HasWaitedInVain rounds eras.old eras.new) }
 {
+    // What goes on from a later moment goes on from an earlier one.
+    eras_go_further();
     for _ in 0..rounds {
         if let Some(reply) = eras.reply_to(row) {
             return Ok(Some(reply));

@@ -1,11 +1,12 @@
 //! What a live engine stands at: how many commands and eras it had, who leads, and what holds whom.
-ghost use Rattle.std.specs.Prelude.{List, ◌+◌, ◌≡◌, ◌≤◌};
+ghost use Rattle.std.specs.Prelude.{IsTrue, if◌then◌else◌, length, ◌+◌, ◌<◌, ◌↔◌, ◌≡◌};
+ghost use Rattle.mu_engine.specs.Live.{is_free};
 ghost use Rattle.mu_library.specs.Engines.{Asks, OfHandle, OfHeld};
-ghost use Rattle.mu_library.specs.States.{HasState, IsFirstLeader, ShowsHold, ShowsState, count_free, no_hold, no_state};
+ghost use Rattle.mu_library.specs.States.{HasState, IsFirstLeader, Leads, ShowsHold, ShowsState, count_free, no_hold, no_state};
 
 use crate::codes::{EMPTY, NO_REPLICA};
 use crate::handles::taken_out;
-use mu_engine::Engine;
+use mu_engine::{Engine, Hold};
 use mu_eras::Eras;
 use mu_handle::{Handle, Held};
 use mu_outcome::Status;
@@ -99,11 +100,19 @@ fn leader_in(engine: &Engine) -> u8
     ensures { IsFirstLeader engine.now result }
 {
     for r in 0..engine.config().replicas {
-        if !engine.hold_of(r).stopped && engine.leader_by(r) == r {
+        if leads(engine, r) {
             return r;
         }
     }
     NOBODY
+}
+
+/// Whether a replica isn't stopped and takes itself for the leader.
+fn leads(engine: &Engine, r: u8) -> bool
+    requires { r < length engine.now.holds }
+    ensures { IsTrue result ↔ Leads engine.now r }
+{
+    !engine.hold_of(r).stopped && engine.leader_by(r) == r
 }
 
 /// How many replicas nothing holds.
@@ -113,12 +122,21 @@ fn free_in(engine: &Engine) -> u8
     let replicas = engine.config().replicas;
     let mut free: u8 = 0;
     for k in 0..replicas {
-        let hold = engine.hold_of(replicas - 1 - k);
-        if !hold.stopped && hold.rounds == 0 {
-            free += 1;
-        }
+        free = counted(free, engine.hold_of(replicas - 1 - k));
     }
     free
+}
+
+/// The count with a replica that is held so.
+fn counted(free: u8, hold: Hold) -> u8
+    requires { free < 255 }
+    ensures { result ≡ (if is_free hold then free + 1 else free) }
+{
+    if !hold.stopped && hold.rounds == 0 {
+        free + 1
+    } else {
+        free
+    }
 }
 
 /// What holds a replica.
