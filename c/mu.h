@@ -229,8 +229,7 @@ typedef struct mu_operation {
 
 /* How a replica has ended. */
 enum mu_end {
-    MU_END_STOPPED = 1, /* by the script of its job */
-    MU_END_BUDGET = 2,  /* its steps are spent */
+    MU_END_STOPPED = 1, MU_END_BUDGET = 2, /* by the script of its job; its steps are spent */
     MU_END_OUTRUN = 3,  /* it looked at a position that it still had to read, and the place is used again */
     MU_END_FINISHED = 4 /* it has applied all commands, and so have the others, or it holds them failed */
 };

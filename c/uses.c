@@ -228,9 +228,8 @@ static void traces(mu_engine *engine)
 
 static void holds(mu_engine *engine)
 {
-    mu_state state;
     mu_hold hold;
-
+    mu_state state;
     expect("a stop", mu_engine_stop(engine, 0) == MU_DONE);
     expect("a stopped replica", mu_engine_stop(engine, 0) == MU_STOPPED && mu_engine_pause(engine, 0, 3) == MU_STOPPED);
     expect("no such replica", mu_engine_stop(engine, 3) == MU_NO_SUCH_REPLICA && mu_engine_pause(engine, 256, 3) == MU_NO_SUCH_REPLICA);
@@ -254,7 +253,7 @@ static void engines(void)
     memset(&engine, 0xa5, sizeof engine);
     expect("an engine", mu_engine_new(&engine, 3, 64, 20000, 5) == MU_DONE && engine.at != NULL);
     expect("a bad client", submit(&engine, 16, "get a", &row) == MU_NO_SUCH_CLIENT && row == 0);
-    expect("a client of many bits", submit(&engine, 256, "get a", &row) == MU_NO_SUCH_CLIENT);
+    expect("one of many bits", submit(&engine, 256, "get a", &row) == MU_NO_SUCH_CLIENT);
     expect("a bad line", submit(&engine, 0, "get", &row) == MU_REFUSED && submit(&engine, 0, "", &row) == MU_REFUSED);
     expect("a line feed", submit(&engine, 0, "get a\n", &row) == MU_REFUSED && row == 0);
     expect("a put", submit(&engine, 0, "put a 5", &row) == MU_DONE && row == 0);

@@ -1,7 +1,8 @@
 -- Rounds one after the other, and what is told after them.
 use Rattle.std.proofs.Common.{◌≡◌, ◌∙◌, ℕ, suc, zero, ◌+◌, List, ◌∷◌, None, Some, ap, arith, inl, map, refl, subst}
-use Rattle.std.specs.Prelude.{IfSome}
+use Rattle.std.specs.Prelude.{Err, IfErr, IfSome, Ok}
 use Rattle.std.specs.declared.option.Option.{Option}
+use Rattle.std.specs.declared.result.Result.{Result}
 use Rattle.kv_store.specs.declared.store.Reply.{Reply}
 use Rattle.mu_engine.specs.Live.{after_round}
 use Rattle.mu_engine.specs.declared.hold.Hold.{Hold}
@@ -42,5 +43,10 @@ plays_more n e m d further plays held lasts = record {
 -- what is told of a row
 pub tells_row : (row : ℕ) (told : Option Reply) (e : Eras) → ((past : List Era) → HoldsEras past e.succession → told ≡ None → HasNoReply past (era_now e) row)
     → ((past : List Era) → HoldsEras past e.succession → IfSome told (IsReplyTo (era_now e ∷ past) row)) → TellsRow row told e
-tells_row row None e untold told past held = untold past held refl
-tells_row row (Some reply) e untold told past held = told past held
+tells_row row None e untold told = λ past held. untold past held refl
+tells_row row (Some reply) e untold told = told
+
+-- what holds anyway holds if there was an error
+pub if_err : {A B : Type 0} (o : Result A B) (T : Type 0) → T → IfErr o (λ _. T)
+if_err (Ok x) T t = tt
+if_err (Err x) T t = t
