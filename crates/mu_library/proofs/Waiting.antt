@@ -1,15 +1,13 @@
 -- Rounds one after the other, and what is told after them.
-use Rattle.std.proofs.Common.{◌≡◌, ◌∙◌, ℕ, suc, zero, ◌+◌, List, ◌∷◌, None, Some, ap, arith, inl, map, refl, subst}
+use Rattle.std.proofs.Common.{◌≡◌, ◌∙◌, ℕ, suc, ◌+◌, List, ◌∷◌, None, Some, ap, arith, inl, map, refl}
 use Rattle.std.specs.Prelude.{Err, IfErr, IfSome, Ok}
 use Rattle.std.specs.declared.option.Option.{Option}
 use Rattle.std.specs.declared.result.Result.{Result}
 use Rattle.kv_store.specs.declared.store.Reply.{Reply}
 use Rattle.mu_engine.specs.Live.{after_round}
-use Rattle.mu_engine.specs.declared.hold.Hold.{Hold}
 use Rattle.mu_engine.proofs.Going.{goes_still}
 use Rattle.mu_eras.specs.Eras.{Era, ErasGoFurther, IsReplyTo}
 use Rattle.mu_eras.specs.Lasting.{HoldsEras, Lasts}
-use Rattle.mu_eras.specs.Standing.{era_of}
 use Rattle.mu_eras.specs.Telling.{HasNoReply}
 use Rattle.mu_eras.specs.declared.eras.Eras.{Eras}
 use Rattle.mu_library.specs.Engines.{TellsRow, era_now, live_of}

@@ -1,6 +1,6 @@
 -- of engine, opens engine, submits, holds by, replies, trace of, traces: what each call on a live
 -- engine without an end makes of it, and what it tells.
-use Rattle.std.specs.Prelude.{Bool, List, None, Some, [], ◌∷◌, false, length, map, nat_le, true, ℕ, ◌&&◌, ◌*◌, ◌++◌, ◌+◌, ◌<◌, ◌≡◌, ◌≢◌, ◌≤◌, ◌⊎◌}
+use Rattle.std.specs.Prelude.{Bool, List, None, Some, [], ◌∷◌, false, length, map, nat_le, true, ℕ, ◌&&◌, ◌*◌, ◌+◌, ◌<◌, ◌≡◌, ◌≢◌, ◌≤◌, ◌⊎◌}
 use Rattle.std.specs.List.{All, slice_get}
 use Rattle.std.specs.declared.option.Option.{Option}
 use Rattle.kv_store.specs.Commands.{Request}

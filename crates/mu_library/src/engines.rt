@@ -1,12 +1,9 @@
 //! A live engine without an end in the hands of a C program: how it is started, and its commands.
-ghost use Rattle.std.specs.Prelude.{IfOk, IsTrue, Some, [], ◌↔◌, ◌≡◌, ◌≤◌, ◌⊎◌};
+ghost use Rattle.std.specs.Prelude.{IfOk, IsTrue, Some, ◌↔◌, ◌≡◌, ◌≤◌, ◌⊎◌};
 ghost use Rattle.std.specs.Option.{MatchOption};
 ghost use Rattle.kv_store.specs.Commands.{HasShortTexts};
-ghost use Rattle.mu_engine.specs.Live.{first_live};
 ghost use Rattle.mu_engine.specs.Shapes.{HasLimits};
-ghost use Rattle.mu_eras.specs.Lasting.{HoldsEras};
-ghost use Rattle.mu_handle.specs.declared.holding.Held.TheVariants.{Engine as EngineHeld};
-ghost use Rattle.mu_library.specs.Engines.{HasNewEngine, IsNewEngine, IsWithinLimits, OfHandle, OfHeld, OpensEngine, Submits, SubmitsOp};
+ghost use Rattle.mu_library.specs.Engines.{HasNewEngine, IsWithinLimits, OfHandle, OfHeld, OpensEngine, Submits, SubmitsOp};
 
 use crate::codes::{BEYOND, EMPTY, FULL, NO_CLIENT};
 use crate::handles::{let_go, taken_out};

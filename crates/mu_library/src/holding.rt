@@ -1,6 +1,6 @@
 //! What keeps a replica of a live engine from its turns: a C program stops, pauses and calls back.
 ghost use Rattle.std.specs.Prelude.{⊤};
-ghost use Rattle.mu_engine.specs.Live.{free, held as held_as, paused, stopped};
+ghost use Rattle.mu_engine.specs.Live.{paused, stopped};
 ghost use Rattle.mu_library.specs.Engines.{CallsBack, HoldsBy, OfHandle, OfHeld};
 
 use crate::codes::{EMPTY, NO_REPLICA, STOPPED};

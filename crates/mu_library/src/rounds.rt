@@ -1,5 +1,5 @@
 //! Rounds of a live engine: one, and as many as a reply takes.
-ghost use Rattle.std.specs.Prelude.{IfErr, IfOk, ⊤, ◌≡◌};
+ghost use Rattle.std.specs.Prelude.{IfErr, IfOk, ⊤};
 ghost use Rattle.mu_library.specs.Engines.{IsUntold, OfHandle, OfHeld, PlaysRound};
 ghost use Rattle.mu_library.specs.Waiting.{HasWaited, HasWaitedInVain, WaitsFor};
 

@@ -1,4 +1,4 @@
-use Rattle.std.proofs.Common.{◌+◌, ◌≡◌, arith}
+use Rattle.std.proofs.Common.{◌+◌, arith}
 use Rattle.mu_library.specs.Waiting.{HasWaitedInVain}
 use Rattle.mu_library.proofs.Waiting.{if_err, plays_more, plays_none, tells_row}
 use Rattle.mu_library.proofs.rounds.wait_for.Goals as goal
