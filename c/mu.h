@@ -25,9 +25,9 @@
  *   left it. It may be moved to another place, but of two copies only one may be used from then on.
  * - One call at a time uses a judge, an engine or a replica. It may go from thread to thread, if a lock, a
  *   thread's start or join, or a sequentially consistent atomic orders the calls. Calls on others, and
- *   mu_answer and mu_draw_answer, may go on beside it. MU_USAGE from one that you made and didn't free
- *   means two calls at once: a call takes out what is held and puts it back at its end, so the second
- *   finds nothing, and the judge or engine may be lost with its memory.
+ *   mu_answer and mu_draw_answer, may go on beside it. MU_USAGE or MU_EMPTY from one that you made and didn't
+ *   free means two calls at once: a call takes out what is held and puts it back at its end, so the
+ *   second finds nothing, and the judge or engine may be lost with its memory.
  * - malloc, realloc and free are those of one allocator, and give blocks that are aligned to 16
  *   bytes, or to the largest power of two that divides their size. No call is made in a signal
  *   handler, or in the child of a process that had threads. */
@@ -46,17 +46,21 @@ extern "C" {
 /* How a call ends: the statuses of the programs, and from 9 on those of an engine or a replica. */
 enum mu_status {
     MU_DONE = 0,       /* all commands are in the longest log, the list is legal, or it is drawn */
-    MU_USAGE = 1,      /* no such task, number, steps, client, replica or row, or nothing is held */
+    MU_USAGE = 1,      /* no such task, number, steps, replica or row, or no judge or replica is held */
     MU_REFUSED = 2,    /* the input isn't in the grammar */
     MU_UNFINISHED = 3, /* some command isn't in the longest log, or there is no reply yet */
     MU_NO_MEMORY = 6,
     MU_ILLEGAL = 7,    /* the list of events isn't legal, or what clients saw is wrong */
     MU_TOO_LONG = 8,   /* a job of more than 1,048,576 bytes, or a trace of more than 67,108,864 */
-    MU_FULL = 9,       /* as many commands were submitted as may be */
+    MU_FULL = 9,       /* the era takes no more commands now; of a replica: as many as may be */
     MU_STOPPED = 10,   /* the replica is stopped */
     MU_MIXED = 11,     /* no text of a job has the commands in this order */
     MU_ENDED = 12,     /* the replica is halted */
-    MU_STRAY = 13      /* no legal list leaves this word there */
+    MU_STRAY = 13,     /* no legal list leaves this word there */
+    MU_BEYOND = 15,    /* of an engine, as what follows: a number is out of its limits */
+    MU_NO_SUCH_CLIENT = 16, MU_NO_SUCH_REPLICA = 17, MU_NO_SUCH_ROW = 18,
+    MU_OLD_ROW = 19,   /* the row's era is older than the one before that under way */
+    MU_EMPTY = 20      /* there is no engine */
 };
 
 /* What can be asked of an input. */
@@ -91,9 +95,7 @@ uint32_t mu_draw_answer(uint32_t first, uint32_t last, const void *input, size_t
 
 /* A judge of a list of events that comes line by line. Its memory doesn't grow with the list. A call on
  * one that isn't there changes nothing, and answers MU_USAGE. */
-typedef struct mu_judge {
-    void *at; /* the library's */
-} mu_judge;
+typedef struct mu_judge { void *at; /* the library's */ } mu_judge;
 #define MU_NO_JUDGE { NULL }
 
 /* Makes a judge of a job: its text up to the first `end`. With MU_DONE it is there, and `*taken` is 0;
@@ -115,40 +117,39 @@ uint32_t mu_judge_why(mu_judge *judge, void *out, size_t room, size_t *taken);
 /* Lets a judge go, with its memory, if there is one. It is MU_NO_JUDGE then. */
 void mu_judge_free(mu_judge *judge);
 
-/* A live engine: replicas in your process, which take commands while they run. docs/ENGINE.md says
- * what it promises. Nothing runs by itself: each round is a call of yours. A call on one that isn't
- * there changes nothing, and answers MU_USAGE. */
-typedef struct mu_engine {
-    void *at; /* the library's */
-} mu_engine;
+/* A live engine without an end, of which docs/ENGINE.md tells: replicas in your process that take commands
+ * in eras. Each round is a call of yours. A call on one that isn't there changes nothing: MU_EMPTY. */
+typedef struct mu_engine { void *at; /* the library's */ } mu_engine;
 #define MU_NO_ENGINE { NULL }
 
-/* Starts an engine: 1 to 7 replicas, 8 to 1,024 places of a log (take a place for each command and two
- * for each replica if you can), 1 to 131,071 steps of a replica, and 0 to 1,500 commands that it may
- * take. MU_DONE, and it is there; or MU_USAGE (a number is out of its limits) or MU_NO_MEMORY, and
- * `*engine` is MU_NO_ENGINE. What `*engine` was before isn't read: free it first. */
-uint32_t mu_engine_new(mu_engine *engine, uint32_t replicas, uint32_t ring, uint32_t budget,
+/* Starts an engine: 1 to 7 replicas, and for each era 8 to 1,024 places of a log, 1 to 131,071 steps of
+ * a replica, and at least one command, but no more than places beside two for each replica.
+ * MU_ENGINE_SHAPE is quickest. MU_DONE, and it is there; or MU_BEYOND (a number is out of its limits) or
+ * MU_NO_MEMORY, and `*engine` is MU_NO_ENGINE. What it was before isn't read: free it first. */
+uint32_t mu_engine_new(mu_engine *engine, uint32_t replicas, uint32_t places, uint32_t steps,
                        uint32_t commands);
+#define MU_ENGINE_SHAPE 128, 131071, 100
 
 /* Submits the next command of a client, 0 to 15: a line as in a job, without its line feed, such as
- * `put a 5`. With MU_DONE `*row` is the command's row, from 0 on; else it is 0 and the engine is as it
- * was: MU_USAGE if there is no such client, MU_REFUSED if the line is no command, MU_FULL if as many
- * were submitted as may be, or MU_NO_MEMORY; the first of these that is so. */
+ * `put a 5`. With MU_DONE `*row` is its row: how many commands came before it. Else it is 0 and the
+ * engine is as it was: MU_NO_SUCH_CLIENT, MU_REFUSED if the line is no command, MU_FULL if the era has
+ * no room until each of its commands has its reply (play rounds), or MU_NO_MEMORY; the first that is so. */
 uint32_t mu_engine_submit(mu_engine *engine, uint32_t client, const void *line, size_t length,
-                          uint32_t *row);
+                          uint64_t *row);
 
-/* Plays one round: in order of id each replica that is neither stopped nor paused takes one step,
- * unless its steps are spent or it was outrun. MU_DONE. Wants no memory. Who waits for a reply calls
- * this again and again; a reply that hasn't come isn't lost, but comes later if replicas go on. */
+/* Plays one round: in order of id each replica that is neither stopped nor paused takes one step. Then
+ * the next era begins, if that is due and a replica that isn't stopped has applied all. MU_DONE, or
+ * MU_NO_MEMORY if there was none for the next era: the round was played, and this era goes on. */
 uint32_t mu_engine_round(mu_engine *engine);
 
-/* Stops a replica for good. MU_DONE, MU_USAGE if there is no such replica, or MU_STOPPED if it is
- * stopped already. Wants no memory. */
+/* Stops a replica until it is called back; or pauses it: it takes no step in the next `rounds` rounds, and
+ * an earlier pause is over, so 0 ends one. MU_DONE, MU_NO_SUCH_REPLICA, or MU_STOPPED if it is stopped. */
 uint32_t mu_engine_stop(mu_engine *engine, uint32_t replica);
-
-/* Pauses a replica: it takes no step in the next `rounds` rounds, and an earlier pause of it is over;
- * with 0 rounds it goes on at once. Answers as mu_engine_stop does. */
 uint32_t mu_engine_pause(mu_engine *engine, uint32_t replica, uint32_t rounds);
+
+/* Calls a replica back from a stop or a pause: it takes steps again, with all that it had. MU_DONE, also
+ * if nothing held it, or MU_NO_SUCH_REPLICA. */
+uint32_t mu_engine_back(mu_engine *engine, uint32_t replica);
 
 /* What a store replies to a command. */
 enum mu_reply {
@@ -160,15 +161,39 @@ enum mu_reply {
 
 /* The reply to the command of a row. With MU_DONE `*reply` is which, and the text in `out` is that of
  * MU_REPLY_VALUE or MU_REPLY_KEPT, 1 to 64 bytes, or empty; it stays the same from then on. Else
- * `*reply` and `*taken` are 0: MU_UNFINISHED if there is no reply yet, MU_USAGE if there is no such
- * row. Wants no memory. */
-uint32_t mu_engine_reply(mu_engine *engine, uint32_t row, uint32_t *reply, void *out, size_t room,
+ * `*reply` and `*taken` are 0: MU_UNFINISHED if there is no reply yet, MU_NO_SUCH_ROW, or MU_OLD_ROW:
+ * replies of the era under way and of the one before it are kept. Wants no memory. */
+uint32_t mu_engine_reply(mu_engine *engine, uint64_t row, uint32_t *reply, void *out, size_t room,
                          size_t *taken);
 
-/* The commands and the events so far, as the trace that mu_answer checks and mu_draw_answer draws.
+/* The same once the reply is there: plays rounds until then, but no more than so many. MU_UNFINISHED if it
+ * didn't come in these. MU_NO_MEMORY as mu_engine_round has it: call it again. */
+uint32_t mu_engine_until(mu_engine *engine, uint64_t row, uint32_t rounds, uint32_t *reply, void *out,
+                         size_t room, size_t *taken);
+
+/* Where an engine stands: MU_DONE. */
+#define MU_NOBODY 255
+typedef struct mu_state {
+    uint64_t commands;  /* how many were submitted: the next one's row */
+    uint64_t first_row; /* the least row whose reply is kept */
+    uint64_t eras;      /* how many have ended */
+    uint32_t replicas;
+    uint32_t leader; /* the first that isn't stopped and takes itself for it, or MU_NOBODY */
+    uint32_t free;   /* how many nothing holds; if these are no majority, replies may wait */
+    uint32_t room;   /* how many more commands the era takes */
+} mu_state;
+uint32_t mu_engine_state(mu_engine *engine, mu_state *state);
+
+/* What holds a replica, a stop (1) or a pause for so many rounds: MU_DONE or MU_NO_SUCH_REPLICA. */
+typedef struct mu_hold {
+    uint32_t stopped;
+    uint32_t rounds;
+} mu_hold;
+uint32_t mu_engine_hold(mu_engine *engine, uint32_t replica, mu_hold *hold);
+
+/* The commands and the events so far of the era under way, as a trace for mu_answer and mu_draw_answer.
  * MU_DONE; MU_MIXED, and `*taken` is 0, if some client's command came after one of a client with a
- * greater number, since a job's text has client by client; or MU_NO_MEMORY. The engine stays as it
- * is. The job has no script: what was stopped isn't told. */
+ * greater number, since a job's text has client by client; or MU_NO_MEMORY. Stops aren't told. */
 uint32_t mu_engine_trace(mu_engine *engine, void *out, size_t room, size_t *taken);
 
 /* Lets an engine go, with its memory, if there is one. It is MU_NO_ENGINE then. */
@@ -178,9 +203,7 @@ void mu_engine_free(mu_engine *engine);
  * wants to make, and is told the word that this found. docs/ALONE.md says what it promises, and what
  * whoever makes the accesses owes. A call on one that isn't there changes nothing, and answers
  * MU_USAGE. */
-typedef struct mu_replica {
-    void *at; /* the library's */
-} mu_replica;
+typedef struct mu_replica { void *at; /* the library's */ } mu_replica;
 #define MU_NO_REPLICA { NULL }
 
 /* What an access does to its word: one atomic, sequentially consistent step. */
@@ -199,15 +222,13 @@ typedef struct mu_operation {
     uint64_t value;
     uint64_t expected;
     uint32_t kind; /* an enum mu_access */
-    uint32_t host;
-    uint32_t place;
+    uint32_t host, place;
     uint32_t reserved; /* 0 */
 } mu_operation;
 
 /* How a replica has ended. */
 enum mu_end {
-    MU_END_STOPPED = 1, /* by the script of its job */
-    MU_END_BUDGET = 2,  /* its steps are spent */
+    MU_END_STOPPED = 1, MU_END_BUDGET = 2, /* by the script of its job; its steps are spent */
     MU_END_OUTRUN = 3,  /* it looked at a position that it still had to read, and the place is used again */
     MU_END_FINISHED = 4 /* it has applied all commands, and so have the others, or it holds them failed */
 };

@@ -30,6 +30,12 @@ inline const char *name_of(std::uint32_t status)
     case MU_FULL: return "MU_FULL";
     case MU_STOPPED: return "MU_STOPPED";
     case MU_MIXED: return "MU_MIXED";
+    case MU_BEYOND: return "MU_BEYOND";
+    case MU_NO_SUCH_CLIENT: return "MU_NO_SUCH_CLIENT";
+    case MU_NO_SUCH_REPLICA: return "MU_NO_SUCH_REPLICA";
+    case MU_NO_SUCH_ROW: return "MU_NO_SUCH_ROW";
+    case MU_OLD_ROW: return "MU_OLD_ROW";
+    case MU_EMPTY: return "MU_EMPTY";
     default: return "a status that mu.h doesn't have";
     }
 }
@@ -70,10 +76,10 @@ struct Reply {
 
 class Engine {
 public:
-    explicit Engine(std::uint32_t replicas, std::uint32_t ring = 1024, std::uint32_t budget = 131071,
-                    std::uint32_t commands = 1500)
+    explicit Engine(std::uint32_t replicas, std::uint32_t places = 128, std::uint32_t steps = 131071,
+                    std::uint32_t commands = 100)
     {
-        accept(mu_engine_new(&held, replicas, ring, budget, commands));
+        accept(mu_engine_new(&held, replicas, places, steps, commands));
     }
     ~Engine() { mu_engine_free(&held); }
     Engine(Engine &&other) noexcept : held(std::exchange(other.held, mu_engine MU_NO_ENGINE)) {}
@@ -84,23 +90,26 @@ public:
     }
 
     /* Takes the next command of a client: its row. */
-    std::uint32_t submit(std::uint32_t client, std::string_view line)
+    std::uint64_t submit(std::uint32_t client, std::string_view line)
     {
-        std::uint32_t row = 0;
+        std::uint64_t row = 0;
         accept(mu_engine_submit(&held, client, line.data(), line.size(), &row));
         return row;
     }
     void round() { accept(mu_engine_round(&held)); }
     void stop(std::uint32_t replica) { accept(mu_engine_stop(&held, replica)); }
     void pause(std::uint32_t replica, std::uint32_t rounds) { accept(mu_engine_pause(&held, replica, rounds)); }
+    void back(std::uint32_t replica) { accept(mu_engine_back(&held, replica)); }
 
     /* The reply to a row, if it is there. */
-    std::optional<Reply> reply(std::uint32_t row)
+    std::optional<Reply> reply(std::uint64_t row) { return reply_in_time(row, 0); }
+    /* The same once it is there, after at most so many rounds. */
+    std::optional<Reply> reply_in_time(std::uint64_t row, std::uint32_t rounds = 10000)
     {
         std::uint32_t kind = 0;
         auto [status, text] = told(
             [&](char *out, std::size_t room, std::size_t *taken) {
-                return mu_engine_reply(&held, row, &kind, out, room, taken);
+                return mu_engine_until(&held, row, rounds, &kind, out, room, taken);
             },
             64);
         if (status == MU_UNFINISHED)
@@ -108,17 +117,20 @@ public:
         accept(status);
         return Reply{kind, std::move(text)};
     }
-    /* The same once it is there, after at most so many rounds. */
-    std::optional<Reply> reply_in_time(std::uint32_t row, std::uint32_t rounds = 10000)
+    /* Where it stands, and what holds a replica. */
+    mu_state state()
     {
-        std::optional<Reply> found = reply(row);
-        for (; !found && rounds > 0; rounds--) {
-            round();
-            found = reply(row);
-        }
-        return found;
+        mu_state state;
+        accept(mu_engine_state(&held, &state));
+        return state;
     }
-    /* The commands and the events so far, as a trace. */
+    mu_hold hold(std::uint32_t replica)
+    {
+        mu_hold hold;
+        accept(mu_engine_hold(&held, replica, &hold));
+        return hold;
+    }
+    /* The commands and the events so far of the era under way, as a trace. */
     std::string trace()
     {
         auto [status, text] = told([&](char *out, std::size_t room, std::size_t *taken) {

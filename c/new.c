@@ -4,7 +4,7 @@
 
 uint32_t mu_judge_renew(mu_judge *judge, const void *job, size_t length, void *out, size_t room,
                         size_t *taken);
-uint32_t mu_engine_renew(mu_engine *engine, uint32_t replicas, uint32_t ring, uint32_t budget,
+uint32_t mu_engine_renew(mu_engine *engine, uint32_t replicas, uint32_t places, uint32_t steps,
                          uint32_t commands);
 uint32_t mu_replica_renew(mu_replica *replica, const void *job, size_t length, uint32_t id,
                           uint32_t eager, uint32_t room);
@@ -16,11 +16,11 @@ uint32_t mu_judge_new(mu_judge *judge, const void *job, size_t length, void *out
     return mu_judge_renew(judge, job, length, out, room, taken);
 }
 
-uint32_t mu_engine_new(mu_engine *engine, uint32_t replicas, uint32_t ring, uint32_t budget,
+uint32_t mu_engine_new(mu_engine *engine, uint32_t replicas, uint32_t places, uint32_t steps,
                        uint32_t commands)
 {
     engine->at = NULL;
-    return mu_engine_renew(engine, replicas, ring, budget, commands);
+    return mu_engine_renew(engine, replicas, places, steps, commands);
 }
 
 uint32_t mu_replica_new(mu_replica *replica, const void *job, size_t length, uint32_t id,

@@ -19,9 +19,10 @@ static unsigned number(const char **words)
 
 static void submit(const char *words)
 {
-    uint32_t client = number(&words), row = 0;
+    uint32_t client = number(&words);
+    uint64_t row = 0;
     unsigned status = mu_engine_submit(&engine, client, words, strlen(words), &row);
-    printf("%u %u\n", status, (unsigned)row);
+    printf("%u %llu\n", status, (unsigned long long)row);
 }
 
 static unsigned play(unsigned rounds)
@@ -38,6 +39,31 @@ static void reply(uint32_t row)
     size_t taken = 0;
     unsigned status = mu_engine_reply(&engine, row, &which, room, sizeof room, &taken);
     printf("%u %u %.*s\n", status, (unsigned)which, (int)taken, room);
+}
+
+static void until(uint32_t row, uint32_t rounds)
+{
+    uint32_t which = 0;
+    size_t taken = 0;
+    unsigned status = mu_engine_until(&engine, row, rounds, &which, room, sizeof room, &taken);
+    printf("%u %u %.*s\n", status, (unsigned)which, (int)taken, room);
+}
+
+/* The status, and the numbers of the state. */
+static void state(void)
+{
+    mu_state now;
+    unsigned status = mu_engine_state(&engine, &now);
+    printf("%u %llu %llu %llu %u %u %u %u\n", status, (unsigned long long)now.commands, (unsigned long long)now.first_row,
+           (unsigned long long)now.eras, (unsigned)now.replicas, (unsigned)now.leader, (unsigned)now.free, (unsigned)now.room);
+}
+
+/* The status, and what holds a replica. */
+static void hold(uint32_t replica)
+{
+    mu_hold now;
+    unsigned status = mu_engine_hold(&engine, replica, &now);
+    printf("%u %u %u\n", status, (unsigned)now.stopped, (unsigned)now.rounds);
 }
 
 /* The status, the length, and then the bytes. */
@@ -63,6 +89,14 @@ static void answer(const char *word, const char *words)
         printf("%u\n", (unsigned)mu_engine_stop(&engine, first));
     } else if (strcmp(word, "pause") == 0) {
         printf("%u\n", (unsigned)mu_engine_pause(&engine, first, number(&words)));
+    } else if (strcmp(word, "back") == 0) {
+        printf("%u\n", (unsigned)mu_engine_back(&engine, first));
+    } else if (strcmp(word, "until") == 0) {
+        until(first, number(&words));
+    } else if (strcmp(word, "state") == 0) {
+        state();
+    } else if (strcmp(word, "hold") == 0) {
+        hold(first);
     } else if (strcmp(word, "reply") == 0) {
         reply(first);
     } else if (strcmp(word, "trace") == 0) {

@@ -161,7 +161,7 @@ static void judges(void)
     expect("still no judge", judge.at == NULL);
 }
 
-static uint32_t submit(mu_engine *engine, uint32_t client, const char *line, uint32_t *row)
+static uint32_t submit(mu_engine *engine, uint32_t client, const char *line, uint64_t *row)
 {
     return mu_engine_submit(engine, client, line, strlen(line), row);
 }
@@ -169,87 +169,121 @@ static uint32_t submit(mu_engine *engine, uint32_t client, const char *line, uin
 /* What isn't an engine, and numbers out of their limits. */
 static void no_engines(void)
 {
-    static const uint32_t beyond[][4] = { { 0, 64, 99, 1 },  { 8, 64, 99, 1 },   { 3, 7, 99, 1 },      { 3, 1025, 99, 1 },
-                                          { 3, 64, 0, 1 },   { 3, 64, 131072, 1 }, { 3, 64, 99, 1501 }, { 256, 64, 99, 1 },
-                                          { 3, 65600, 99, 1 }, { 3, 64, 99, 65536 } };
+    static const uint32_t beyond[][4] = { { 0, 64, 99, 1 },  { 8, 64, 99, 1 },     { 3, 7, 99, 1 },    { 3, 1025, 99, 1 },
+                                          { 3, 64, 0, 1 },   { 3, 64, 131072, 1 }, { 3, 64, 99, 0 },   { 256, 64, 99, 1 },
+                                          { 3, 64, 99, 59 }, { 7, 1024, 99, 1011 }, { 3, 65600, 99, 1 }, { 3, 64, 99, 65536 } };
     mu_engine engine = MU_NO_ENGINE;
+    mu_state state;
+    mu_hold hold;
     char out[64] = "-------";
-    uint32_t row = 9, reply = 9;
+    uint32_t reply = 9;
+    uint64_t row = 9;
     size_t taken = 9, k;
 
     for (k = 0; k < sizeof beyond / sizeof *beyond; k++) {
         memset(&engine, 0x5a, sizeof engine);
         expect("a number out of its limits",
-               mu_engine_new(&engine, beyond[k][0], beyond[k][1], beyond[k][2], beyond[k][3]) == MU_USAGE && engine.at == NULL);
+               mu_engine_new(&engine, beyond[k][0], beyond[k][1], beyond[k][2], beyond[k][3]) == MU_BEYOND && engine.at == NULL);
     }
-    expect("no engine to submit to", submit(&engine, 0, "get a", &row) == MU_USAGE && row == 0);
-    expect("no engine to play", mu_engine_round(&engine) == MU_USAGE);
-    expect("no engine to stop", mu_engine_stop(&engine, 0) == MU_USAGE && mu_engine_pause(&engine, 0, 1) == MU_USAGE);
-    expect("no engine that replies", mu_engine_reply(&engine, 0, &reply, out, sizeof out, &taken) == MU_USAGE);
+    expect("no engine to submit to", submit(&engine, 0, "get a", &row) == MU_EMPTY && row == 0);
+    expect("no engine to play", mu_engine_round(&engine) == MU_EMPTY);
+    expect("no engine to stop", mu_engine_stop(&engine, 0) == MU_EMPTY && mu_engine_pause(&engine, 0, 1) == MU_EMPTY);
+    expect("no engine to come back to", mu_engine_back(&engine, 0) == MU_EMPTY);
+    expect("no engine that replies", mu_engine_reply(&engine, 0, &reply, out, sizeof out, &taken) == MU_EMPTY);
     expect("nothing is told", reply == 0 && taken == 0 && memcmp(out, "-------", 8) == 0);
+    expect("no engine to wait for", mu_engine_until(&engine, 0, 9, &reply, out, sizeof out, &taken) == MU_EMPTY && taken == 0);
+    expect("no engine that stands", mu_engine_state(&engine, &state) == MU_EMPTY && state.commands == 0 && state.replicas == 0);
+    expect("no engine with replicas", mu_engine_hold(&engine, 0, &hold) == MU_EMPTY && hold.stopped == 0 && hold.rounds == 0);
     taken = 9;
-    expect("no engine with a trace", mu_engine_trace(&engine, out, sizeof out, &taken) == MU_USAGE && taken == 0);
+    expect("no engine with a trace", mu_engine_trace(&engine, out, sizeof out, &taken) == MU_EMPTY && taken == 0);
     mu_engine_free(&engine);
     expect("still none", engine.at == NULL);
 }
 
 /* The reply to a row, once it is there: its number, if its text is this. */
-static uint32_t reply_to(mu_engine *engine, uint32_t row, const char *text)
+static uint32_t reply_to(mu_engine *engine, uint64_t row, const char *text)
 {
     char out[64];
     uint32_t reply = 0;
     size_t taken = 0;
-    int k;
 
-    for (k = 0; k < 6000; k++) {
-        if (mu_engine_reply(engine, row, &reply, out, sizeof out, &taken) != MU_UNFINISHED)
-            return has(out, taken, text) ? reply : 0;
-        mu_engine_round(engine);
-    }
-    return 0;
+    if (mu_engine_until(engine, row, 6000, &reply, out, sizeof out, &taken) != MU_DONE)
+        return 0;
+    return has(out, taken, text) ? reply : 0;
+}
+
+static void traces(mu_engine *engine)
+{
+    static char trace[1 << 20], out[64];
+    uint64_t row = 9;
+    size_t taken = 0;
+
+    expect("its trace's length", mu_engine_trace(engine, NULL, 0, &taken) == MU_DONE && taken > 5);
+    expect("its trace", mu_engine_trace(engine, trace, sizeof trace, &taken) == MU_DONE && taken > 5 && memcmp(trace, "mu 2\n", 5) == 0);
+    expect("is legal", taken <= sizeof trace && mu_answer(MU_CHECK, trace, taken, out, sizeof out, &taken) == MU_DONE);
+    expect("a get of nothing", submit(engine, 0, "get b", &row) == MU_DONE && row == 3);
+    expect("none", reply_to(engine, 3, "") == MU_REPLY_NONE);
+    expect("no text of a job", mu_engine_trace(engine, trace, sizeof trace, &taken) == MU_MIXED && taken == 0);
+}
+
+static void holds(mu_engine *engine)
+{
+    mu_hold hold;
+    mu_state state;
+    expect("a stop", mu_engine_stop(engine, 0) == MU_DONE);
+    expect("a stopped replica", mu_engine_stop(engine, 0) == MU_STOPPED && mu_engine_pause(engine, 0, 3) == MU_STOPPED);
+    expect("no such replica", mu_engine_stop(engine, 3) == MU_NO_SUCH_REPLICA && mu_engine_pause(engine, 256, 3) == MU_NO_SUCH_REPLICA);
+    expect("nor to come back", mu_engine_back(engine, 3) == MU_NO_SUCH_REPLICA && mu_engine_hold(engine, 256, &hold) == MU_NO_SUCH_REPLICA);
+    expect("a pause", mu_engine_pause(engine, 1, 40) == MU_DONE);
+    expect("what holds it", mu_engine_hold(engine, 1, &hold) == MU_DONE && hold.stopped == 0 && hold.rounds == 40);
+    expect("what holds the other", mu_engine_hold(engine, 0, &hold) == MU_DONE && hold.stopped == 1);
+    expect("one is free", mu_engine_state(engine, &state) == MU_DONE && state.free == 1 && state.replicas == 3);
+    expect("two commands", state.commands == 2 && state.room == 3 && state.eras == 0 && state.first_row == 0);
 }
 
 static void engines(void)
 {
-    static char trace[1 << 20], out[64];
+    char out[64];
     mu_engine engine;
-    uint32_t row = 9, reply = 9;
+    mu_state state;
+    uint32_t reply = 9;
+    uint64_t row = 9;
     size_t taken = 9;
 
     memset(&engine, 0xa5, sizeof engine);
     expect("an engine", mu_engine_new(&engine, 3, 64, 20000, 5) == MU_DONE && engine.at != NULL);
-    expect("a bad client", submit(&engine, 16, "get a", &row) == MU_USAGE && row == 0);
-    expect("a client of many bits", submit(&engine, 256, "get a", &row) == MU_USAGE);
+    expect("a bad client", submit(&engine, 16, "get a", &row) == MU_NO_SUCH_CLIENT && row == 0);
+    expect("one of many bits", submit(&engine, 256, "get a", &row) == MU_NO_SUCH_CLIENT);
     expect("a bad line", submit(&engine, 0, "get", &row) == MU_REFUSED && submit(&engine, 0, "", &row) == MU_REFUSED);
     expect("a line feed", submit(&engine, 0, "get a\n", &row) == MU_REFUSED && row == 0);
     expect("a put", submit(&engine, 0, "put a 5", &row) == MU_DONE && row == 0);
     expect("no reply yet", mu_engine_reply(&engine, 0, &reply, out, sizeof out, &taken) == MU_UNFINISHED && reply == 0 && taken == 0);
-    expect("no such row", mu_engine_reply(&engine, 1, &reply, out, sizeof out, &taken) == MU_USAGE);
+    expect("nor in one round", mu_engine_until(&engine, 0, 1, &reply, out, sizeof out, &taken) == MU_UNFINISHED && reply == 0 && taken == 0);
+    expect("no such row", mu_engine_reply(&engine, 1, &reply, out, sizeof out, &taken) == MU_NO_SUCH_ROW);
+    expect("none of many bits", mu_engine_reply(&engine, UINT64_C(4294967296), &reply, out, sizeof out, &taken) == MU_NO_SUCH_ROW);
     expect("done", reply_to(&engine, 0, "") == MU_REPLY_DONE);
-    expect("a get", submit(&engine, 0, "get a", &row) == MU_DONE && row == 1);
-    expect("its value", reply_to(&engine, 1, "5") == MU_REPLY_VALUE);
+    expect("a get", submit(&engine, 0, "get a", &row) == MU_DONE && row == 1 && reply_to(&engine, 1, "5") == MU_REPLY_VALUE);
     expect("its length", mu_engine_reply(&engine, 1, &reply, NULL, 0, &taken) == MU_DONE && reply == MU_REPLY_VALUE && taken == 1);
-    expect("a stop", mu_engine_stop(&engine, 0) == MU_DONE);
-    expect("a stopped replica", mu_engine_stop(&engine, 0) == MU_STOPPED && mu_engine_pause(&engine, 0, 3) == MU_STOPPED);
-    expect("no such replica", mu_engine_stop(&engine, 3) == MU_USAGE && mu_engine_pause(&engine, 256, 3) == MU_USAGE);
-    expect("a pause", mu_engine_pause(&engine, 1, 40) == MU_DONE);
+    holds(&engine);
     expect("a cas", submit(&engine, 1, "cas a 6 7", &row) == MU_DONE && row == 2);
     expect("what is kept", reply_to(&engine, 2, "5") == MU_REPLY_KEPT);
-    expect("its trace's length", mu_engine_trace(&engine, NULL, 0, &taken) == MU_DONE && taken > 5);
-    expect("its trace", mu_engine_trace(&engine, trace, sizeof trace, &taken) == MU_DONE && taken > 5 && memcmp(trace, "mu 2\n", 5) == 0);
-    expect("is legal", taken <= sizeof trace && mu_answer(MU_CHECK, trace, taken, out, sizeof out, &taken) == MU_DONE);
-    expect("a get of nothing", submit(&engine, 0, "get b", &row) == MU_DONE && row == 3);
-    expect("none", reply_to(&engine, 3, "") == MU_REPLY_NONE);
-    expect("no text of a job", mu_engine_trace(&engine, trace, sizeof trace, &taken) == MU_MIXED && taken == 0);
-    expect("the last one", submit(&engine, 0, "get b", &row) == MU_DONE && row == 4);
+    traces(&engine);
+    expect("the last one of the era", submit(&engine, 0, "get b", &row) == MU_DONE && row == 4);
     expect("too many", submit(&engine, 0, "get b", &row) == MU_FULL && row == 0);
+    expect("a return", mu_engine_back(&engine, 0) == MU_DONE && mu_engine_back(&engine, 0) == MU_DONE);
+    expect("none", reply_to(&engine, 4, "") == MU_REPLY_NONE && mu_engine_round(&engine) == MU_DONE);
+    expect("the next era", mu_engine_state(&engine, &state) == MU_DONE && state.eras == 1 && state.room == 5 && state.free == 3);
+    for (row = 5; row < 12; row++)
+        expect("later eras", submit(&engine, 0, "get a", &row) == MU_DONE && reply_to(&engine, row, "5") == MU_REPLY_VALUE);
+    expect("a row of the era before", mu_engine_reply(&engine, 5, &reply, out, sizeof out, &taken) == MU_DONE && taken == 1);
+    expect("an old row", mu_engine_reply(&engine, 4, &reply, out, sizeof out, &taken) == MU_OLD_ROW && taken == 0);
     mu_engine_free(&engine);
     expect("another in its place", mu_engine_new(&engine, 1, 8, 999, 1) == MU_DONE);
-    expect("a pause of no rounds", mu_engine_pause(&engine, 0, 900) == MU_DONE && mu_engine_pause(&engine, 0, 0) == MU_DONE);
+    expect("no pause", mu_engine_pause(&engine, 0, 900) == MU_DONE && mu_engine_pause(&engine, 0, 0) == MU_DONE);
     expect("a new row", submit(&engine, 15, "get a", &row) == MU_DONE && row == 0);
     expect("nothing there", reply_to(&engine, 0, "") == MU_REPLY_NONE);
     mu_engine_free(&engine);
-    expect("no engine any more", engine.at == NULL && mu_engine_round(&engine) == MU_USAGE);
+    expect("no engine any more", engine.at == NULL && mu_engine_round(&engine) == MU_EMPTY);
 }
 
 int main(void)

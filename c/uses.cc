@@ -36,21 +36,24 @@ static void engines()
     expect("a put", engine.reply_in_time(engine.submit(0, "put a 5"))->kind == MU_REPLY_DONE);
     engine.stop(0);
     mu::Engine moved(std::move(engine));
-    expect("the one moved from", refusal([&] { engine.round(); }) == MU_USAGE);
+    expect("the one moved from", refusal([&] { engine.round(); }) == MU_EMPTY);
     const auto value = moved.reply_in_time(moved.submit(0, "get a"));
     expect("a get of another leader", value && value->kind == MU_REPLY_VALUE && value->text == "5");
     expect("a stopped replica", refusal([&] { moved.stop(0); }) == MU_STOPPED);
     expect("no line", refusal([&] { moved.submit(0, std::string_view()); }) == MU_REFUSED);
-    expect("no row", refusal([&] { moved.reply(7); }) == MU_USAGE);
+    expect("no row", refusal([&] { moved.reply(7); }) == MU_NO_SUCH_ROW);
+    expect("who is held", moved.hold(0).stopped == 1 && moved.state().free == 2 && moved.state().leader == 1);
+    moved.back(0);
+    expect("nobody", moved.hold(0).stopped == 0 && moved.state().commands == 2);
     expect("its trace", moved.trace().compare(0, 5, "mu 2\n") == 0);
     moved = mu::Engine(1, 8, 999, 1);
     expect("another in its place", moved.submit(15, "get a") == 0);
     expect("as many as may be", refusal([&] { moved.submit(0, "get a"); }) == MU_FULL);
-    expect("no engine", refusal([] { mu::Engine(8); }) == MU_USAGE);
+    expect("no engine", refusal([] { mu::Engine(8); }) == MU_BEYOND);
     try {
         mu::Engine none(0);
     } catch (const mu::Refused &refused) {
-        expect("its name", std::string(refused.what()) == "MU_USAGE");
+        expect("its name", std::string(refused.what()) == "MU_BEYOND");
     }
 }
 

@@ -1,20 +1,27 @@
-"""Sessions of a live engine with random commands, stops and pauses: by lines to a program in C or C++, or
+"""Sessions of a live engine with random commands, stops, pauses and returns: by lines to a program in C or C++, or
 through ctypes. Each trace has to be legal, and each reply that of a store of a few lines."""
 import ctypes
 import random
 import subprocess
 
 # The statuses of c/mu.h.
-DONE, USAGE, REFUSED, UNFINISHED, FULL, STOPPED, MIXED = 0, 1, 2, 3, 9, 10, 11
+DONE, REFUSED, UNFINISHED, FULL, STOPPED, MIXED = 0, 2, 3, 9, 10, 11
+BEYOND, NO_SUCH_CLIENT, NO_SUCH_REPLICA, NO_SUCH_ROW, OLD_ROW, EMPTY = 15, 16, 17, 18, 19, 20
+NOBODY = 255
 REPLIES = {b"done": 1, b"value": 2, b"none": 3, b"kept": 4}
-BUDGET, COMMANDS, MOST_PAUSE = 60_000, 24, 3_000
+STEPS, COMMANDS, MOST_PAUSE = 60_000, 40, 3_000
 # For how many rounds replies are waited for, and after how many it is mostly looked for them.
 MOST_ROUNDS, ROUNDS = 20_000, 50
-# The rings: the smallest, and one that has room for all commands and two marks of each replica.
-SMALL, LARGE = 8, 64
+# How many commands an era takes: few, so that a session has several.
+ERAS = [1, 4, 9, 60]
 # After such a pause of replica 0, right at first, a region goes astray: so many replicas, and for how many rounds.
 ASTRAY = [(3, 1_050), (5, 1_000)]
 BAD_LINES = [b"", b"get", b"put a", b"get a b", b"PUT a 5", b"put  a 5", b"cas a " + b"x" * 33 + b" y", b"get " + b"k" * 25]
+
+
+def places_for(replicas, commands):
+    """As many places of a log as an era needs, and at least the fewest."""
+    return max(8, commands + 2 * replicas)
 
 
 class ByLines:
@@ -44,9 +51,22 @@ class ByLines:
     def pause(self, replica, rounds):
         return int(self.ask("pause", replica, rounds))
 
+    def back(self, replica):
+        return int(self.ask("back", replica))
+
     def reply(self, row):
         status, which, text = self.ask("reply", row).split(b" ")
         return int(status), int(which), text
+
+    def until(self, row, rounds):
+        status, which, text = self.ask("until", row, rounds).split(b" ")
+        return int(status), int(which), text
+
+    def state(self):
+        return tuple(map(int, self.ask("state").split()))
+
+    def hold(self, replica):
+        return tuple(map(int, self.ask("hold", replica).split()))
 
     def trace(self):
         status, length = self.ask("trace").split()
@@ -70,7 +90,7 @@ class ByTypes:
         return self.library.mu_engine_new(self.held, *numbers)
 
     def submit(self, client, line):
-        row = ctypes.c_uint32()
+        row = ctypes.c_uint64()
         return self.library.mu_engine_submit(self.held, client, line, len(line), ctypes.byref(row)), row.value
 
     def rounds(self, count):
@@ -85,10 +105,27 @@ class ByTypes:
     def pause(self, replica, rounds):
         return self.library.mu_engine_pause(self.held, replica, rounds)
 
+    def back(self, replica):
+        return self.library.mu_engine_back(self.held, replica)
+
     def reply(self, row):
         which = ctypes.c_uint32()
         status, text = self.mu_library.told(self.library.mu_engine_reply, self.held, row, ctypes.byref(which), room=64)
         return status, which.value, text
+
+    def until(self, row, rounds):
+        which = ctypes.c_uint32()
+        status, text = self.mu_library.told(self.library.mu_engine_until, self.held, row, rounds, ctypes.byref(which), room=64)
+        return status, which.value, text
+
+    def state(self):
+        now = self.mu_library.State()
+        status = self.library.mu_engine_state(self.held, ctypes.byref(now))
+        return status, now.commands, now.first_row, now.eras, now.replicas, now.leader, now.free, now.room
+
+    def hold(self, replica):
+        now = self.mu_library.Hold()
+        return self.library.mu_engine_hold(self.held, replica, ctypes.byref(now)), now.stopped, now.rounds
 
     def trace(self):
         return self.mu_library.told(self.library.mu_engine_trace, self.held)
@@ -128,11 +165,12 @@ def some_command(chance):
 class Session:
     """One session: what was submitted, and what the replies have to be."""
 
-    def __init__(self, tried, engine, name, chance, replicas, ring):
+    def __init__(self, tried, engine, name, chance, replicas, era):
         self.tried, self.engine, self.name, self.chance = tried, engine, name, chance
-        self.replicas, self.ring, self.stopped, self.disturbed = replicas, ring, set(), set()
-        # The commands, their clients, and how many of the first ones have their replies.
-        self.lines, self.clients, self.replied = [], [], 0
+        self.replicas, self.era, self.stopped = replicas, era, set()
+        # The commands, their clients, the replies of a store that takes them in this order, and how many of the first
+        # ones were replied.
+        self.lines, self.clients, self.wanted, self.texts, self.replied = [], [], [], {}, 0
 
     def expect(self, what, found, wanted):
         self.tried.expect(f"{self.name}: {what}", found, wanted)
@@ -140,75 +178,89 @@ class Session:
     def refusals(self):
         """What is refused changes nothing."""
         engine, chance = self.engine, self.chance
-        self.expect("a bad client", engine.submit(chance.choice([16, 255, 256, 4_294_967_295]), b"get a"), (USAGE, 0))
+        self.expect("a bad client", engine.submit(chance.choice([16, 255, 256, 4_294_967_295]), b"get a"), (NO_SUCH_CLIENT, 0))
         self.expect("a bad line", engine.submit(0, chance.choice(BAD_LINES)), (REFUSED, 0))
-        self.expect("no such replica", engine.stop(chance.choice([self.replicas, 256])), USAGE)
-        self.expect("no such replica", engine.pause(self.replicas, 9), USAGE)
-        self.expect("no such row", engine.reply(len(self.lines)), (USAGE, 0, b""))
+        other = chance.choice([self.replicas, 256])
+        self.expect("no such replica", (engine.stop(other), engine.pause(other, 9), engine.back(other)), 3 * (NO_SUCH_REPLICA,))
+        self.expect("no such replica's hold", engine.hold(other), (NO_SUCH_REPLICA, 0, 0))
+        self.expect("no such row", engine.reply(len(self.lines)), (NO_SUCH_ROW, 0, b""))
+        self.expect("no such row to wait for", engine.until(len(self.lines) + 7, 9), (NO_SUCH_ROW, 0, b""))
         for replica in self.stopped:
             self.expect("a stopped replica", (engine.stop(replica), engine.pause(replica, 3)), (STOPPED, STOPPED))
 
-    def are_few(self, replicas):
-        return 2 * len(replicas) < self.replicas
-
-    def may_disturb(self, replica):
-        """In a small ring fewer than half of the replicas stop or pause: one that is away for long is marked as gone,
-        and then it is as good as stopped."""
-        return replica not in self.stopped and (self.ring == LARGE or self.are_few(self.disturbed | {replica}))
-
     def disturb(self):
-        """Stops a replica, as long as a majority stays, or pauses one."""
+        """Stops a replica, as long as a majority stays, or calls one back, or pauses one."""
         replica = self.chance.randrange(self.replicas)
-        if not self.may_disturb(replica):
-            return
-        self.disturbed.add(replica)
-        if self.chance.random() < 0.4 and self.are_few(self.stopped | {replica}):
+        if replica in self.stopped:
+            self.expect("a return", self.engine.back(replica), DONE)
+            self.stopped.remove(replica)
+            self.expect("what holds it", self.engine.hold(replica), (DONE, 0, 0))
+        elif self.chance.random() < 0.4 and 2 * len(self.stopped | {replica}) < self.replicas:
             self.expect("a stop", self.engine.stop(replica), DONE)
             self.stopped.add(replica)
+            self.expect("what holds it", self.engine.hold(replica)[:2], (DONE, 1))
         else:
-            self.expect("a pause", self.engine.pause(replica, self.chance.randint(0, MOST_PAUSE)), DONE)
+            rounds = self.chance.randint(0, MOST_PAUSE)
+            self.expect("a pause", self.engine.pause(replica, rounds), DONE)
+            self.expect("what holds it", self.engine.hold(replica), (DONE, 0, rounds))
 
     def submit(self, client):
+        """One command more; if the era has no room, after rounds."""
         line = some_command(self.chance)
-        self.expect("a row", self.engine.submit(client, line), (DONE, len(self.lines)))
+        status, row = self.engine.submit(client, line)
+        if status == FULL:
+            self.expect("each reply", self.answered(), True)
+            self.engine.rounds(1)
+            status, row = self.engine.submit(client, line)
+        self.expect("a row", (status, row), (DONE, len(self.lines)))
         self.lines.append(line)
         self.clients.append(client)
+        kind, text = stored(self.texts, line)
+        self.wanted.append((DONE, REPLIES[kind], text))
 
     def answered(self, rounds=ROUNDS):
-        """Whether each row has its reply, after rounds for these."""
+        """Whether each row has its reply, after rounds for these; each is the store's."""
         for _ in range(MOST_ROUNDS // rounds):
-            while self.replied < len(self.lines) and self.engine.reply(self.replied)[0] == DONE:
+            while self.replied < len(self.lines) and (found := self.engine.until(self.replied, rounds))[0] == DONE:
+                self.expect(f"the reply to {self.lines[self.replied]}", found, self.wanted[self.replied])
                 self.replied += 1
             if self.replied == len(self.lines):
                 return True
-            self.engine.rounds(rounds)
         return False
 
     def judged(self, library):
-        """The trace so far is legal, if a job's text has the commands so; each reply is a store's."""
+        """The trace of the era under way is legal, if a job's text has the commands so; each reply that is kept is a
+        store's."""
+        stands, commands, first, _, replicas, _, free, room = self.engine.state()
+        self.expect("a state", (stands, commands, replicas), (DONE, len(self.lines), self.replicas))
+        self.expect("those that stopped aren't free", free <= self.replicas - len(self.stopped), True)
         status, trace = self.engine.trace()
-        mixed = self.clients != sorted(self.clients)
+        present = self.clients[len(self.clients) - (self.era - room):]
+        mixed = present != sorted(present)
         self.expect("a trace", status, MIXED if mixed else DONE)
         if not mixed:
             self.expect("a legal one", library.answer("check", trace)[1].split()[:1], [b"legal"])
-        texts = {}
-        for row, line in enumerate(self.lines):
-            kind, text = stored(texts, line)
-            status, which, found = self.engine.reply(row)
-            if status != UNFINISHED:
-                self.expect(f"the reply to {line}", (status, which, found), (DONE, REPLIES[kind], text))
+        for row, wanted in enumerate(self.wanted):
+            found = self.engine.reply(row)
+            if row < first:
+                self.expect("an old row", found, (OLD_ROW, 0, b""))
+            elif found[0] != UNFINISHED:
+                self.expect(f"the reply to {self.lines[row]}", found, wanted)
 
     def begin(self):
-        self.expect("an engine", self.engine.new(self.replicas, self.ring, BUDGET, COMMANDS), DONE)
+        shape = (self.replicas, places_for(self.replicas, self.era), STEPS, self.era)
+        self.expect("an engine", self.engine.new(*shape), DONE)
 
     def end(self, library):
         """The last commands get their replies, the list is legal, and then there is no engine."""
-        self.expect("too many", self.engine.submit(0, b"get a"), (FULL, 0))
         self.expect("each reply", self.answered(), True)
         self.judged(library)
+        eras = self.engine.state()[3]
+        self.expect("eras", eras >= (COMMANDS - 1) // self.era - 1, True)
         self.expect("let go", self.engine.free(), DONE)
-        self.expect("no engine", (self.engine.rounds(1), self.engine.submit(0, b"get a"), self.engine.stop(0)), (USAGE, (USAGE, 0), USAGE))
-        self.expect("no engine that tells", (self.engine.reply(0), self.engine.trace()), ((USAGE, 0, b""), (USAGE, b"")))
+        self.expect("no engine", (self.engine.rounds(1), self.engine.submit(0, b"get a"), self.engine.stop(0)), (EMPTY, (EMPTY, 0), EMPTY))
+        self.expect("no engine that tells", (self.engine.reply(0), self.engine.trace()), ((EMPTY, 0, b""), (EMPTY, b"")))
+        self.expect("no engine that stands", (self.engine.state(), self.engine.hold(0)), ((EMPTY, *7 * (0,)), (EMPTY, 0, 0)))
 
     def run(self, library, clients):
         """Commands of one client come in bursts; those of several wait for each reply, so that a store
@@ -237,6 +289,29 @@ class Session:
             self.expect("a reply", self.answered(1), True)
         self.end(library)
 
+    def run_paused_and_stopped(self, library):
+        """A follower pauses for long, comes back, and only then the leader stops: each command gets its reply. And so does
+        one that comes if a majority stopped, once these are called back."""
+        self.begin()
+        self.expect("a pause", self.engine.pause(2, 5_000), DONE)
+        while len(self.lines) < COMMANDS // 2:
+            self.submit(0)
+            self.expect("a reply", self.answered(), True)
+        self.expect("rounds", self.engine.rounds(12_000), DONE)
+        self.expect("a stop", self.engine.stop(0), DONE)
+        self.submit(0)
+        self.expect("a reply of another leader", self.answered(), True)
+        self.expect("who leads", self.engine.state()[5], 1)
+        self.expect("one more stop", self.engine.stop(1), DONE)
+        self.submit(0)
+        self.expect("no reply", self.engine.until(len(self.lines) - 1, 3_000)[0], UNFINISHED)
+        self.expect("who leads", self.engine.state()[5] in (2, NOBODY), True)
+        self.expect("returns", (self.engine.back(0), self.engine.back(1), self.engine.back(1)), (DONE, DONE, DONE))
+        self.expect("a reply that came later", self.answered(), True)
+        while len(self.lines) < COMMANDS:
+            self.submit(0)
+        self.end(library)
+
 
 def try_sessions(tried, library, engines, count):
     """As many sessions in each language, and the same ones; and those after a pause."""
@@ -244,9 +319,10 @@ def try_sessions(tried, library, engines, count):
         engine = make()
         for seed in range(count):
             chance = random.Random(seed)
-            shape = chance.choice([1, 3, 3, 5]), chance.choice([SMALL, LARGE])
+            shape = chance.choice([1, 3, 3, 5]), chance.choice(ERAS)
             Session(tried, engine, f"session {seed} in {language}", chance, *shape).run(library, 1 + 2 * (seed % 2))
         for replicas, rounds in ASTRAY:
             name = f"{replicas} replicas after a pause in {language}"
-            Session(tried, engine, name, random.Random(rounds), replicas, SMALL).run_after_pause(library, rounds)
+            Session(tried, engine, name, random.Random(rounds), replicas, ERAS[-1]).run_after_pause(library, rounds)
+        Session(tried, engine, f"a pause and a stop in {language}", random.Random(7), 3, ERAS[2]).run_paused_and_stopped(library)
         tried.expect(f"the end in {language}", engine.end(), 0)

@@ -3,13 +3,24 @@
 every reply: whether some order of the commands, each between its sending and its reply, and each client's in order,
 gives them.
 
-    tools/play_eras.py PROGRAM COMMANDS [SEED] [--faults majority|any]
+    tools/play_eras.py COMMANDS [SEED] [any]     fewer than half are held at a time, or any with the word
+
+The engine is that of the library, out/libmu.so or $LIBMU, in this process through ctypes.
 """
+import os
 import random
-import subprocess
 import sys
 
+from beginning import begin
+from programs import TOP
+
+sys.path.insert(0, os.path.join(TOP, "examples", "own"))
+
 CLIENTS, KEYS = 6, 12
+# After how many rounds it is looked which commands have their replies.
+LOOKED = 5
+# How many commands one session has, and the steps and the commands of an era.
+MOST_COMMANDS, STEPS, ERAS = 8_000, (20_000, 60_000), (20, 60, 150)
 
 
 def drawn(rng, count, replicas, any_fault):
@@ -35,7 +46,7 @@ def drawn(rng, count, replicas, any_fault):
             one = rng.randrange(replicas)
             rounds = rng.choice((3, 40, 400, 4000, 30000))
             away = {r for r, until in paused.items() if until > clock} | stopped
-            if any_fault or len(away | {one}) <= most:
+            if one not in stopped and (any_fault or len(away | {one}) <= most):
                 paused[one] = clock + rounds
                 lines.append(f"pause {one} {rounds}")
         elif what < 0.5:
@@ -53,7 +64,6 @@ def drawn(rng, count, replicas, any_fault):
     for one in sorted(stopped):
         lines.append(f"back {one}")
     lines.append("rounds 60000")
-    lines.append("state")
     return lines
 
 
@@ -108,48 +118,77 @@ def judge(events, ops, replies):
     return None
 
 
-def played(program, shape, lines):
-    text = "\n".join([shape, *lines, ""])
-    told = subprocess.run([program], input=text.encode(), stdout=subprocess.PIPE, check=True)
-    return told.stdout.decode().splitlines()
+class Play:
+    """An engine that is played by lines, and what it tells: the events of each key, the commands by number, their replies,
+    and how many were refused."""
+
+    def __init__(self, mu_library, shape):
+        self.mu, self.engine = mu_library, mu_library.Engine(*shape)
+        self.keys, self.ops, self.replies, self.full, self.wrong, self.waiting = {}, {}, {}, 0, 0, []
+
+    def send(self, client, *op):
+        """A command more, if the era has room."""
+        try:
+            number = self.engine.submit(int(client), " ".join(op))
+        except self.mu.Refused as refused:
+            if refused.status != self.mu.FULL:
+                raise
+            self.full += 1
+            return
+        self.wrong += number != len(self.ops)
+        self.ops[number] = (client, op)
+        self.keys.setdefault(op[1], []).append(("sent", number))
+        self.waiting.append(number)
+
+    def rounds(self, count):
+        """Rounds, and the replies that come in these."""
+        for played in range(int(count)):
+            self.engine.round()
+            if self.waiting and played % LOOKED == 0:
+                self.look()
+        self.look()
+
+    def look(self):
+        """The commands that have their replies now."""
+        for number in self.waiting:
+            reply = self.engine.reply(number)
+            if reply is not None:
+                self.replies[number] = reply.decode()
+                self.keys[self.ops[number][1][1]].append(("told", number))
+        self.waiting = [it for it in self.waiting if it not in self.replies]
+
+    def line(self, line):
+        """What a line says."""
+        word, *rest = line.split()
+        if word in ("send", "rounds"):
+            getattr(self, word)(*rest)
+        else:
+            getattr(self.engine, word)(*map(int, rest))
 
 
-def read(lines, answers):
-    """The events of each key, the commands by number, their replies, and how often each answer came."""
-    sends = iter(line for line in lines if line.startswith("send"))
-    keys, ops, replies, count, wrong = {}, {}, {}, {}, 0
-    for answer in answers:
-        word, _, rest = answer.partition(" ")
-        count[word] = count.get(word, 0) + 1
-        if word in ("sent", "full"):
-            client, *op = next(sends).split()[1:]
-            if word == "sent":
-                number = rest
-                wrong += int(number) != len(ops)
-                ops[int(number)] = (client, tuple(op))
-                keys.setdefault(op[1], []).append(("sent", int(number)))
-        elif word == "told":
-            number, _, reply = rest.partition(" ")
-            wrong += int(number) in replies
-            replies[int(number)] = reply
-            keys[ops[int(number)][1][1]].append(("told", int(number)))
-    return keys, ops, replies, count, wrong
+def session(mu_library, rng, commands, any_fault):
+    """One session: how many commands were taken, how many have no reply or were refused as full, and what is wrong."""
+    replicas, room = rng.choice((3, 3, 5)), rng.choice(ERAS)
+    shape = (replicas, room + 2 * replicas + rng.choice((0, 60)), rng.choice(STEPS), room)
+    play = Play(mu_library, shape)
+    with play.engine:
+        for line in drawn(rng, commands, replicas, any_fault):
+            play.line(line)
+    bad = [key for key, events in play.keys.items() if judge(events, play.ops, play.replies) is not None]
+    return len(play.ops), len(play.waiting), play.full, play.wrong + len(bad)
 
 
 def main():
-    program, commands = sys.argv[1], int(sys.argv[2])
-    seed = int(sys.argv[3]) if len(sys.argv) > 3 else 1
-    any_fault = "any" in sys.argv[4:]
-    rng = random.Random(seed)
-    replicas = rng.choice((3, 3, 5))
-    room = rng.choice((20, 60, 150))
-    shape = f"shape {replicas} {room + 2 * replicas + rng.choice((0, 60))} {rng.choice((20000, 60000))} {room}"
-    lines = drawn(rng, commands, replicas, any_fault)
-    keys, ops, replies, count, wrong = read(lines, played(program, shape, lines))
-    bad = [key for key, events in keys.items() if judge(events, ops, replies) is not None]
-    print(f"seed {seed}: {shape}; taken {len(ops)}, told {len(replies)}, without reply {len(ops) - len(replies)}, "
-          f"refused as full {count.get('full', 0)}; numbers wrong {wrong}; keys whose replies have no order {len(bad)}")
-    return 1 if bad or wrong else 0
+    begin(__doc__)
+    import mu_library
+    commands = int(sys.argv[1])
+    rng = random.Random(int(sys.argv[2]) if len(sys.argv) > 2 else 1)
+    taken = waiting = full = wrong = 0
+    while taken + full < commands:
+        told = session(mu_library, rng, min(MOST_COMMANDS, commands - taken - full), "any" in sys.argv[3:])
+        taken, waiting, full, wrong = (sum(it) for it in zip((taken, waiting, full, wrong), told))
+    print(f"{taken} commands taken, {waiting} without a reply, {full} refused as full; keys without an order, and rows, that are wrong: {wrong}")
+    return 1 if wrong or waiting else 0
 
 
 if __name__ == "__main__":

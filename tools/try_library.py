@@ -4,7 +4,8 @@
     tools/try_library.py                 each call from C, C++ and Python, also on a stack of MU_STACK bytes;
                                          a thousand engines, each let go, in little memory; sessions of a
                                          live engine from each, with random commands, stops and pauses; the
-                                         examples of examples/own; and that a list judged event by event gets
+                                         examples of examples/own; a long session with stops and returns,
+                                         flat in memory and instructions; and that a list judged event by event gets
                                          the answer of the whole trace, over the judged traces and the stored
                                          ones
     tools/try_library.py FOLDER..        the same also over the traces of these folders of cases
@@ -16,7 +17,9 @@ It needs a C compiler, and for C++ one that takes it.
 """
 import os
 import pathlib
+import re
 import resource
+import shutil
 import subprocess
 import sys
 import tempfile
@@ -39,6 +42,10 @@ os.environ["LIBMU"] = os.path.join(FOLDER, "libmu.so")
 NO_EVENT, NO_END, AFTER_END = b"13", b"11", b"12"
 MEMORY_BYTES = 64 << 20
 SESSIONS, QUICK_SESSIONS = 20, 2
+# How many commands a long session has, and a play of many clients, and quick ones.
+LONG, PLAYED = (1_000_000, 40_000), (100_000, 1_500)
+# So many instructions are counted of a session: those of so many commands, early and late.
+EARLY, BLOCK, LATE = 1_000, 500, (20_000, 3_000)
 # How many random schedules of replicas over an array.
 SCHEDULES, QUICK_SCHEDULES = 1000, 20
 # So many engines and judges are let go, or left to Python, and the process takes no more than this many KiB more than
@@ -125,6 +132,31 @@ def try_engines(tried, library, folder, compiler):
     try_sessions(tried, library, [*engines, ("Python", lambda: ByTypes(library))], sessions)
 
 
+def counted(program, commands):
+    """How many instructions a session of so many commands takes."""
+    run = subprocess.run(["valgrind", "--tool=callgrind", "--callgrind-out-file=/dev/null", program, str(commands)], stdout=subprocess.DEVNULL,
+                         stderr=subprocess.PIPE, check=False)
+    return int(re.search(rb"Collected : (\d+)", run.stderr)[1])
+
+
+def try_long(tried, library, folder, compiler):
+    """A long session: each reply is a store's, the memory is flat, and so are the instructions; and plays of many clients."""
+    program, is_quick = built(compiler, folder, "long", "-std=c11", os.path.join(HEADER, "long.c")), "--quick" in sys.argv
+    run = subprocess.run([program, str(LONG[is_quick])], stdout=subprocess.PIPE, timeout=3_600, check=False)
+    print(run.stdout.decode(), end="")
+    tried.expect("c/long.c", run.returncode, 0)
+    if shutil.which("valgrind"):
+        first, last = (counted(program, from_here + BLOCK) - counted(program, from_here) for from_here in (EARLY, LATE[is_quick]))
+        print(f"{first // BLOCK} instructions a command after {EARLY}, {last // BLOCK} after {LATE[is_quick]}")
+        tried.expect("instructions of a late command: no more than a tenth more", last <= 1.1 * first, True)
+    else:
+        print("try_library: skipped: there is no valgrind, so instructions aren't counted")
+    for word in ([], ["any"]):
+        run = subprocess.run([sys.executable, os.path.join(TOP, "tools", "play_eras.py"), str(PLAYED[is_quick]), "1", *word], stdout=subprocess.PIPE,
+                             timeout=3_600, check=False)
+        tried.expect(f"play_eras.py {' '.join(word)}", run.returncode, 0)
+
+
 def raised(mu_library, call, *given):
     """What a call of the Python layer raises: a ValueError, the status of a refusal, or nothing."""
     try:
@@ -138,28 +170,40 @@ def raised(mu_library, call, *given):
 
 def try_python(tried, mu_library):
     """The Python layer takes no number for another one, and waits no longer for a reply than it is told."""
-    usage = mu_library.USAGE
-    with mu_library.Engine(replicas=3, ring=8, budget=9_999, commands=3) as engine:
+    with mu_library.Engine(replicas=3, places=9, steps=9_999, commands=3) as engine:
         for name, call, given in [
-                ("submit", engine.submit, [0, b"get a"]), ("stop", engine.stop, [0]), ("pause", engine.pause, [0, 5]),
-                ("reply", engine.reply, [0]), ("show", mu_library.show, [b"", 0]), ("draw", mu_library.draw, [b"", 0, 0]),
-                ("Engine", mu_library.Engine, [3, 8, 9_999, 3])]:
+                ("submit", engine.submit, [0, b"get a"]), ("stop", engine.stop, [0]), ("pause", engine.pause, [0, 5]), ("back", engine.back, [0]),
+                ("hold", engine.hold, [0]), ("show", mu_library.show, [b"", 0]), ("draw", mu_library.draw, [b"", 0, 0]),
+                ("Engine", mu_library.Engine, [3, 9, 9_999, 3])]:
             for place in (k for k, value in enumerate(given) if isinstance(value, int)):
                 for value in (-1, TOO_LARGE, TOO_LARGE + given[place], -TOO_LARGE):
                     other = [*given[:place], value, *given[place + 1:]]
                     tried.expect(f"{name} of {other}", raised(mu_library, call, *other), ValueError)
-        for name, call, given in [("submit", engine.submit, (LARGEST, b"get a")), ("client 16", engine.submit, (16, b"get a")),
-                                  ("stop", engine.stop, (LARGEST,)), ("pause", engine.pause, (3, 5)), ("reply", engine.reply, (0,))]:
-            tried.expect(f"{name} of {given}", raised(mu_library, call, *given), usage)
+        for row in (-1, TOO_LARGE * TOO_LARGE):
+            tried.expect(f"reply of {row}", raised(mu_library, engine.reply, row), ValueError)
+        for name, call, given, status in [
+                ("submit", engine.submit, (LARGEST, b"get a"), mu_library.NO_SUCH_CLIENT), ("client 16", engine.submit, (16, b"get a"), mu_library.NO_SUCH_CLIENT),
+                ("stop", engine.stop, (LARGEST,), mu_library.NO_SUCH_REPLICA), ("pause", engine.pause, (3, 5), mu_library.NO_SUCH_REPLICA),
+                ("reply", engine.reply, (0,), mu_library.NO_SUCH_ROW), ("reply", engine.reply, (TOO_LARGE,), mu_library.NO_SUCH_ROW),
+                ("a log too short", mu_library.Engine, (3, 8, 9_999, 3), mu_library.BEYOND)]:
+            tried.expect(f"{name} of {given}", raised(mu_library, call, *given), status)
         # Nothing was taken, and nobody was stopped. A leader goes on in the regions that it was granted.
         tried.expect("a put", engine.reply_in_time(engine.submit(0, b"put a 5")), b"done")
         engine.stop(1)
         engine.stop(2)
         tried.expect("a get of a leader alone", engine.reply_in_time(engine.submit(1, b"get a")), b"value 5")
         engine.stop(0)
-        tried.expect("a get of nobody", engine.reply_in_time(engine.submit(2, b"get a"), rounds=50), None)
-    tried.expect("a call on one that was let go", raised(mu_library, engine.round), usage)
-    with mu_library.Engine(replicas=1, commands=2) as engine:
+        late = engine.submit(2, b"get a")
+        tried.expect("a get of nobody", engine.reply_in_time(late, rounds=50), None)
+        tried.expect("who is free", (engine.state().free, engine.hold(0).stopped), (0, 1))
+        for replica in range(3):
+            engine.back(replica)
+        tried.expect("a get that is answered later", engine.reply_in_time(late), b"value 5")
+        for number in range(7):
+            tried.expect("a put of later eras", engine.reply_in_time(engine.submit(0, f"swap a {number}")), b"value %d" % (number - 1 if number else 5))
+        tried.expect("an old row", raised(mu_library, engine.reply, 0), mu_library.OLD_ROW)
+    tried.expect("a call on one that was let go", raised(mu_library, engine.round), mu_library.EMPTY)
+    with mu_library.Engine(replicas=1, places=8, commands=2) as engine:
         tried.expect("a str", engine.reply_in_time(engine.submit(0, "put a 5")), b"done")
         try:
             engine.submit(0, "put a ä")
@@ -300,6 +344,7 @@ def main():
     with tempfile.TemporaryDirectory() as folder:
         try_calls(tried, folder, compiler)
         try_engines(tried, mu_library, folder, compiler)
+        try_long(tried, mu_library, folder, compiler)
         try_python(tried, mu_library)
         try_letting_go(tried, mu_library)
         try_own(tried, folder, compiler)

@@ -28,8 +28,9 @@ FOLDER = os.path.join(TOP, "out", "unproved", "library")
 EXPORT = re.compile(r'pub extern "C" fn (\w+)\((.*?)\)', re.S)
 # What the test hands to a parameter of each type.
 GIVEN = {"Global": "alloc", "u32": "0", "&[u8]": "&[]", "&mut [u8]": "out.as_mut_slice()", "&mut usize": "&mut taken",
-         "&mut u32": "&mut number_{}", "&mut Handle": "&mut handle", "u64": "0", "&mut Operation": "&mut operation",
-         "&Operation": "&operation", "&mut Rests": "&mut resting"}
+         "&mut u32": "&mut number_{}", "&mut Handle": "&mut handle", "u64": "0", "&mut u64": "&mut wide",
+         "&mut Operation": "&mut operation", "&Operation": "&operation", "&mut State": "&mut state", "&mut Hold": "&mut hold",
+         "&mut Rests": "&mut resting"}
 TEST = """
 #[test]
 fn each_export_is_made(rt: HostRuntime) {
@@ -38,8 +39,11 @@ fn each_export_is_made(rt: HostRuntime) {
     let mut out = [0u8; 8];
     let mut taken = 0usize;
     let (mut number_0, mut number_1, mut number_2, mut number_3, mut number_4) = (0u32, 0u32, 0u32, 0u32, 0u32);
+    let mut wide = 0u64;
     let mut operation = Operation { value: 0, expected: 0, kind: 0, host: 0, place: 0, reserved: 0 };
     let mut resting = mu_rest::Rests::new(0, 0, 0, 1, 0);
+    let mut state = engines::State { commands: 0, first_row: 0, eras: 0, replicas: 0, leader: 0, free: 0, room: 0 };
+    let mut hold = engines::Hold { stopped: 0, rounds: 0 };
 CALLS}
 """
 

@@ -11,32 +11,22 @@ enum { TEXT_BYTES = 64, MOST_ROUNDS = 10000 };
 static const char *const COMMANDS[] = { "put a 5", "get a", "swap a 6", "get a", "cas a 6 7", "del a", "get a" };
 static const char *const REPLIES[] = { "", "done", "value ", "none", "kept " };
 
-/* Plays rounds until the reply to a row is there: MU_DONE, or MU_UNFINISHED if it doesn't come. */
-static uint32_t reply_in_time(mu_engine *engine, uint32_t row, uint32_t *reply, char *text, size_t *taken)
-{
-    uint32_t status = MU_UNFINISHED;
-    for (int rounds = 0; rounds < MOST_ROUNDS && status == MU_UNFINISHED; rounds++) {
-        mu_engine_round(engine);
-        status = mu_engine_reply(engine, row, reply, text, TEXT_BYTES, taken);
-    }
-    return status;
-}
-
 int main(void)
 {
     mu_engine engine;
     size_t count = sizeof COMMANDS / sizeof *COMMANDS;
-    if (mu_engine_new(&engine, 3, 1024, 131071, (uint32_t)count) != MU_DONE)
+    if (mu_engine_new(&engine, 3, MU_ENGINE_SHAPE) != MU_DONE)
         return 1;
     for (size_t k = 0; k < count; k++) {
         char text[TEXT_BYTES];
         size_t taken = 0;
-        uint32_t row, reply;
+        uint64_t row;
+        uint32_t reply;
         if (k == 3 && mu_engine_stop(&engine, 0) == MU_DONE)
             puts("replica 0 is stopped");
         if (mu_engine_submit(&engine, 0, COMMANDS[k], strlen(COMMANDS[k]), &row) != MU_DONE)
             return 1;
-        if (reply_in_time(&engine, row, &reply, text, &taken) != MU_DONE)
+        if (mu_engine_until(&engine, row, MOST_ROUNDS, &reply, text, TEXT_BYTES, &taken) != MU_DONE)
             return 1;
         printf("%u %s -> %s%.*s\n", (unsigned)row, COMMANDS[k], REPLIES[reply], (int)taken, text);
     }

@@ -6,7 +6,7 @@ COMMANDS = [b"put a 5", b"get a", b"swap a 6", b"get a", b"cas a 6 7", b"del a",
 
 
 def main():
-    with Engine(replicas=3, commands=len(COMMANDS)) as engine:
+    with Engine(replicas=3) as engine:
         for number, line in enumerate(COMMANDS):
             if number == 3:
                 engine.stop(0)

@@ -4,17 +4,21 @@ import os
 
 DONE, USAGE, REFUSED, UNFINISHED, NO_MEMORY, ILLEGAL, TOO_LONG = 0, 1, 2, 3, 6, 7, 8
 FULL, STOPPED, MIXED = 9, 10, 11
+BEYOND, NO_SUCH_CLIENT, NO_SUCH_REPLICA, NO_SUCH_ROW, OLD_ROW, EMPTY = 15, 16, 17, 18, 19, 20
 # What each status that isn't DONE says, beside its name.
-MEANT = {USAGE: ("USAGE", "no such client, replica, row or number, or it was let go"),
+MEANT = {USAGE: ("USAGE", "no such task or number, or it was let go"),
          REFUSED: ("REFUSED", "the line is no command"), UNFINISHED: ("UNFINISHED", "there is no reply yet"),
          NO_MEMORY: ("NO_MEMORY", "there was no memory"), ILLEGAL: ("ILLEGAL", "the list isn't legal"),
-         TOO_LONG: ("TOO_LONG", "the input is too long"), FULL: ("FULL", "as many commands were submitted as may be"),
-         STOPPED: ("STOPPED", "the replica is stopped"), MIXED: ("MIXED", "no text of a job has the commands in this order")}
+         TOO_LONG: ("TOO_LONG", "the input is too long"), FULL: ("FULL", "the era takes no more commands now"),
+         STOPPED: ("STOPPED", "the replica is stopped"), MIXED: ("MIXED", "no text of a job has the commands in this order"),
+         BEYOND: ("BEYOND", "a number is out of its limits"), NO_SUCH_CLIENT: ("NO_SUCH_CLIENT", "there is no such client"),
+         NO_SUCH_REPLICA: ("NO_SUCH_REPLICA", "there is no such replica"), NO_SUCH_ROW: ("NO_SUCH_ROW", "there is no such row yet"),
+         OLD_ROW: ("OLD_ROW", "its reply isn't kept any more"), EMPTY: ("EMPTY", "there is no engine: it was let go")}
 REPLIES = {1: "done", 2: "value", 3: "none", 4: "kept"}
 TASKS = {"replay": 1, "trace": 2, "check": 3, "why": 4, "book": 5, "bulk": 6, "tell": 7, "attest": 8}
-LAST_STEP, LAST_NUMBER = 9_999_999, 4_294_967_295
+LAST_STEP, LAST_NUMBER, LAST_ROW, NOBODY = 9_999_999, 4_294_967_295, 18_446_744_073_709_551_615, 255
 TOP = os.path.dirname(os.path.dirname(os.path.dirname(os.path.abspath(__file__))))
-SIZE, TEXT, NUMBER = ctypes.c_size_t, ctypes.c_char_p, ctypes.c_uint32
+SIZE, TEXT, NUMBER, WIDE = ctypes.c_size_t, ctypes.c_char_p, ctypes.c_uint32, ctypes.c_uint64
 
 PATH = os.environ.get("LIBMU", os.path.join(TOP, "out", "libmu.so"))
 try:
@@ -28,8 +32,19 @@ class Held(ctypes.Structure):
     _fields_ = [("at", ctypes.c_void_p)]
 
 
+class State(ctypes.Structure):
+    """Where an engine stands."""
+    _fields_ = [("commands", WIDE), ("first_row", WIDE), ("eras", WIDE), ("replicas", NUMBER), ("leader", NUMBER), ("free", NUMBER),
+                ("room", NUMBER)]
+
+
+class Hold(ctypes.Structure):
+    """What holds a replica."""
+    _fields_ = [("stopped", NUMBER), ("rounds", NUMBER)]
+
+
 ROOM = [ctypes.POINTER(ctypes.c_char), SIZE, ctypes.POINTER(SIZE)]
-HELD, OUT_NUMBER = ctypes.POINTER(Held), ctypes.POINTER(NUMBER)
+HELD, OUT_NUMBER, OUT_WIDE = ctypes.POINTER(Held), ctypes.POINTER(NUMBER), ctypes.POINTER(WIDE)
 for name, given in {
         "mu_answer": [NUMBER, TEXT, SIZE, *ROOM],
         "mu_show_answer": [NUMBER, TEXT, SIZE, *ROOM],
@@ -39,11 +54,15 @@ for name, given in {
         "mu_judge_why": [HELD, *ROOM],
         "mu_judge_free": [HELD],
         "mu_engine_new": [HELD, NUMBER, NUMBER, NUMBER, NUMBER],
-        "mu_engine_submit": [HELD, NUMBER, TEXT, SIZE, OUT_NUMBER],
+        "mu_engine_submit": [HELD, NUMBER, TEXT, SIZE, OUT_WIDE],
         "mu_engine_round": [HELD],
         "mu_engine_stop": [HELD, NUMBER],
         "mu_engine_pause": [HELD, NUMBER, NUMBER],
-        "mu_engine_reply": [HELD, NUMBER, OUT_NUMBER, *ROOM],
+        "mu_engine_back": [HELD, NUMBER],
+        "mu_engine_state": [HELD, ctypes.POINTER(State)],
+        "mu_engine_hold": [HELD, NUMBER, ctypes.POINTER(Hold)],
+        "mu_engine_reply": [HELD, WIDE, OUT_NUMBER, *ROOM],
+        "mu_engine_until": [HELD, WIDE, NUMBER, OUT_NUMBER, *ROOM],
         "mu_engine_trace": [HELD, *ROOM],
         "mu_engine_free": [HELD]}.items():
     getattr(library, name).argtypes, getattr(library, name).restype = given, NUMBER
@@ -54,6 +73,13 @@ def number(value):
     """The number, if it has no more than 32 bits: ctypes would cut it off."""
     if not 0 <= value <= LAST_NUMBER:
         raise ValueError(f"{value} isn't a number from 0 to {LAST_NUMBER}")
+    return value
+
+
+def wide(value):
+    """The same of a number of 64 bits, as a row is."""
+    if not 0 <= value <= LAST_ROW:
+        raise ValueError(f"{value} isn't a number from 0 to {LAST_ROW}")
     return value
 
 
@@ -153,17 +179,17 @@ def accepted(status):
 
 
 class Engine(Owner):
-    """A live engine, whose rounds you play."""
+    """A live engine without an end, whose rounds you play."""
 
     let_go = staticmethod(library.mu_engine_free)
 
-    def __init__(self, replicas, ring=1_024, budget=131_071, commands=1_500):
+    def __init__(self, replicas, places=128, steps=131_071, commands=100):
         super().__init__()
-        accepted(library.mu_engine_new(self.held, *map(number, (replicas, ring, budget, commands))))
+        accepted(library.mu_engine_new(self.held, *map(number, (replicas, places, steps, commands))))
 
     def submit(self, client, line):
         """Takes the next command of a client, and gives its row."""
-        row, line = NUMBER(), in_bytes(line)
+        row, line = WIDE(), in_bytes(line)
         accepted(library.mu_engine_submit(self.held, number(client), line, len(line), ctypes.byref(row)))
         return row.value
 
@@ -172,31 +198,44 @@ class Engine(Owner):
         accepted(library.mu_engine_round(self.held))
 
     def stop(self, replica):
-        """Stops a replica for good."""
+        """Stops a replica until it is called back."""
         accepted(library.mu_engine_stop(self.held, number(replica)))
 
     def pause(self, replica, rounds):
-        """Pauses a replica for so many rounds."""
+        """Pauses a replica for so many rounds; 0 ends a pause."""
         accepted(library.mu_engine_pause(self.held, number(replica), number(rounds)))
+
+    def back(self, replica):
+        """Calls a replica back from a stop or a pause."""
+        accepted(library.mu_engine_back(self.held, number(replica)))
 
     def reply(self, row):
         """The reply to the command of a row, as in a report, or None as long as there is none."""
+        return self.reply_in_time(row, 0)
+
+    def reply_in_time(self, row, rounds=10_000):
+        """The reply to the command of a row once it is there, or None after so many rounds."""
         reply = NUMBER()
-        status, text = told(library.mu_engine_reply, self.held, number(row), ctypes.byref(reply), room=64)
+        status, text = told(library.mu_engine_until, self.held, wide(row), number(rounds), ctypes.byref(reply), room=64)
         if status == UNFINISHED:
             return None
         accepted(status)
         return b" ".join([REPLIES[reply.value].encode(), *([text] if text else [])])
 
-    def reply_in_time(self, row, rounds=10_000):
-        """The reply to the command of a row once it is there, or None after so many rounds."""
-        while (reply := self.reply(row)) is None and rounds > 0:
-            self.round()
-            rounds -= 1
-        return reply
+    def state(self):
+        """Where it stands: how many commands and eras it had, who leads, how many replicas are free."""
+        state = State()
+        accepted(library.mu_engine_state(self.held, ctypes.byref(state)))
+        return state
+
+    def hold(self, replica):
+        """What holds a replica: whether it is stopped, and for how many rounds it is paused."""
+        hold = Hold()
+        accepted(library.mu_engine_hold(self.held, number(replica), ctypes.byref(hold)))
+        return hold
 
     def trace(self):
-        """The commands and the events so far, as a trace."""
+        """The commands and the events so far of the era under way, as a trace."""
         status, text = told(library.mu_engine_trace, self.held)
         accepted(status)
         return text

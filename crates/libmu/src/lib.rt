@@ -1,9 +1,9 @@
 //! `libmu`: the calls for C, with the contracts of those that they make; `c/mu.h` tells of each.
+//! Those on a live engine stand in `engines`.
 #![tactic(auto)]
 
 ghost use Rattle.std.specs.Prelude.{◌≡◌, ⊤, None};
 ghost use Rattle.mu_drawing.specs.Words.{asked_steps};
-ghost use Rattle.mu_engine.specs.Live.{paused, stopped};
 ghost use Rattle.mu_library.specs.Calls.{asked_after, asked_at, Answers, CanTake, Draws, OpensJudge, SaysOfJudge, TakesLine};
 ghost use Rattle.libmu.specs.Operations.{IsOperation};
 ghost use Rattle.lone_words.specs.Memory.{Own};
@@ -11,16 +11,17 @@ ghost use Rattle.mu_library.specs.Replicas.{Appends, AsksNext, AsksReplica, Five
 ghost use Rattle.mu_library.specs.declared.replicas.Asked.{Asked as SomeAsked};
 ghost use Rattle.mu_library.specs.declared.shown.Show.{Show as SomeShow};
 ghost use Rattle.mu_model.specs.declared.config.Config.{Config};
-ghost use Rattle.mu_library.specs.Engines.{Asks, HoldsBy, IsUntold, OfHandle, OpensEngine, PlaysRound, Replies, Submits, Traces};
+ghost use Rattle.mu_library.specs.Engines.{IsUntold};
+
+mod engines;
 
 mod rests;
 
 use mu_handle::Handle;
 use mu_library::{
     Asked, Show, answer, append_line, draw, judge_answer, last_event, let_go, next_access,
-    open_engine, open_judge, open_replica, own_reply, pause_replica, play_round, row_reply, show,
-    show_numbers, stop_replica, submit_line, take_line, take_word, take_word_and_next,
-    trace_so_far,
+    open_judge, open_replica, own_reply, show, show_numbers, take_line, take_word,
+    take_word_and_next,
 };
 use std::alloc::Global;
 
@@ -124,115 +125,6 @@ pub extern "C" fn mu_judge_free(alloc: Global, judge: &mut Handle)
     ensures { judge.new.held ≡ None }
 {
     let_go(alloc, judge);
-}
-
-/// Starts a live engine, in place of what the handle has; or there is none, if a number is out of its
-/// limits, or for want of memory. `mu_engine_new` of `c/new.c` is this for a handle that has nothing.
-#[unsafe(no_mangle)]
-pub extern "C" fn mu_engine_renew(
-    alloc: Global,
-    engine: &mut Handle,
-    replicas: u32,
-    ring: u32,
-    budget: u32,
-    commands: u32,
-) -> u32
-    ensures { OpensEngine
-        (record { replicas = replicas; ring = ring; budget = budget; room = commands })
-        engine.old.held engine.new.held result }
-{
-    u32::from(open_engine(alloc, engine, replicas, ring, budget, commands))
-}
-
-/// Takes the next command of a client, which the line spells.
-#[unsafe(no_mangle)]
-pub extern "C" fn mu_engine_submit(
-    alloc: Global,
-    engine: &mut Handle,
-    client: u32,
-    line: &[u8],
-    row: &mut u32,
-) -> u32
-    ensures { OfHandle (row.new ≡ 0) (Submits client line.now row.new)
-        engine.old.held engine.new.held result }
-{
-    let submitted = submit_line(alloc, engine, client, line);
-    *row = u32::from(submitted.row);
-    u32::from(submitted.status)
-}
-
-/// Plays one round: each replica that nothing holds takes one turn.
-#[unsafe(no_mangle)]
-pub extern "C" fn mu_engine_round(alloc: Global, engine: &mut Handle) -> u32
-    ensures { OfHandle ⊤ PlaysRound engine.old.held engine.new.held result }
-{
-    u32::from(play_round(alloc, engine))
-}
-
-/// Stops a replica for good.
-#[unsafe(no_mangle)]
-pub extern "C" fn mu_engine_stop(alloc: Global, engine: &mut Handle, replica: u32) -> u32
-    ensures { OfHandle ⊤ (HoldsBy stopped replica) engine.old.held engine.new.held result }
-{
-    u32::from(stop_replica(alloc, engine, replica))
-}
-
-/// Pauses a replica for the next rounds.
-#[unsafe(no_mangle)]
-pub extern "C" fn mu_engine_pause(
-    alloc: Global,
-    engine: &mut Handle,
-    replica: u32,
-    rounds: u32,
-) -> u32
-    ensures { OfHandle ⊤ (HoldsBy (paused rounds) replica) engine.old.held engine.new.held
-        result }
-{
-    u32::from(pause_replica(alloc, engine, replica, rounds))
-}
-
-/// The reply to the command of a row, if it is there: its number, and its text.
-#[unsafe(no_mangle)]
-pub extern "C" fn mu_engine_reply(
-    alloc: Global,
-    engine: &mut Handle,
-    row: u32,
-    reply: &mut u32,
-    out: &mut [u8],
-    taken: &mut usize,
-) -> u32
-    ensures { OfHandle (IsUntold reply.new out.old out.new taken.new)
-        (Asks (Replies row reply.new out.old out.new taken.new))
-        engine.old.held engine.new.held result }
-{
-    let replied = row_reply(alloc, engine, row, out);
-    *reply = u32::from(replied.reply);
-    *taken = replied.taken;
-    u32::from(replied.status)
-}
-
-/// The job and the events so far, as a trace.
-#[unsafe(no_mangle)]
-pub extern "C" fn mu_engine_trace(
-    alloc: Global,
-    engine: &mut Handle,
-    out: &mut [u8],
-    taken: &mut usize,
-) -> u32
-    ensures { OfHandle ((taken.new ≡ 0) × (out.new ≡ out.old))
-        (Asks (Traces out.old out.new taken.new)) engine.old.held engine.new.held result }
-{
-    let answered = trace_so_far(alloc, engine, out);
-    *taken = answered.taken;
-    u32::from(answered.status)
-}
-
-/// Lets the engine go, if there is one.
-#[unsafe(no_mangle)]
-pub extern "C" fn mu_engine_free(alloc: Global, engine: &mut Handle)
-    ensures { engine.new.held ≡ None }
-{
-    let_go(alloc, engine);
 }
 
 /// An access to one word.

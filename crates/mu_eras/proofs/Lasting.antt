@@ -12,6 +12,7 @@ use Rattle.mu_engine.specs.Live.{Live, first_live}
 use Rattle.mu_engine.specs.Moments.{GoesOn}
 use Rattle.mu_engine.specs.Shapes.{HasLimits}
 use Rattle.mu_engine.proofs.Going.{goes_still}
+use Rattle.mu_eras.specs.Applied.{IsKept}
 use Rattle.mu_eras.specs.Eras.{Era, order_of, submitted_over}
 use Rattle.mu_eras.specs.Holding.{HoldStores}
 use Rattle.mu_eras.specs.Lasting.{HoldsEras, IsLasting, IsSettled, KeepsLast, KeepsOn, Lasts}
@@ -23,7 +24,7 @@ use Rattle.mu_eras.specs.declared.succession.Succession.{Succession}
 use Rattle.mu_eras.proofs.Holds.{with_holds}
 use Rattle.mu_eras.proofs.Presents.{told_over_all}
 use Rattle.mu_eras.proofs.Rows.{eras_go_further_law, reply_over_rows}
-use Rattle.mu_eras.proofs.Wholes.{whole_if_settled}
+use Rattle.mu_eras.proofs.Wholes.{all_kept, whole_if_settled}
 
 -- the era under way went on
 pub lasting_on : (e d : Succession) → IsLasting e → IsInside d.present → d.shape ≡ e.shape → d.past ≡ e.past → length d.present.engine.holds ≡ length e.present.engine.holds
@@ -67,6 +68,7 @@ held_present past e live holds is many held =
       space = held.space;
       stores = stores_held (store (order_of past)) e.engine holds e.stores.items held.stores;
       told = held.told;
+      kept = λ r low. held.kept r (omega (arith, low, many));
     })
 
 held_inside : (e : Present) (live : Live) (holds : List Hold) → live ≡ with_holds e.engine holds → length holds ≡ length e.engine.holds → IsInside e → IsInside (record { engine = live; stores = e.stores; replies = e.replies })
@@ -106,7 +108,9 @@ goes_held live new holds is = subst (λ (l : Live). GoesOn live.job live.events 
 pub keeps_none : (kept : List (Option Reply)) → kept ≡ [] → KeepsLast [] kept
 keeps_none kept none = record {
   before = 0;
+  first = refl;
   count = (let long = ap length none in omega (arith, long));
+  all = λ k low. (let long = ap length none in absurd (omega (arith, long, low)));
   told = λ k reply at. absurd (never k reply (sym (ap (λ l. slice_get l k) none) ∙ at));
 }
   where
@@ -115,9 +119,15 @@ keeps_none kept none = record {
     never (suc k) reply at = cc
 
 -- the replies that are kept once an era has ended
-keeps_next : (past : List Era) (e : Succession) (kept : List (Option Reply)) → HoldsEras past e → kept ≡ e.present.replies.items → KeepsLast (era_of e.present ∷ past) kept
-keeps_next past e kept held same = record {
+keeps_next : (past : List Era) (e : Succession) (r : ℕ) (kept : List (Option Reply)) → HoldsEras past e → IsSettled e.present r → kept ≡ e.present.replies.items → KeepsLast (era_of e.present ∷ past) kept
+keeps_next past e r kept held settled same = record {
+  all = λ k low.
+      (let long = ap length same in
+      let places = held.present.places in
+      subst (λ (l : List (Option Reply)). IsKept l k) (sym same)
+      (all_kept e.present.engine r e.present.replies.items held.present.moment settled.low settled.inside settled.all held.present.kept k (omega (arith, low, long, places))));
   before = length (submitted_over past);
+  first = refl;
   count =
       (let long = ap length same in
       let places = held.present.places in
@@ -138,7 +148,7 @@ eras_next past e d r held settled present last count ended = record {
       let mapped = length-map e.present.engine.job.commands (numbered_after (order_of past)) in
       omega (arith, count, was, both, mapped));
   ended = (let was = held.ended in omega (arith, ended, was));
-  last = keeps_next past e d.last.items held last;
+  last = keeps_next past e r d.last.items held settled last;
 }
 
 -- so it lasts

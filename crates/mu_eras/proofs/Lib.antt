@@ -3,6 +3,7 @@ mod Ends
 pub mod Fresh
 mod Handing
 pub mod Holds
+mod Kept
 mod Lasting
 pub mod Linear
 mod Orders

@@ -23,6 +23,7 @@ use Rattle.mu_eras.specs.declared.applied.Applied.{Applied}
 use Rattle.mu_eras.specs.declared.present.Present.{Present}
 use Rattle.mu_eras.proofs.Applying.{get_behind}
 use Rattle.mu_eras.proofs.Holds.{with_holds}
+use Rattle.mu_eras.proofs.Kept.{followed_none}
 use Rattle.mu_eras.proofs.Linear.{get_numbered}
 use Rattle.mu_eras.proofs.Orders.{replies_going_on}
 
@@ -101,8 +102,8 @@ next_inside d shape holds stores first none space many = record {
 }
 
 -- the next era begins with what all eras have left
-pub next_present : (past : List Era) (e d : Present) → HoldsPresent past e → IsMoment d.engine.job d.engine.events → IsInside d → HoldStores (store (order_of (era_of e ∷ past))) d.engine d.stores.items → d.replies.items ≡ [] → HoldsPresent (era_of e ∷ past) d
-next_present past e d held at inside stores none = record {
+pub next_present : (past : List Era) (e d : Present) → HoldsPresent past e → IsMoment d.engine.job d.engine.events → IsInside d → HoldStores (store (order_of (era_of e ∷ past))) d.engine d.stores.items → d.replies.items ≡ [] → d.engine.events ≡ [] → HoldsPresent (era_of e ∷ past) d
+next_present past e d held at inside stores none before = record {
   eras = (held.moment, held.eras);
   moment = at;
   count = inside.count;
@@ -110,6 +111,7 @@ next_present past e d held at inside stores none = record {
   space = inside.space;
   stores = stores;
   told = tells_none (store (order_of (era_of e ∷ past))) d.engine.job.commands (order_after d.engine.job d.engine.events) d.replies.items none;
+  kept = followed_none d.engine d.replies.items before;
 }
 
 -- what holds anyway holds if there was an error

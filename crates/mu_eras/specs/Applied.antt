@@ -28,6 +28,11 @@ pub record IsKept (told : List (Option Reply)) (row : ℕ) : Type 0 where
   pub reply : Reply
   pub at : slice_get told row ≡ Some (Some reply)
 
+-- there is one to each of these rows
+abbrev pub AreKept : List ℕ → List (Option Reply) → Type 0
+AreKept rows told =
+    (place row : ℕ) → slice_get rows place ≡ Some row → IsKept told row
+
 -- where there was a reply there is one
 abbrev pub KeepsReplies : List (Option Reply) → List (Option Reply) → Type 0
 KeepsReplies told after = (row : ℕ) → IsKept told row → IsKept after row

@@ -1,12 +1,16 @@
 -- applied so far, whole: what a replica's store holds in an era that began with some table, and at
 -- the end of the era.
-use Rattle.std.specs.Prelude.{List, Some, length, take, ℕ, ◌+◌, ◌≡◌, ◌≤◌}
+use Rattle.std.specs.Prelude.{List, Some, length, take, ℕ, ◌+◌, ◌<◌, ◌≡◌, ◌≤◌}
+use Rattle.std.specs.declared.option.Option.{Option}
 use Rattle.std.specs.List.{slice_get}
 use Rattle.kv_store.specs.Tables.{Table, store_from}
+use Rattle.kv_store.specs.declared.store.Reply.{Reply}
+use Rattle.mu_model.specs.Contents.{rows_in}
 use Rattle.mu_outcome.specs.Entries.{commands_in}
 use Rattle.mu_engine.specs.Laws.{order_after}
 use Rattle.mu_engine.specs.Live.{Live}
 use Rattle.mu_engine.specs.Telling.{handed_log}
+use Rattle.mu_eras.specs.Applied.{AreKept}
 use Rattle.mu_eras.specs.declared.applied.Applied.{Applied}
 
 -- what replica r of the engine has handed on
@@ -56,6 +60,17 @@ pub record HoldsEnded (base : Table) (live : Live) (a : Applied) : Type 0 where
 abbrev pub HoldEnded : Table → Live → List Applied → Type 0
 HoldEnded base live stores =
     (r : ℕ) (a : Applied) → slice_get stores r ≡ Some a → HoldsEnded base live a
+
+-- each command that a replica has applied has its reply
+abbrev pub AreTaken : Live → List Applied → List (Option Reply) → Type 0
+AreTaken live stores told =
+    (r : ℕ) (a : Applied) → slice_get stores r ≡ Some a
+    → AreKept (rows_in live.job.config (take a.entries (handed_by live r))) told
+
+-- each command that a replica has handed on has its reply
+abbrev pub AreFollowed : Live → List (Option Reply) → Type 0
+AreFollowed live told =
+    (r : ℕ) → r < length live.holds → AreKept (rows_in live.job.config (handed_by live r)) told
 
 -- each has room for this many commands
 abbrev pub HaveRoomFor : ℕ → List Applied → Type 0

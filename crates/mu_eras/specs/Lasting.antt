@@ -6,9 +6,11 @@ use Rattle.std.specs.List.{slice_get}
 use Rattle.kv_store.specs.declared.store.Reply.{Reply}
 use Rattle.mu_engine.specs.Moments.{GoesOn}
 use Rattle.mu_engine.specs.Shapes.{HasLimits}
+use Rattle.mu_eras.specs.Applied.{IsKept}
 use Rattle.mu_eras.specs.Eras.{AreWhole, Era, GoesOver, IsReplyTo, submitted_over}
 use Rattle.mu_eras.specs.Holding.{IsSettledBy}
 use Rattle.mu_eras.specs.Standing.{HoldsPresent, IsInside, era_of}
+use Rattle.mu_eras.specs.Telling.{first_told}
 use Rattle.mu_eras.specs.declared.present.Present.{Present}
 use Rattle.mu_eras.specs.declared.succession.Succession.{Succession}
 
@@ -23,10 +25,12 @@ pub record IsLasting (e : Succession) : Type 0 where
   pub space_for_last : e.shape.room ≤ vec_capacity e.last
   pub numbers : e.past + e.shape.room < 2 ^ 64
 
--- each reply that is kept of the last of these eras is that to the command of its row
+-- the reply to each command of the last of these eras is kept, and is that to the command of its row
 pub record KeepsLast (past : List Era) (kept : List (Option Reply)) : Type 0 where
   pub before : ℕ
+  pub first : before ≡ first_told past
   pub count : before + length kept ≡ length (submitted_over past)
+  pub all : (k : ℕ) → k < length kept → IsKept kept k
   pub told :
       (k : ℕ) (reply : Reply) → slice_get kept k ≡ Some (Some reply)
       → IsReplyTo past (before + k) reply

@@ -5,3 +5,4 @@ pub mod Inside
 pub mod Lasting
 pub mod Orders
 pub mod Standing
+pub mod Telling

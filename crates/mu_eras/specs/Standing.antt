@@ -6,11 +6,11 @@ use Rattle.mu_engine.specs.Laws.{order_after}
 use Rattle.mu_engine.specs.Moments.{IsMoment}
 use Rattle.mu_eras.specs.Applied.{TellsOrder}
 use Rattle.mu_eras.specs.Eras.{AreEras, Era, order_of}
-use Rattle.mu_eras.specs.Holding.{AreInside, HoldStores}
+use Rattle.mu_eras.specs.Holding.{AreFollowed, AreInside, HoldStores}
 use Rattle.mu_eras.specs.declared.present.Present.{Present}
 
 -- the events are a legal list of the commands; the stores began with what the eras before left;
--- each reply that is kept is that of the order
+-- each reply that is kept is that of the order, and there is one to each command that was handed on
 pub record HoldsPresent (past : List Era) (e : Present) : Type 0 where
   pub eras : AreEras past
   pub moment : IsMoment e.engine.job e.engine.events
@@ -21,6 +21,7 @@ pub record HoldsPresent (past : List Era) (e : Present) : Type 0 where
   pub told :
       TellsOrder (store (order_of past)) e.engine.job.commands
       (order_after e.engine.job e.engine.events) e.replies.items
+  pub kept : AreFollowed e.engine e.replies.items
 
 -- each replica has applied what the others have, from some table on, and there are as many places
 -- for replies as commands, and room for more

@@ -1,11 +1,11 @@
 //! What a replica has applied: its store, which goes on over all eras.
-ghost use Rattle.std.specs.Prelude.{IfOk, [], drop, length, ◌+◌, ◌<◌, ◌∷◌, ◌≡◌, ◌≤◌};
+ghost use Rattle.std.specs.Prelude.{IfOk, [], drop, length, ℕ, ◌%◌, ◌+◌, ◌<◌, ◌∷◌, ◌≡◌, ◌≤◌};
 ghost use Rattle.std.specs.List.{slice_get};
 ghost use Rattle.kv_store.specs.Commands.{Request};
 ghost use Rattle.kv_store.specs.Tables.{empty_table, reply_to, table_after};
-ghost use Rattle.mu_follow.specs.Groups.{AreSpelled, group_of, groups_of};
-ghost use Rattle.mu_model.specs.Contents.{IsConfig};
-ghost use Rattle.mu_eras.specs.Applied.{Applies, AreFirst};
+ghost use Rattle.mu_follow.specs.Groups.{AreSpelled, group_of, group_size as group_size_of, groups_of};
+ghost use Rattle.mu_model.specs.Contents.{IsConfig, rows_in};
+ghost use Rattle.mu_eras.specs.Applied.{Applies, AreFirst, AreKept, IsKept};
 
 use kv_store::{Command, NoMemory, Reply, Store};
 use mu_follow::group_size;
@@ -84,6 +84,8 @@ impl Applied {
             (groups_of config.now commands.now (drop self.old.entries entries.now))
             self.old self.new replies.old replies.new }
         ensures entries { self.new.entries ≡ length entries.now }
+        ensures fresh { AreKept (rows_in config.now (drop self.old.entries entries.now))
+            replies.new }
     {
         let rest = &entries[self.entries..];
         for i in 0..rest.len() {
@@ -105,8 +107,10 @@ impl Applied {
         requires count { length replies.old ≡ length commands.now }
         requires room { length (group_of config.now commands.now v) ≤ self.old.store.room }
         requires few { self.old.commands + length (group_of config.now commands.now v) ≤ 65535 }
-        ensures { Applies commands.now (group_of config.now commands.now v) self.old self.new
-            replies.old replies.new }
+        ensures applies { Applies commands.now (group_of config.now commands.now v) self.old
+            self.new replies.old replies.new }
+        ensures fresh { (t : ℕ) → t < group_size_of config.now v
+            → IsKept replies.new (v % 4096 + t) }
     {
         let first = v % PAYLOADS;
         for t in 0..group_size(config, v) {
@@ -120,8 +124,9 @@ impl Applied {
         requires count { length replies.old ≡ length commands.now }
         requires room { 0 < self.old.store.room }
         requires few { self.old.commands < 65535 }
-        ensures { (command : Request) → slice_get commands.now row ≡ Some command
+        ensures applies { (command : Request) → slice_get commands.now row ≡ Some command
             → Applies commands.now (command ∷ []) self.old self.new replies.old replies.new }
+        ensures kept { IsKept replies.new row }
     {
         let command = &commands[usize::from(row)];
         let reply = self.apply(command);

@@ -1,5 +1,5 @@
 //! The engine without an end.
-ghost use Rattle.std.specs.Prelude.{Err, IfErr, IfOk, IfSome, List, [], length, map, ◌<◌, ◌↔◌, ◌∷◌, ◌≡◌, ◌≤◌};
+ghost use Rattle.std.specs.Prelude.{Err, IfErr, IfOk, IfSome, List, None, [], length, map, ◌<◌, ◌↔◌, ◌∷◌, ◌≡◌, ◌≤◌};
 ghost use Rattle.kv_store.specs.Commands.{HasShortTexts};
 ghost use Rattle.mu_engine.specs.Live.{after_round, changed_at, first_live, free, held, paused, stopped, submitted};
 ghost use Rattle.mu_engine.specs.Shapes.{HasLimits};
@@ -8,6 +8,7 @@ ghost use Rattle.mu_eras.specs.Eras.{Era, IsReplyTo, submitted_over};
 ghost use Rattle.mu_eras.specs.Inside.{IsLasting-prop};
 ghost use Rattle.mu_eras.specs.Lasting.{HoldsEras, IsLasting, KeepsEras, KeepsOn, Lasts};
 ghost use Rattle.mu_eras.specs.Standing.{era_of};
+ghost use Rattle.mu_eras.specs.Telling.{HasNoReply, first_told};
 
 use crate::succession::Succession;
 use kv_store::{NoMemory, Op, Reply};
@@ -81,7 +82,9 @@ impl Eras {
     /// The reply to the command of a row, as soon as some replica has applied it. Only commands of
     /// the era under way and of the one before it are told. Takes no memory.
     pub fn reply_to(&self, row: u64) -> Option<Reply>
-        ensures { (past : List Era) → HoldsEras past self.now.succession
+        ensures untold { (past : List Era) → HoldsEras past self.now.succession → result ≡ None
+            → HasNoReply past (era_of self.now.succession.present) row }
+        ensures told { (past : List Era) → HoldsEras past self.now.succession
             → IfSome result (IsReplyTo (era_of self.now.succession.present ∷ past) row) }
     {
         self.succession.reply_to(row)
@@ -132,12 +135,28 @@ impl Eras {
         &self.succession.present.engine
     }
 
+    /// How many commands were submitted, over all eras.
+    pub fn commands(&self) -> u64
+        ensures { (past : List Era) → HoldsEras past self.now.succession → result
+            ≡ length (submitted_over (era_of self.now.succession.present ∷ past)) }
+    {
+        self.succession.commands()
+    }
+
     /// How many commands were submitted in past eras.
     pub fn past_commands(&self) -> u64
         ensures { (past : List Era) → HoldsEras past self.now.succession
             → result ≡ length (submitted_over past) }
     {
         self.succession.past
+    }
+
+    /// The least row whose reply is kept: the first of the era before the one under way.
+    pub fn first_row(&self) -> u64
+        ensures { (past : List Era) → HoldsEras past self.now.succession
+            → result ≡ first_told past }
+    {
+        self.succession.first_row()
     }
 
     /// How many eras have ended.

@@ -1,11 +1,12 @@
 //! Each replica applies what its node has handed on.
-ghost use Rattle.std.specs.Prelude.{length, map, ◌<◌, ◌≡◌};
+ghost use Rattle.std.specs.Prelude.{length, map, take, ◌<◌, ◌≡◌};
 ghost use Rattle.kv_store.specs.Tables.{Table};
 ghost use Rattle.mu_engine.specs.Laws.{order_after};
 ghost use Rattle.mu_engine.specs.Live.{after_round};
 ghost use Rattle.mu_engine.specs.Moments.{GoesOn, IsMoment};
-ghost use Rattle.mu_eras.specs.Applied.{KeepsReplies, TellsOrder};
-ghost use Rattle.mu_eras.specs.Holding.{AreInside, HoldStores, HoldsApplied, IsApplied, handed_by};
+ghost use Rattle.mu_model.specs.Contents.{rows_in};
+ghost use Rattle.mu_eras.specs.Applied.{AreKept, KeepsReplies, TellsOrder};
+ghost use Rattle.mu_eras.specs.Holding.{AreFollowed, AreInside, AreTaken, HoldStores, HoldsApplied, IsApplied, handed_by};
 
 use crate::applied::Applied;
 use kv_store::Reply;
@@ -21,6 +22,10 @@ fn follow_one(engine: &Engine, r: u8, applied: &mut Applied, replies: &mut [Opti
         → HoldsApplied base engine.now r applied.new }
     ensures all { applied.new.entries ≡ length (handed_by engine.now r) }
     ensures keeps { KeepsReplies replies.old replies.new }
+    ensures fresh { AreKept
+        (rows_in engine.now.job.config (take applied.old.entries (handed_by engine.now r)))
+        replies.old → AreKept (rows_in engine.now.job.config (handed_by engine.now r))
+        replies.new }
     ensures tells { (base : Table) → HoldsApplied base engine.now r applied.old
         → TellsOrder base engine.now.job.commands
         (order_after engine.now.job engine.now.events) replies.old
@@ -45,6 +50,8 @@ pub(crate) fn follow(engine: &Engine, stores: &mut [Applied], replies: &mut [Opt
     ensures holds { (base : Table) → HoldStores base engine.now stores.old
         → HoldStores base engine.now stores.new }
     ensures keeps { KeepsReplies replies.old replies.new }
+    ensures fresh { AreTaken engine.now stores.old replies.old
+        → AreFollowed engine.now replies.new }
     ensures tells { (base : Table) → HoldStores base engine.now stores.old
         → TellsOrder base engine.now.job.commands
         (order_after engine.now.job engine.now.events) replies.old
@@ -71,6 +78,8 @@ pub(crate) fn play(engine: &mut Engine, stores: &mut [Applied], replies: &mut [O
     ensures holds { (base : Table) → HoldStores base engine.old stores.old
         → HoldStores base engine.new stores.new }
     ensures keeps { KeepsReplies replies.old replies.new }
+    ensures fresh { (base : Table) → HoldStores base engine.old stores.old
+        → AreFollowed engine.old replies.old → AreFollowed engine.new replies.new }
     ensures tells { (base : Table) → HoldStores base engine.old stores.old
         → TellsOrder base engine.old.job.commands
         (order_after engine.old.job engine.old.events) replies.old

@@ -1,5 +1,5 @@
 //! The era under way: its engine, each replica's store, and the replies by row.
-ghost use Rattle.std.specs.Prelude.{Err, IfErr, IfOk, IfSome, List, [], length, map, vec_capacity, ◌<◌, ◌↔◌, ◌∷◌, ◌≡◌, ◌≤◌};
+ghost use Rattle.std.specs.Prelude.{Err, IfErr, IfOk, IfSome, List, None, [], length, map, vec_capacity, ◌<◌, ◌↔◌, ◌∷◌, ◌≡◌, ◌≤◌};
 ghost use Rattle.kv_store.specs.Commands.{HasShortTexts};
 ghost use Rattle.mu_engine.specs.Live.{after_round, first_live, submitted};
 ghost use Rattle.mu_engine.specs.Moments.{GoesOn};
@@ -10,6 +10,7 @@ ghost use Rattle.mu_eras.specs.Applied.{KeepsReplies};
 ghost use Rattle.mu_eras.specs.Eras.{Era, IsReplyOver};
 ghost use Rattle.mu_eras.specs.Holding.{IsSettledBy};
 ghost use Rattle.mu_eras.specs.Standing.{HoldsPresent, IsInside, era_of};
+ghost use Rattle.mu_eras.specs.Telling.{IsUnapplied};
 
 use crate::applied::{Applied, first_stores};
 use crate::ending::{hand_over, make_room};
@@ -97,9 +98,13 @@ impl Present {
     /// The reply to the command of a row of the era, if there is one: that of the one store over
     /// all eras.
     pub(crate) fn told(&self, row: u64) -> Option<Reply>
-        ensures { (past : List Era) → HoldsPresent past self.now
+        ensures told { (past : List Era) → HoldsPresent past self.now
             → IfSome result (λ reply. IsReplyOver past (era_of self.now) row reply) }
+        ensures untold { (past : List Era) → HoldsPresent past self.now → result ≡ None
+            → IsUnapplied past (era_of self.now) row }
     {
+        // There are as many replicas as are held.
+        self.engine.config();
         told(self.replies.as_slice(), row)
     }
 

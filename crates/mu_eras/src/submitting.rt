@@ -1,5 +1,5 @@
 //! A command is taken, and its reply is told.
-ghost use Rattle.std.specs.Prelude.{Err, IfErr, IfOk, IfSome, List, Some, length, vec_capacity, ◌+◌, ◌↔◌, ◌≡◌, ◌≤◌};
+ghost use Rattle.std.specs.Prelude.{Err, IfErr, IfOk, IfSome, List, None, Some, length, vec_capacity, ◌+◌, ◌↔◌, ◌≡◌, ◌≤◌};
 ghost use Rattle.std.specs.List.{slice_get};
 ghost use Rattle.kv_store.specs.Commands.{HasShortTexts};
 ghost use Rattle.kv_store.specs.Tables.{Table};
@@ -9,8 +9,8 @@ ghost use Rattle.mu_engine.specs.Moments.{GoesOn, IsMoment};
 ghost use Rattle.mu_engine.specs.declared.refusal.Refusal.TheVariants.{Full};
 ghost use Rattle.mu_model.specs.Contents.{row_count};
 ghost use Rattle.mu_eras.specs.declared.applied.Applied.{Applied};
-ghost use Rattle.mu_eras.specs.Applied.{TellsOrder};
-ghost use Rattle.mu_eras.specs.Holding.{HoldStores};
+ghost use Rattle.mu_eras.specs.Applied.{IsKept, TellsOrder};
+ghost use Rattle.mu_eras.specs.Holding.{AreFollowed, HoldStores};
 
 use kv_store::{Op, Reply};
 use mu_engine::{Engine, Refusal};
@@ -43,6 +43,8 @@ pub(crate) fn take_command(
         (order_after engine.old.job engine.old.events) replies.old.items
         → TellsOrder base engine.new.job.commands
         (order_after engine.new.job engine.new.events) replies.new.items }
+    ensures kept { AreFollowed engine.old replies.old.items
+        → AreFollowed engine.new replies.new.items }
 {
     // Before and after it the events are a legal list of the commands.
     engine.events();
@@ -54,7 +56,8 @@ pub(crate) fn take_command(
 
 /// The reply to the command of a row, if there is one.
 pub(crate) fn told(replies: &[Option<Reply>], row: u64) -> Option<Reply>
-    ensures { IfSome result (λ reply. slice_get replies.now row ≡ Some (Some reply)) }
+    ensures some { IfSome result (λ reply. slice_get replies.now row ≡ Some (Some reply)) }
+    ensures none { result ≡ None → IsKept replies.now row → ⊥ }
 {
     match replies.get(row as usize) {
         Some(reply) => *reply,

@@ -1,5 +1,5 @@
 //! Eras one after the other: the one under way, and what is kept of those before.
-ghost use Rattle.std.specs.Prelude.{Err, IfErr, IfOk, IfSome, List, [], length, ◌+◌, ◌<◌, ◌↔◌, ◌∷◌, ◌≡◌, ◌≤◌};
+ghost use Rattle.std.specs.Prelude.{Err, IfErr, IfOk, IfSome, List, None, [], length, ◌+◌, ◌<◌, ◌↔◌, ◌∷◌, ◌≡◌, ◌≤◌};
 ghost use Rattle.kv_store.specs.Commands.{HasShortTexts};
 ghost use Rattle.mu_engine.specs.Live.{changed_at, first_live, free, held, paused, stopped, submitted};
 ghost use Rattle.mu_engine.specs.Shapes.{HasLimits};
@@ -7,6 +7,7 @@ ghost use Rattle.mu_engine.specs.declared.refusal.Refusal.TheVariants.{Full};
 ghost use Rattle.mu_eras.specs.Eras.{Era, IsReplyTo};
 ghost use Rattle.mu_eras.specs.Lasting.{HoldsEras, IsLasting, KeepsEras, KeepsOn};
 ghost use Rattle.mu_eras.specs.Standing.{era_of};
+ghost use Rattle.mu_eras.specs.Telling.{HasNoReply, first_told};
 
 use crate::present::Present;
 use crate::submitting::told;
@@ -79,25 +80,42 @@ impl Succession {
         ensures inside { IsLasting self.new }
         ensures here { KeepsEras self.old self.new }
     {
-        let row = self.past + self.present.engine.commands().len() as u64;
+        let row = self.commands();
         self.present.submit(client, op)?;
         Ok(row)
+    }
+
+    /// How many commands were submitted.
+    pub(crate) fn commands(&self) -> u64
+        requires inside { IsLasting self.now }
+        ensures { result ≡ self.now.past + length self.now.present.engine.job.commands }
+    {
+        self.past + self.present.engine.commands().len() as u64
     }
 
     /// The reply to the command of a row among all commands, if there is one. Only commands of the
     /// era under way and of the one before are told.
     pub(crate) fn reply_to(&self, row: u64) -> Option<Reply>
-        ensures { (past : List Era) → HoldsEras past self.now
+        ensures untold { (past : List Era) → HoldsEras past self.now → result ≡ None
+            → HasNoReply past (era_of self.now.present) row }
+        ensures told { (past : List Era) → HoldsEras past self.now
             → IfSome result (IsReplyTo (era_of self.now.present ∷ past) row) }
     {
         if row >= self.past {
             return self.present.told(row - self.past);
         }
-        let before = self.past.saturating_sub(self.last.len() as u64);
-        if row < before {
+        let first = self.first_row();
+        if row < first {
             return None;
         }
-        told(self.last.as_slice(), row - before)
+        told(self.last.as_slice(), row - first)
+    }
+
+    /// The least row whose reply is kept: the first of the era before.
+    pub(crate) fn first_row(&self) -> u64
+        ensures { (past : List Era) → HoldsEras past self.now → result ≡ first_told past }
+    {
+        self.past.saturating_sub(self.last.len() as u64)
     }
 
     /// Stops a replica: it takes no turn until it comes back.

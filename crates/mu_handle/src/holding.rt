@@ -1,15 +1,15 @@
 //! What stands behind a handle.
 
 use lone_replica::Replica;
-use mu_engine::Engine;
+use mu_eras::Eras;
 use mu_verdict::LineJudge;
 
 /// What a C program holds by a handle.
 pub enum Held {
     /// A judge of events that come line by line.
     Judge(LineJudge),
-    /// A live engine.
-    Engine(Engine),
+    /// A live engine without an end.
+    Engine(Eras),
     /// One replica.
     Replica(Replica),
 }
@@ -30,7 +30,7 @@ impl Drop for Held {
 fn let_judge_go(_judge: LineJudge) {}
 
 /// Drops an engine.
-fn let_engine_go(_engine: Engine) {}
+fn let_engine_go(_engine: Eras) {}
 
 /// Drops a replica.
 fn let_replica_go(_replica: Replica) {}

@@ -1,4 +1,7 @@
-mod EngineTraces
-mod Outcomes
-mod Submitting
 mod Appending
+mod EngineTraces
+mod OfCalls
+mod Outcomes
+mod Places
+mod Submitting
+mod Waiting

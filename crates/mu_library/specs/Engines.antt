@@ -1,19 +1,22 @@
 -- of engine, opens engine, submits, holds by, replies, trace of, traces: what each call on a live
--- engine makes of it, and what it tells.
-use Rattle.std.specs.Prelude.{Bool, List, None, Some, [], ◌∷◌, false, length, map, nat_le, true, ℕ, ◌&&◌, ◌++◌, ◌<◌, ◌≡◌, ◌≢◌, ◌≤◌, ◌⊎◌}
+-- engine without an end makes of it, and what it tells.
+use Rattle.std.specs.Prelude.{Bool, List, None, Some, [], ◌∷◌, false, length, map, nat_le, true, ℕ, ◌&&◌, ◌*◌, ◌+◌, ◌<◌, ◌≡◌, ◌≢◌, ◌≤◌, ◌⊎◌}
 use Rattle.std.specs.List.{All, slice_get}
 use Rattle.std.specs.declared.option.Option.{Option}
 use Rattle.kv_store.specs.Commands.{Request}
 use Rattle.kv_store.specs.declared.command.Op.{Op}
 use Rattle.kv_store.specs.declared.store.Reply.{Reply}
 use Rattle.kv_store.specs.declared.store.Reply.TheVariants as reply
-use Rattle.mu_engine.specs.Live.{Live, after_round, changed_at, first_live, submitted}
+use Rattle.mu_engine.specs.Live.{Live, after_round, changed_at, first_live, free, held, submitted}
 use Rattle.mu_engine.specs.Moments.{IsMoment}
-use Rattle.mu_engine.specs.Rounds.{IsRound}
 use Rattle.mu_engine.specs.Shapes.{HasLimits}
-use Rattle.mu_engine.specs.Telling.{TellsNow}
 use Rattle.mu_engine.specs.declared.hold.Hold.{Hold}
 use Rattle.mu_engine.specs.declared.shape.Shape.{Shape}
+use Rattle.mu_eras.specs.Eras.{Era, IsReplyTo, submitted_over}
+use Rattle.mu_eras.specs.Lasting.{HoldsEras, KeepsEras, KeepsOn, Lasts}
+use Rattle.mu_eras.specs.Standing.{era_of}
+use Rattle.mu_eras.specs.Telling.{HasNoReply, first_told}
+use Rattle.mu_eras.specs.declared.eras.Eras.{Eras}
 use Rattle.mu_handle.specs.declared.holding.Held.{Held}
 use Rattle.mu_input.specs.Grammar.{job}
 use Rattle.mu_input.specs.JobLines.{lines_of_trace}
@@ -22,86 +25,128 @@ use Rattle.mu_input.specs.Readings.{Fits, Line, Says, Wrong}
 use Rattle.mu_input.specs.Traces.{trace}
 use Rattle.mu_library.specs.Calls.{PutsSaid}
 use Rattle.mu_library.specs.Front.{Puts}
-use Rattle.mu_library.specs.declared.codes.TheConstants.{FULL, MIXED, STOPPED}
-use Rattle.mu_model.specs.Contents.{row_count}
+use Rattle.mu_library.specs.declared.codes.TheConstants.{BEYOND, EMPTY, FULL, MIXED, NO_CLIENT, NO_REPLICA, NO_ROW, OLD_ROW, STOPPED}
 use Rattle.mu_model.specs.Ranges.{FitsEvent}
-use Rattle.mu_model.specs.declared.event.Event.{Event}
 use Rattle.mu_outcome.specs.Statuses.{code_of}
 use Rattle.mu_outcome.specs.declared.status.Status.{Status}
 use Rattle.mu_report.specs.declared.said.Said.{Said}
 use Rattle.mu_text.specs.Lines.{ended, words}
 
+-- the engine of the era under way, and this era
+abbrev pub live_of : Eras → Live
+live_of e = e.succession.present.engine
+
+abbrev pub era_now : Eras → Era
+era_now e = era_of e.succession.present
+
 -- what a call makes of what is held: of an engine what is said here, with its status; of a judge or
--- a replica nothing, and nothing is told, with the status of a wrong use
-abbrev pub OfHeld : Type 0 → (Live → Live → ℕ → Type 0) → Held → Held → ℕ → Type 0
+-- a replica nothing, and nothing is told, with the status that there is no engine
+abbrev pub OfHeld : Type 0 → (Eras → Eras → ℕ → Type 0) → Held → Held → ℕ → Type 0
 OfHeld Nothing Does (Held.Engine old) new status =
-    (after : Live) × (new ≡ Held.Engine after) × Does old after status
+    (after : Eras) × (new ≡ Held.Engine after) × Does old after status
 OfHeld Nothing Does (Held.Judge judge) new status =
-    (new ≡ Held.Judge judge) × (status ≡ code_of Status.Usage) × Nothing
+    (new ≡ Held.Judge judge) × (status ≡ EMPTY) × Nothing
 OfHeld Nothing Does (Held.Replica replica) new status =
-    (new ≡ Held.Replica replica) × (status ≡ code_of Status.Usage) × Nothing
+    (new ≡ Held.Replica replica) × (status ≡ EMPTY) × Nothing
 
 -- the same of a handle, which may have nothing
 abbrev pub OfHandle :
-    Type 0 → (Live → Live → ℕ → Type 0) → Option Held → Option Held → ℕ → Type 0
+    Type 0 → (Eras → Eras → ℕ → Type 0) → Option Held → Option Held → ℕ → Type 0
 OfHandle Nothing Does (Some old) new status =
     (held : Held) × (new ≡ Some held) × OfHeld Nothing Does old held status
-OfHandle Nothing Does None new status =
-    (new ≡ None) × (status ≡ code_of Status.Usage) × Nothing
+OfHandle Nothing Does None new status = (new ≡ None) × (status ≡ EMPTY) × Nothing
+
+-- the numbers are those of an engine, an era takes commands, and its logs have a slot for each and
+-- two for each replica: so none is used twice
+pub record IsWithinLimits (shape : Shape) : Type 0 where
+  pub limits : HasLimits shape
+  pub some : 1 ≤ shape.room
+  pub slots : shape.room + 2 * shape.replicas ≤ shape.ring
+
+-- an engine before any command, with no era before
+pub record IsNewEngine (shape : Shape) (e : Eras) : Type 0 where
+  pub live : live_of e ≡ first_live shape
+  pub holds : HoldsEras [] e.succession
+
+abbrev pub HasNewEngine : Shape → Option Held → Type 0
+HasNewEngine shape (Some (Held.Engine e)) = IsNewEngine shape e
+HasNewEngine shape (Some (Held.Judge judge)) = ⊥
+HasNewEngine shape (Some (Held.Replica replica)) = ⊥
+HasNewEngine shape None = ⊥
 
 -- a new engine is there; or there was no memory for it, or a number is out of its limits, and the
 -- handle is as it was
 abbrev pub OpensEngine : Shape → Option Held → Option Held → ℕ → Type 0
 OpensEngine shape old new status =
-    (HasLimits shape × (status ≡ 0) × (new ≡ Some (Held.Engine (first_live shape))))
-    ⊎ (HasLimits shape × (status ≡ code_of Status.NoMemory) × (new ≡ old))
-    ⊎ ((HasLimits shape → ⊥) × (status ≡ code_of Status.Usage) × (new ≡ old))
+    (IsWithinLimits shape × (status ≡ 0) × HasNewEngine shape new)
+    ⊎ (IsWithinLimits shape × (status ≡ code_of Status.NoMemory) × (new ≡ old))
+    ⊎ ((IsWithinLimits shape → ⊥) × (status ≡ BEYOND) × (new ≡ old))
 
--- a command was taken, and its row is told; or there may be no more, or there was no memory
-abbrev pub SubmitsOp : ℕ → Op → ℕ → Live → Live → ℕ → Type 0
+-- the next command of a client was taken; its row is how many there were before, over all eras
+pub record Takes (client : ℕ) (op : Op) (row : ℕ) (old new : Eras) : Type 0 where
+  pub has_room : (live_of old).room ≢ 0
+  pub live : live_of new ≡ submitted (live_of old) client op
+  pub goes : KeepsOn old.succession new.succession
+  pub here : KeepsEras old.succession new.succession
+  pub row_is :
+      (past : List Era) → HoldsEras past old.succession
+      → row ≡ length (submitted_over (era_now old ∷ past))
+
+-- so it was; or the era has no room, or there was no memory
+abbrev pub SubmitsOp : ℕ → Op → ℕ → Eras → Eras → ℕ → Type 0
 SubmitsOp client op row old new status =
-    ((status ≡ 0) × (old.room ≢ 0) × (row ≡ row_count old.job.config)
-    × (new ≡ submitted old client op))
-    ⊎ ((status ≡ FULL) × (old.room ≡ 0) × (row ≡ 0) × (new ≡ old))
-    ⊎ ((status ≡ code_of Status.NoMemory) × (old.room ≢ 0) × (row ≡ 0) × (new ≡ old))
+    ((status ≡ 0) × Takes client op row old new)
+    ⊎ ((status ≡ FULL) × ((live_of old).room ≡ 0) × (row ≡ 0) × (new ≡ old))
+    ⊎ ((status ≡ code_of Status.NoMemory) × ((live_of old).room ≢ 0) × (row ≡ 0) × (new ≡ old))
 
 -- the same of what a line says
-abbrev pub SubmitsAs : ℕ → Line Op → ℕ → Live → Live → ℕ → Type 0
+abbrev pub SubmitsAs : ℕ → Line Op → ℕ → Eras → Eras → ℕ → Type 0
 SubmitsAs client (Says op) row old new status = SubmitsOp client op row old new status
 SubmitsAs client (Wrong cause) row old new status =
     (status ≡ code_of Status.Refused) × (row ≡ 0) × (new ≡ old)
 
 -- the same of a line of a client, if there is such a client
-abbrev pub Submits : ℕ → List ℕ → ℕ → Live → Live → ℕ → Type 0
+abbrev pub Submits : ℕ → List ℕ → ℕ → Eras → Eras → ℕ → Type 0
 Submits client line row old new status =
     ((client ≤ 15) × SubmitsAs client (operation_of (words line)) row old new status)
-    ⊎ ((15 < client) × (status ≡ code_of Status.Usage) × (row ≡ 0) × (new ≡ old))
+    ⊎ ((15 < client) × (status ≡ NO_CLIENT) × (row ≡ 0) × (new ≡ old))
 
--- one round was played
-pub record PlaysRound (old new : Live) (status : ℕ) : Type 0 where
-  pub done : status ≡ 0
-  pub job : new.job ≡ old.job
-  pub room : new.room ≡ old.room
-  pub holds : new.holds ≡ map after_round old.holds
-  pub steps :
-      (steps : List Event) × (new.events ≡ old.events ++ steps)
-      × IsRound old.job.config old.holds old.events steps
+-- one round was played: which eras there were goes on, and no command came meanwhile; there may
+-- have been no memory for an era that was due
+pub record PlaysRound (old new : Eras) (status : ℕ) : Type 0 where
+  pub done : (status ≡ 0) ⊎ (status ≡ code_of Status.NoMemory)
+  pub holds : (live_of new).holds ≡ map after_round (live_of old).holds
+  pub lasts :
+      (past : List Era) → HoldsEras past old.succession
+      → Lasts past old.succession new.succession
 
--- what holds a replica was changed, if there is such a replica and it isn't stopped
-abbrev pub HoldsAs : (Hold → Hold) → ℕ → Option Bool → Live → Live → ℕ → Type 0
-HoldsAs f replica (Some false) old new status =
-    (status ≡ 0) × (new ≡ record old { holds = changed_at f old.holds replica })
+-- what holds a replica was changed, and nothing else
+pub record Holds (f : Hold → Hold) (replica : ℕ) (old new : Eras) : Type 0 where
+  pub live :
+      live_of new
+      ≡ record (live_of old) { holds = changed_at f (live_of old).holds replica }
+  pub here : KeepsEras old.succession new.succession
+
+-- so it was, if there is such a replica and it isn't stopped
+abbrev pub HoldsAs : (Hold → Hold) → ℕ → Option Bool → Eras → Eras → ℕ → Type 0
+HoldsAs f replica (Some false) old new status = (status ≡ 0) × Holds f replica old new
 HoldsAs f replica (Some true) old new status = (status ≡ STOPPED) × (new ≡ old)
-HoldsAs f replica None old new status = (status ≡ code_of Status.Usage) × (new ≡ old)
+HoldsAs f replica None old new status = (status ≡ NO_REPLICA) × (new ≡ old)
 
 -- whether the replica at this place is stopped
 abbrev pub is_stopped : Option Hold → Option Bool
 is_stopped (Some hold) = Some hold.stopped
 is_stopped None = None
 
-abbrev pub HoldsBy : (Hold → Hold) → ℕ → Live → Live → ℕ → Type 0
+abbrev pub HoldsBy : (Hold → Hold) → ℕ → Eras → Eras → ℕ → Type 0
 HoldsBy f replica old new status =
-    HoldsAs f replica (is_stopped (slice_get old.holds replica)) old new status
+    HoldsAs f replica (is_stopped (slice_get (live_of old).holds replica)) old new status
+
+-- nothing holds a replica any more, if there is such a replica
+abbrev pub CallsBack : ℕ → Eras → Eras → ℕ → Type 0
+CallsBack replica old new status =
+    ((replica < length (live_of old).holds) × (status ≡ 0) × Holds (held free) replica old new)
+    ⊎ ((length (live_of old).holds ≤ replica) × (status ≡ NO_REPLICA) × (new ≡ old))
 
 -- a reply as a caller in C gets it: its number, and its text
 abbrev pub number_of_reply : Reply → ℕ
@@ -127,14 +172,34 @@ PutsReply None number before after taken status =
 PutsReply (Some reply) number before after taken status =
     (number ≡ number_of_reply reply) × Puts (text_of_reply reply) 0 before after status taken
 
--- what is told now of a row, if there is such a row, is put; of this moment the laws of sessions
--- speak
-abbrev pub Replies : ℕ → ℕ → List ℕ → List ℕ → ℕ → Live → ℕ → Type 0
-Replies row number before after taken live status =
-    ((row < length live.job.commands) × IsMoment live.job live.events × (told : Option Reply)
-    × TellsNow live.job live.events row told × PutsReply told number before after taken status)
-    ⊎ ((length live.job.commands ≤ row) × (status ≡ code_of Status.Usage)
-    × IsUntold number before after taken)
+-- the row is of a command of the era under way or of the one before it
+pub record IsThere (row : ℕ) (e : Eras) : Type 0 where
+  pub submitted :
+      (past : List Era) → HoldsEras past e.succession
+      → row < length (submitted_over (era_now e ∷ past))
+  pub kept : (past : List Era) → HoldsEras past e.succession → first_told past ≤ row
+
+-- it isn't, and why: there is no such row yet, or its era is older
+abbrev pub WhyUntold : ℕ → Eras → ℕ → Type 0
+WhyUntold row e status =
+    ((status ≡ NO_ROW) × ((past : List Era) → HoldsEras past e.succession
+    → length (submitted_over (era_now e ∷ past)) ≤ row))
+    ⊎ ((status ≡ OLD_ROW) × ((past : List Era) → HoldsEras past e.succession
+    → row < first_told past))
+
+-- what is told of a row is the reply of one store over all eras; if nothing is, it has no reply
+abbrev pub TellsRow : ℕ → Option Reply → Eras → Type 0
+TellsRow row None e =
+    (past : List Era) → HoldsEras past e.succession → HasNoReply past (era_now e) row
+TellsRow row (Some reply) e =
+    (past : List Era) → HoldsEras past e.succession → IsReplyTo (era_now e ∷ past) row reply
+
+-- what is told of a row is put, if it is there
+abbrev pub Replies : ℕ → ℕ → List ℕ → List ℕ → ℕ → Eras → ℕ → Type 0
+Replies row number before after taken e status =
+    (WhyUntold row e status × IsUntold number before after taken)
+    ⊎ (IsThere row e × (told : Option Reply) × TellsRow row told e
+    × PutsReply told number before after taken status)
 
 -- the commands of each client stand together, the clients in order from this one on
 abbrev pub stand_by_client : ℕ → List Request → Bool
@@ -163,10 +228,14 @@ TracesAs true live before after taken status = PutsTrace live before after taken
 TracesAs false live before after taken status =
     (status ≡ MIXED) × (taken ≡ 0) × (after ≡ before)
 
-abbrev pub Traces : List ℕ → List ℕ → ℕ → Live → ℕ → Type 0
-Traces before after taken live status =
+abbrev pub TracesLive : List ℕ → List ℕ → ℕ → Live → ℕ → Type 0
+TracesLive before after taken live status =
     TracesAs (stand_by_client 0 live.job.commands) live before after taken status
 
+-- the trace of the era under way
+abbrev pub Traces : List ℕ → List ℕ → ℕ → Eras → ℕ → Type 0
+Traces before after taken e status = TracesLive before after taken (live_of e) status
+
 -- a call that leaves the engine as it is
-abbrev pub Asks : (Live → ℕ → Type 0) → Live → Live → ℕ → Type 0
+abbrev pub Asks : (Eras → ℕ → Type 0) → Eras → Eras → ℕ → Type 0
 Asks Tells old new status = (new ≡ old) × Tells old status

@@ -1,16 +1,15 @@
-//! A live engine in the hands of a C program: what changes it.
-ghost use Rattle.std.specs.Prelude.{IfOk, Some, ⊤, ◌≡◌, ◌≤◌, ◌⊎◌};
+//! A live engine without an end in the hands of a C program: how it is started, and its commands.
+ghost use Rattle.std.specs.Prelude.{IfOk, IsTrue, Some, ◌↔◌, ◌≡◌, ◌≤◌, ◌⊎◌};
 ghost use Rattle.std.specs.Option.{MatchOption};
 ghost use Rattle.kv_store.specs.Commands.{HasShortTexts};
-ghost use Rattle.mu_engine.specs.Live.{first_live, paused, stopped};
 ghost use Rattle.mu_engine.specs.Shapes.{HasLimits};
-ghost use Rattle.mu_handle.specs.declared.holding.Held.TheVariants.{Engine as EngineHeld};
-ghost use Rattle.mu_library.specs.Engines.{HoldsBy, OfHandle, OfHeld, OpensEngine, PlaysRound, Submits, SubmitsOp};
+ghost use Rattle.mu_library.specs.Engines.{HasNewEngine, IsWithinLimits, OfHandle, OfHeld, OpensEngine, Submits, SubmitsOp};
 
-use crate::codes::{FULL, STOPPED};
+use crate::codes::{BEYOND, EMPTY, FULL, NO_CLIENT};
 use crate::handles::{let_go, taken_out};
 use kv_store::Op;
-use mu_engine::{Engine, Refusal, Shape};
+use mu_engine::Shape;
+use mu_eras::{Eras, Refusal};
 use mu_handle::{Handle, Held};
 use mu_input::{MOST_CLIENTS, MOST_COMMANDS, MOST_REPLICAS, MOST_RING, operation};
 use mu_model::NoMemory;
@@ -20,27 +19,27 @@ use std::alloc::Global;
 
 /// What became of a command.
 #[derive(Clone, Copy, Debug)]
-pub struct Submitted {
-    /// 0 if it was taken; 1 if there is no such client, 2 if the line is no operation, 9 if there
-    /// may be no more, 6 for want of memory.
+pub struct Numbered {
+    /// 0 if it was taken; 16 if there is no such client, 2 if the line is no operation, 9 if the era
+    /// has no room, 6 for want of memory, 20 if there is no engine.
     pub status: u8,
-    /// Its row, or 0 if it wasn't taken.
-    pub row: u16,
+    /// Its row over all eras, or 0 if it wasn't taken.
+    pub row: u64,
 }
 
-impl Submitted {
+impl Numbered {
     /// It wasn't taken.
-    pub(crate) fn refused(status: u8) -> Submitted
+    fn refused(status: u8) -> Numbered
         ensures status { result.status ≡ status }
         ensures row { result.row ≡ 0 }
     {
-        Submitted { status, row: 0 }
+        Numbered { status, row: 0 }
     }
 }
 
-/// Starts an engine with this many replicas, slots of a log, steps of a replica and commands. With
-/// status 0 the handle has it, and what it had is let go. Else the handle is as it was: 1 if a
-/// number is out of its limits, 6 for want of memory.
+/// Starts an engine with this many replicas, and of each era slots of a log, steps of a replica and
+/// commands. With status 0 the handle has it, and what it had is let go. Else the handle is as it
+/// was: 15 if a number is out of its limits, 6 for want of memory.
 pub fn open_engine(
     alloc: Global,
     handle: &mut Handle,
@@ -55,16 +54,16 @@ pub fn open_engine(
 {
     match shape_of(replicas, ring, budget, room) {
         Some(shape) => open_shape(alloc, handle, shape),
-        None => Status::Usage.code(),
+        None => BEYOND,
     }
 }
 
 /// The shape of these numbers, if each is within its limits.
 fn shape_of(replicas: u32, ring: u32, budget: u32, room: u32) -> Option<Shape>
     ensures { MatchOption result
-        (HasLimits (record { replicas = replicas; ring = ring; budget = budget; room = room })
+        (IsWithinLimits (record { replicas = replicas; ring = ring; budget = budget; room = room })
         → ⊥)
-        (λ shape. HasLimits shape × (shape
+        (λ shape. IsWithinLimits shape × (shape
         ≡ record { replicas = replicas; ring = ring; budget = budget; room = room })) }
 {
     if replicas > u32::from(MOST_REPLICAS) || ring > u32::from(MOST_RING) {
@@ -79,17 +78,26 @@ fn shape_of(replicas: u32, ring: u32, budget: u32, room: u32) -> Option<Shape>
         budget,
         room: room as u16,
     };
-    if shape.is_allowed() {
+    if shape.is_allowed() && never_wraps(&shape) {
         Some(shape)
     } else {
         None
     }
 }
 
+/// Whether an era takes commands, and its logs have a slot for each, and two for each replica.
+fn never_wraps(shape: &Shape) -> bool
+    requires { HasLimits shape.now }
+    ensures { IsTrue result ↔ IsWithinLimits shape.now }
+{
+    let slots = u32::from(shape.room) + 2 * u32::from(shape.replicas);
+    1 <= shape.room && slots <= u32::from(shape.ring)
+}
+
 /// Starts an engine of this shape.
 fn open_shape(alloc: Global, handle: &mut Handle, shape: Shape) -> u8
     requires { HasLimits shape }
-    ensures { ((result ≡ 0) × (handle.new.held ≡ Some (EngineHeld (first_live shape))))
+    ensures { ((result ≡ 0) × HasNewEngine shape handle.new.held)
         ⊎ ((result ≡ 6) × (handle.new.held ≡ handle.old.held)) }
 {
     match started(alloc, shape) {
@@ -105,10 +113,10 @@ fn open_shape(alloc: Global, handle: &mut Handle, shape: Shape) -> u8
 /// An engine of this shape, to be held.
 fn started(alloc: Global, shape: Shape) -> Result<Box<Held>, NoMemory>
     requires { HasLimits shape }
-    ensures { IfOk result (λ held. held.value ≡ EngineHeld (first_live shape)) }
+    ensures { IfOk result (λ held. HasNewEngine shape (Some held.value)) }
 {
-    let engine = Engine::start(alloc, shape)?;
-    Ok(Box::new(alloc, Held::Engine(engine))?)
+    let eras = Eras::start(alloc, shape)?;
+    Ok(Box::new(alloc, Held::Engine(eras))?)
 }
 
 /// The status that there was no memory, as an allocator told.
@@ -119,7 +127,7 @@ pub(crate) fn wanting(_refusal: NoMemory) -> u8
 }
 
 /// Takes the next command of a client, which the line spells without its line feed.
-pub fn submit_line(alloc: Global, handle: &mut Handle, client: u32, line: &[u8]) -> Submitted
+pub fn submit_line(alloc: Global, handle: &mut Handle, client: u32, line: &[u8]) -> Numbered
     ensures { OfHandle (result.row ≡ 0) (Submits client line.now result.row)
         handle.old.held handle.new.held result.status }
 {
@@ -129,146 +137,45 @@ pub fn submit_line(alloc: Global, handle: &mut Handle, client: u32, line: &[u8])
             *handle = Handle::of(held);
             submitted
         }
-        None => Submitted::refused(Status::Usage.code()),
+        None => Numbered::refused(EMPTY),
     }
 }
 
-fn submitted_to(held: &mut Held, client: u32, line: &[u8]) -> Submitted
+fn submitted_to(held: &mut Held, client: u32, line: &[u8]) -> Numbered
     ensures { OfHeld (result.row ≡ 0) (Submits client line.now result.row) held.old held.new
         result.status }
 {
     match held {
-        Held::Engine(engine) => submit_words(engine, client, line),
-        Held::Judge(_) | Held::Replica(_) => Submitted::refused(Status::Usage.code()),
+        Held::Engine(eras) => submit_words(eras, client, line),
+        Held::Judge(_) | Held::Replica(_) => Numbered::refused(EMPTY),
     }
 }
 
 /// Submits what the line spells.
-fn submit_words(engine: &mut Engine, client: u32, line: &[u8]) -> Submitted
-    ensures { Submits client line.now result.row engine.old engine.new result.status }
+fn submit_words(eras: &mut Eras, client: u32, line: &[u8]) -> Numbered
+    ensures { Submits client line.now result.row eras.old eras.new result.status }
 {
     if client >= u32::from(MOST_CLIENTS) {
-        return Submitted::refused(Status::Usage.code());
+        return Numbered::refused(NO_CLIENT);
     }
     match operation(Words::of(line).as_slice()) {
-        Ok(op) => submit_op(engine, client as u8, op),
-        Err(_) => Submitted::refused(Status::Refused.code()),
+        Ok(op) => submit_op(eras, client as u8, op),
+        Err(_) => Numbered::refused(Status::Refused.code()),
     }
 }
 
 /// Submits an operation.
-fn submit_op(engine: &mut Engine, client: u8, op: Op) -> Submitted
+fn submit_op(eras: &mut Eras, client: u8, op: Op) -> Numbered
     requires client { client ≤ 15 }
     requires texts { HasShortTexts op }
-    ensures { SubmitsOp client op result.row engine.old engine.new result.status }
+    ensures { SubmitsOp client op result.row eras.old eras.new result.status }
 {
-    match engine.submit(client, op) {
-        Ok(row) => Submitted {
+    match eras.submit(client, op) {
+        Ok(row) => Numbered {
             status: Status::Done.code(),
             row,
         },
-        Err(Refusal::Full) => Submitted::refused(FULL),
-        Err(Refusal::NoMemory) => Submitted::refused(Status::NoMemory.code()),
+        Err(Refusal::Full) => Numbered::refused(FULL),
+        Err(Refusal::NoMemory) => Numbered::refused(Status::NoMemory.code()),
     }
-}
-
-/// Plays one round.
-pub fn play_round(alloc: Global, handle: &mut Handle) -> u8
-    ensures { OfHandle ⊤ PlaysRound handle.old.held handle.new.held result }
-{
-    match taken_out(alloc, handle) {
-        Some(mut held) => {
-            let status = played_by(&mut held);
-            *handle = Handle::of(held);
-            status
-        }
-        None => Status::Usage.code(),
-    }
-}
-
-fn played_by(held: &mut Held) -> u8
-    ensures { OfHeld ⊤ PlaysRound held.old held.new result }
-{
-    match held {
-        Held::Engine(engine) => {
-            engine.round();
-            Status::Done.code()
-        }
-        Held::Judge(_) | Held::Replica(_) => Status::Usage.code(),
-    }
-}
-
-/// Stops a replica for good. The status is 1 if there is no such replica, and 10 if it is stopped
-/// already.
-pub fn stop_replica(alloc: Global, handle: &mut Handle, replica: u32) -> u8
-    ensures { OfHandle ⊤ (HoldsBy stopped replica) handle.old.held handle.new.held result }
-{
-    match taken_out(alloc, handle) {
-        Some(mut held) => {
-            let status = stopped_in(&mut held, replica);
-            *handle = Handle::of(held);
-            status
-        }
-        None => Status::Usage.code(),
-    }
-}
-
-fn stopped_in(held: &mut Held, replica: u32) -> u8
-    ensures { OfHeld ⊤ (HoldsBy stopped replica) held.old held.new result }
-{
-    match held {
-        Held::Engine(engine) => stop(engine, replica),
-        Held::Judge(_) | Held::Replica(_) => Status::Usage.code(),
-    }
-}
-
-fn stop(engine: &mut Engine, replica: u32) -> u8
-    ensures { HoldsBy stopped replica engine.old engine.new result }
-{
-    if replica >= u32::from(engine.config().replicas) {
-        return Status::Usage.code();
-    }
-    if engine.hold_of(replica as u8).stopped {
-        return STOPPED;
-    }
-    engine.stop(replica as u8);
-    Status::Done.code()
-}
-
-/// Pauses a replica: it takes no turn in the next `rounds` rounds. The status is 1 if there is no
-/// such replica, and 10 if it is stopped.
-pub fn pause_replica(alloc: Global, handle: &mut Handle, replica: u32, rounds: u32) -> u8
-    ensures { OfHandle ⊤ (HoldsBy (paused rounds) replica) handle.old.held handle.new.held
-        result }
-{
-    match taken_out(alloc, handle) {
-        Some(mut held) => {
-            let status = paused_in(&mut held, replica, rounds);
-            *handle = Handle::of(held);
-            status
-        }
-        None => Status::Usage.code(),
-    }
-}
-
-fn paused_in(held: &mut Held, replica: u32, rounds: u32) -> u8
-    ensures { OfHeld ⊤ (HoldsBy (paused rounds) replica) held.old held.new result }
-{
-    match held {
-        Held::Engine(engine) => pause(engine, replica, rounds),
-        Held::Judge(_) | Held::Replica(_) => Status::Usage.code(),
-    }
-}
-
-fn pause(engine: &mut Engine, replica: u32, rounds: u32) -> u8
-    ensures { HoldsBy (paused rounds) replica engine.old engine.new result }
-{
-    if replica >= u32::from(engine.config().replicas) {
-        return Status::Usage.code();
-    }
-    if engine.hold_of(replica as u8).stopped {
-        return STOPPED;
-    }
-    engine.pause(replica as u8, rounds);
-    Status::Done.code()
 }

@@ -9,7 +9,7 @@ ghost use Rattle.lone_words.specs.Memory.{Own};
 ghost use Rattle.mu_library.specs.Replicas.{Appends, AppendsOp, AsksNext, IsMade, MayTakeAt, MayTakeIn, OfReplica, OfReplicaIn, OpensOf, OpensReplica, StandsAt, StandsIn, TakesFound, TakesNextFound, asked_for, expected_told, kind_told, none_asked, value_told};
 
 use crate::codes::{ENDED, FULL, STRAY};
-use crate::engines::{Submitted, wanting};
+use crate::engines::wanting;
 use crate::handles::{let_go, taken_out};
 use kv_store::Op;
 use lone_replica::{Next, Refusal, Replica, Untaken};
@@ -23,6 +23,26 @@ use mu_text::Words;
 use mu_top::INPUT_LIMIT;
 use mu_words::Move;
 use std::alloc::Global;
+
+/// What became of a command that one replica was to get.
+#[derive(Clone, Copy, Debug)]
+pub struct Submitted {
+    /// 0 if it was taken; 1 if there is no such client, 2 if the line is no operation, 9 if there
+    /// may be no more, 14 if an access is under way, 6 for want of memory.
+    pub status: u8,
+    /// Its row, or 0 if it wasn't taken.
+    pub row: u16,
+}
+
+impl Submitted {
+    /// It wasn't taken.
+    fn refused(status: u8) -> Submitted
+        ensures status { result.status ≡ status }
+        ensures row { result.row ≡ 0 }
+    {
+        Submitted { status, row: 0 }
+    }
+}
 
 /// An access as a C program gets it.
 #[derive(Clone, Copy)]

@@ -1,6 +1,6 @@
 //! A reply as a caller in C gets it.
 ghost use Rattle.std.specs.Prelude.{◌≡◌};
-ghost use Rattle.mu_library.specs.Engines.{number_of_reply, text_of_reply};
+ghost use Rattle.mu_library.specs.Engines.{PutsReply, number_of_reply, text_of_reply};
 ghost use Rattle.mu_library.specs.Front.{Puts};
 
 use crate::front::put_bytes;
@@ -10,7 +10,8 @@ use mu_outcome::Status;
 /// What is told of a row.
 #[derive(Clone, Copy, Debug)]
 pub struct Replied {
-    /// 0 if a reply is told; 1 if there is no such row, 3 if there is no reply yet.
+    /// 0 if a reply is told; 3 if there is none yet. Of an engine 18 if there is no such row yet, 19 if
+    /// the row is too old, 20 if there is no engine; of a replica 1 if there is no such row.
     pub status: u8,
     /// 1 for `Done`, 2 for `Value`, 3 for `None`, 4 for `Kept`; 0 if no reply is told.
     pub reply: u8,
@@ -28,6 +29,16 @@ pub(crate) fn untold(status: u8) -> Replied
         status,
         reply: 0,
         taken: 0,
+    }
+}
+
+/// Puts a reply into the room, if it is there.
+pub(crate) fn put_told(told: &Option<Reply>, out: &mut [u8]) -> Replied
+    ensures { PutsReply told.now result.reply out.old out.new result.taken result.status }
+{
+    match told {
+        Some(reply) => put_reply(reply, out),
+        None => untold(Status::Unfinished.code()),
     }
 }
 

@@ -1,6 +1,6 @@
 //! The trace of a live engine in memory.
 ghost use Rattle.std.specs.Prelude.{◌≡◌};
-ghost use Rattle.mu_library.specs.Engines.{PutsTrace, Traces, stand_by_client};
+ghost use Rattle.mu_library.specs.Engines.{PutsTrace, TracesLive, stand_by_client};
 
 use crate::answering::{Answered, no_memory, nothing};
 use crate::codes::MIXED;
@@ -16,7 +16,7 @@ use std::alloc::Global;
 
 /// Puts the trace into the room, if a job's text has its commands in the order of the engine's.
 pub(crate) fn put_trace(alloc: Global, engine: &Engine, out: &mut [u8]) -> Answered
-    ensures { Traces out.old out.new result.taken engine.now result.status }
+    ensures { TracesLive out.old out.new result.taken engine.now result.status }
 {
     if stand_by_client(engine.commands()) {
         put_lines(alloc, engine, out)

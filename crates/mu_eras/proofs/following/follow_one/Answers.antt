@@ -1,10 +1,12 @@
-use Rattle.std.proofs.Common.{◌∙◌, ◌<◌, ap, arith, drop, length, subst}
+use Rattle.std.proofs.Common.{◌∙◌, ◌<◌, ap, arith, drop, length, subst, take}
 use Rattle.std.proofs.Math.Logic.{∥∥₁_elim}
 use Rattle.std.specs.Coded.{le_prop}
 use Rattle.mu_follow.specs.Groups.{groups_of}
-use Rattle.mu_eras.specs.Applied.{Applies}
+use Rattle.mu_model.specs.Contents.{rows_in}
+use Rattle.mu_eras.specs.Applied.{Applies, AreKept}
 use Rattle.mu_eras.specs.Holding.{handed_by}
 use Rattle.mu_eras.proofs.Handing.{few_in_all, follow_tells, followed, group_same, room_for_rest}
+use Rattle.mu_eras.proofs.Kept.{kept_on, kept_whole}
 use Rattle.mu_eras.proofs.following.follow_one.Goals as goal
 
 pub take-requires-clause-begun : goal.take-requires-clause-begun
@@ -50,3 +52,12 @@ returns-clause-tells c base held told =
     follow_tells base live c.args.r c.args.applied.now c.take.new.self c.args.replies.now c.take.new.replies c.events.ensures.moment low held
     (subst (λ l. Applies l (groups_of c.args.engine.now.job.config c.args.engine.now.job.commands (drop c.args.applied.now.entries (handed_by c.args.engine.now c.args.r))) c.args.applied.now c.take.new.self c.args.replies.now c.take.new.replies) c.commands.ensures (subst (λ g. Applies c.commands.result.now g c.args.applied.now c.take.new.self c.args.replies.now c.take.new.replies) same c.take.ensures.applies))
     told
+
+pub returns-clause-fresh : goal.returns-clause-fresh
+returns-clause-fresh c before =
+    let live = c.args.engine.now in
+    let n = c.args.applied.now.entries in
+    let log = handed_by live c.args.r in
+    let same = ap (λ k. rows_in k (drop n c.handed_by-entries.result.now)) c.config.ensures.config ∙ ap (λ l. rows_in live.job.config (drop n l)) c.handed_by-entries.ensures in
+    kept_whole live.job.config n log c.take.new.replies (kept_on (rows_in live.job.config (take n log)) c.args.replies.now c.take.new.replies c.take.ensures.applies.keeps before)
+    (subst (λ rows. AreKept rows c.take.new.replies) same c.take.ensures.fresh)

@@ -1,6 +1,7 @@
 use Rattle.std.proofs.Common.{◌+◌, ◌≤◌, ap, arith, length}
 use Rattle.std.proofs.Math.Logic.{∥∥₁_map}
 use Rattle.mu_eras.proofs.Handing.{stores_go, tells_go}
+use Rattle.mu_eras.proofs.Kept.{taken_goes}
 use Rattle.mu_eras.proofs.following.play.Goals as goal
 
 pub follow-requires-clause-holds : goal.follow-requires-clause-holds
@@ -27,3 +28,8 @@ returns-clause-tells c base held told =
     let few : length later.job.commands + later.room ≤ length live.job.commands + live.room = omega (arith, many, c.round.ensures.room) in
     c.follow.ensures.tells base (stores_go base live later c.args.stores.now c.events.ensures.moment c.events-2.ensures.moment c.round.ensures.goes few held)
     (tells_go base live later c.args.replies.now c.events.ensures.moment c.events-2.ensures.moment c.round.ensures.goes told)
+
+pub returns-clause-fresh : goal.returns-clause-fresh
+returns-clause-fresh c base held was =
+    c.follow.ensures.fresh
+    (taken_goes base c.args.engine.now c.round.new.self c.args.stores.now c.args.replies.now c.events.ensures.moment c.events-2.ensures.moment c.round.ensures.goes c.requires.there held was)

@@ -1,11 +1,15 @@
-use Rattle.std.proofs.Common.{◌≡◌, ◌∙◌, ◌+◌, ◌<◌, ◌≤◌, [], ◌∷◌, ◌++◌, None, ap, arith, inl, inr, length, subst, sym}
+use Rattle.std.proofs.Common.{◌≡◌, ◌∙◌, ◌+◌, ◌-◌, ◌<◌, ◌≤◌, [], ◌∷◌, ◌++◌, None, Some, ap, arith, inl, inr, length, subst, sym}
 use Rattle.std.proofs.lemmas.Bool.{cases_lt}
 use Rattle.std.proofs.lemmas.List.{length_push}
 use Rattle.mu_engine.specs.Laws.{order_after}
+use Rattle.std.specs.List.{slice_get}
+use Rattle.mu_model.proofs.Lists.{get_front}
 use Rattle.mu_engine.specs.Live.{Live, next_command}
+use Rattle.mu_engine.specs.Moments.{IsMoment}
 use Rattle.mu_eras.specs.Applied.{TellsOrder}
-use Rattle.mu_eras.specs.Holding.{HoldStores}
+use Rattle.mu_eras.specs.Holding.{AreFollowed, HoldStores}
 use Rattle.mu_eras.proofs.Handing.{stores_go, tells_go, tells_push}
+use Rattle.mu_eras.proofs.Kept.{followed_still}
 use Rattle.mu_eras.proofs.submitting.take_command.Goals as goal
 
 pub returns-in_err-row-clause-holds : goal.returns-in_err-row-clause-holds
@@ -36,3 +40,16 @@ returns-in_err-row-clause-held c = ap (λ (l : Live). l.holds) c.in_err-row.ensu
 
 pub returns-clause-held : goal.returns-clause-held
 returns-clause-held c = ap (λ (l : Live). l.holds) c.in_ok-row.ensures.taken
+
+pub returns-in_err-row-clause-kept : goal.returns-in_err-row-clause-kept
+returns-in_err-row-clause-kept c are = subst (λ (live : Live). AreFollowed live c.args.replies.now.items) (sym c.in_err-row.ensures.refused) are
+
+pub returns-clause-kept : goal.returns-clause-kept
+returns-clause-kept c are =
+    let live = c.args.engine.now in
+    let command = next_command live.job c.args.client c.args.op in
+    let taken = c.in_ok-row.ensures.taken in
+    subst (λ (l : Live). AreFollowed l c.push_reserved.new.self.items) (sym taken)
+    (followed_still live command (live.room - 1) c.args.replies.now.items c.push_reserved.new.self.items c.events.ensures.moment
+    (subst (λ (l : Live). IsMoment l.job l.events) taken c.events-2.ensures.moment)
+    (λ row is. record { reply = is.reply; at = ap (λ l. slice_get l row) c.push_reserved.ensures.items ∙ get_front c.args.replies.now.items (None ∷ []) row (Some is.reply) is.at }) are)

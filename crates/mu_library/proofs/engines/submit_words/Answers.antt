@@ -13,4 +13,4 @@ returns-in-Ok c =
 pub returns-in-Err : goal.returns-in-Err
 returns-in-Err c =
     let all = ap operation_of (c.as_slice.ensures ∙ c.of.ensures) ∙ operation-take (words c.args.line.now) in
-    refuses_wrong c.args.client c.args.line.now _ _ _ _ _ (omega arith) (sym all ∙ c.in-Err.ensures.reading) (c.refused-in-Err.ensures.status ∙ c.code-in-Err.ensures) c.refused-in-Err.ensures.row refl
+    refuses_wrong c.args.client c.args.line.now _ _ _ _ _ (omega arith) (sym all ∙ c.in-Err.ensures.reading) (c.refused-in-Err.ensures.status ∙ c.code.ensures) c.refused-in-Err.ensures.row refl

@@ -1,5 +1,4 @@
 use Rattle.std.proofs.Common.{refl, subst, sym, ◌≡◌}
-use Rattle.std.specs.Prelude.{⊤}
 use Rattle.mu_handle.specs.declared.holding.Held.{Held}
 use Rattle.mu_library.specs.Replicas.{Appends, OfReplicaIn}
 use Rattle.mu_library.proofs.replicas.appended_to.Goals as goal

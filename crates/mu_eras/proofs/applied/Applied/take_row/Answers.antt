@@ -5,11 +5,23 @@ use Rattle.std.proofs.lemmas.Option.{slice_get-get_or}
 use Rattle.kv_store.specs.Commands.{Request}
 use Rattle.kv_store.specs.Tables.{reply_to, table_after}
 use Rattle.mu_model.proofs.Basics.{same_some}
+use Rattle.mu_model.proofs.Lists.{get_set_here}
 use Rattle.mu_eras.proofs.Applying.{applies_one}
 use Rattle.mu_eras.proofs.applied.Applied.take_row.Goals as goal
 
-pub returns : goal.returns
-returns c command at =
+pub returns-clause-kept : goal.returns-clause-kept
+returns-clause-kept c =
+    let replies = c.args.replies.now in
+    let put = Some c.apply-reply.result in
+    record {
+      reply = c.apply-reply.result;
+      at =
+          ap (slice_get (set replies c.from-2.result put)) (sym c.from-2.ensures)
+          ∙ get_set_here replies c.from-2.result put (omega (arith, c.from-2.ensures, c.requires.row, c.requires.count));
+    }
+
+pub returns-clause-applies : goal.returns-clause-applies
+returns-clause-applies c command at =
     let commands = c.args.commands.now in
     let replies = c.args.replies.now in
     let table = c.args.self.now.store.table in

@@ -48,6 +48,7 @@ returns-in_err-make_room-clause-kept c =
       space = held.space;
       stores = subst (λ (l : List Applied). HoldStores base live l) (sym back) roomy;
       told = held.told;
+      kept = held.kept;
     })
 
 pub hold_as-requires : goal.hold_as-requires
@@ -105,4 +106,4 @@ returns-clause-next c past held =
     (subst (λ (l : List Applied). HoldStores after d.engine l) (sym back_two)
     (next_stores base after live c.hand_over.new.stores d.engine c.args.shape live.holds (k - length live.job.commands) ended (store_going_on (order_of past) (order_after live.job live.events)) left
     (omega (arith, c.is_within_limits.ensures.few, c.from.ensures)) live_is))
-    c.clear.ensures.items
+    c.clear.ensures.items (ap (λ (l : Live). l.events) live_is)

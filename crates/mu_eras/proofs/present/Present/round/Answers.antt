@@ -9,7 +9,7 @@ use Rattle.mu_engine.specs.Laws.{order_after}
 use Rattle.mu_engine.specs.Live.{after_round}
 use Rattle.mu_eras.specs.Applied.{IsKept, TellsOrder}
 use Rattle.mu_eras.specs.Eras.{order_of}
-use Rattle.mu_eras.specs.Holding.{HoldStores}
+use Rattle.mu_eras.specs.Holding.{AreFollowed, HoldStores}
 use Rattle.mu_eras.specs.declared.applied.Applied.{Applied}
 use Rattle.mu_eras.proofs.present.Present.round.Goals as goal
 
@@ -68,4 +68,7 @@ returns-clause-holds c past held =
       told =
           subst (λ (l : List (Option Reply)). TellsOrder base c.play.new.engine.job.commands (order_after c.play.new.engine.job c.play.new.engine.events) l) (sym back_told)
           (c.play.ensures.tells base stores told);
+      kept =
+          subst (λ (l : List (Option Reply)). AreFollowed c.play.new.engine l) (sym back_told)
+          (c.play.ensures.fresh base stores (subst (λ (l : List (Option Reply)). AreFollowed live l) (sym c.as_mut_slice-2.ensures.value) held.kept));
     }

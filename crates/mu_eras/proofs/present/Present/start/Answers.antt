@@ -3,6 +3,7 @@ use Rattle.std.proofs.lemmas.List.{length-replicate}
 use Rattle.kv_store.specs.Tables.{store}
 use Rattle.mu_engine.specs.Laws.{order_after}
 use Rattle.mu_engine.specs.Live.{Live, free}
+use Rattle.mu_eras.proofs.Kept.{followed_none}
 use Rattle.mu_eras.proofs.Presents.{stores_first, tells_none}
 use Rattle.mu_eras.proofs.present.Present.start.Goals as goal
 
@@ -39,4 +40,5 @@ returns-clause-holds c =
       space = omega (arith, none, room, c.in_ok-replies.ensures.capacity, c.from-room.ensures);
       stores = stores_first live c.from-room.result c.in_ok-stores.stores.items commands (omega (arith, room, c.from-room.ensures)) c.in_ok-stores.ensures.each;
       told = tells_none (store []) live.job.commands (order_after live.job live.events) c.in_ok-replies.replies.items c.in_ok-replies.ensures.items;
+      kept = followed_none live c.in_ok-replies.replies.items (ap (λ (l : Live). l.events) first);
     }

@@ -21,4 +21,5 @@ returns-clause-holds c past held = record {
   space = c.take_command.ensures.space;
   stores = c.take_command.ensures.holds (store (order_of past)) c.args.self.now.stores.items held.stores;
   told = c.take_command.ensures.tells (store (order_of past)) held.told;
+  kept = c.take_command.ensures.kept held.kept;
 }

@@ -1,0 +1,5 @@
+use Rattle.mu_library.proofs.OfCalls.{of_engine}
+use Rattle.mu_library.proofs.engines.submitted_to.Goals as goal
+
+pub returns-in-Engine : goal.returns-in-Engine
+returns-in-Engine c = of_engine _ _ _ _ _ _ c.in-Engine.is c.submit_words.ensures

@@ -1,0 +1,5 @@
+use Rattle.mu_library.proofs.OfCalls.{of_engine}
+use Rattle.mu_library.proofs.rounds.waited_in.Goals as goal
+
+pub returns-in-Engine : goal.returns-in-Engine
+returns-in-Engine c = of_engine _ _ _ _ _ _ c.in-Engine.is c.reply_in_time.ensures

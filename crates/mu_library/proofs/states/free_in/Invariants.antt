@@ -1,0 +1,9 @@
+use Rattle.std.proofs.Common.{◌≡◌, ◌≤◌, ◌-◌, drop}
+use Rattle.mu_library.specs.States.{count_free}
+use Rattle.mu_library.proofs.states.free_in.Given as goal
+
+abbrev pub invariant-loop-k : goal.invariant-loop-k
+invariant-loop-k l = record {
+  few : l.free ≤ l.k;
+  free : l.free ≡ count_free (drop (l.replicas - l.k) l.engine.holds);
+}
