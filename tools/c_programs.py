@@ -18,7 +18,8 @@ FOLDER = os.path.join(TOP, "out", "c")
 # What ./library leaves, and of which sources it is.
 PROVED, PROVED_MARK = os.path.join(TOP, "out", "libmu.a"), os.path.join(TOP, "out", "libmu.sum")
 # The folders of each program, and what it is linked with.
-PARTS = {"mu_processes": (["processes", "shared"], []), "mu_fabric": (["fabric", "shared"], ["-lfabric"])}
+PARTS = {"mu_processes": (["processes", "shared"], []), "mu_fabric": (["fabric", "shared"], ["-lfabric"]),
+         "mu_server": (["server"], [])}
 # The compiler's words; an access of a traced run is one step of sixteen bytes.
 FLAGS = ["-std=c11", "-O2", "-mcx16"]
 WARNINGS = ["-Wall", "-Wextra", "-Wconversion"]

@@ -28,12 +28,14 @@ FOLDER = os.path.join(TOP, "out", "unproved", "library")
 EXPORT = re.compile(r'pub extern "C" fn (\w+)\((.*?)\)', re.S)
 # What the test hands to a parameter of each type.
 GIVEN = {"Global": "alloc", "u32": "0", "&[u8]": "&[]", "&mut [u8]": "out.as_mut_slice()", "&mut usize": "&mut taken",
-         "&mut u32": "&mut number_{}", "&mut Handle": "&mut handle", "u64": "0", "&mut Operation": "&mut operation"}
+         "&mut u32": "&mut number_{}", "&mut Handle": "&mut handle", "u64": "0", "&mut Operation": "&mut operation",
+         "&mut ServerHandle": "&mut server"}
 TEST = """
 #[test]
 fn each_export_is_made(rt: HostRuntime) {
     let alloc = rt.alloc();
     let mut handle = Handle::none(alloc);
+    let mut server = held_server::Handle::none(alloc);
     let mut out = [0u8; 8];
     let mut taken = 0usize;
     let (mut number_0, mut number_1, mut number_2, mut number_3, mut number_4) = (0u32, 0u32, 0u32, 0u32, 0u32);
@@ -48,18 +50,17 @@ def copy_with_test(folder):
     shutil.copytree(CRATES, os.path.join(folder, "crates"), symlinks=True,
                     ignore=shutil.ignore_patterns("out", "must-fail", "edits", "stdin", "stdout"))
     crate = os.path.join(folder, "crates", CRATE)
-    path = os.path.join(crate, "src", "lib.rt")
-    with open(path, encoding="utf-8") as source:
-        text = source.read()
     calls, names = "", []
-    for name, parameters in EXPORT.findall(text):
-        kinds = [it.split(": ")[1].strip() for it in parameters.split(",") if ":" in it]
-        # Each number that a call writes is another.
-        given = (GIVEN[it].format(kinds[:at].count(it)) for at, it in enumerate(kinds))
-        calls += f"    {name}({', '.join(given)});\n"
-        names.append(name)
-    with open(path, "w", encoding="utf-8") as source:
-        source.write(text + TEST.replace("CALLS", calls))
+    for file in sorted(os.listdir(os.path.join(crate, "src"))):
+        module = "" if file == "lib.rt" else file[:-3] + "::"
+        for name, parameters in EXPORT.findall(contents(os.path.join(crate, "src", file)).decode()):
+            kinds = [it.split(": ")[1].strip() for it in parameters.split(",") if ":" in it]
+            # Each number that a call writes is another.
+            given = (GIVEN[it].format(kinds[:at].count(it)) for at, it in enumerate(kinds))
+            calls += f"    {module}{name}({', '.join(given)});\n"
+            names.append((module, name))
+    with open(os.path.join(crate, "src", "lib.rt"), "a", encoding="utf-8") as source:
+        source.write(TEST.replace("CALLS", calls))
     return crate, names
 
 
@@ -77,9 +78,10 @@ def object_of(room, is_checked):
         module = read.read()
     if not is_checked:
         module = unproved_build.trusting(module)
-    named = "|".join(names)
-    module = re.sub(rf'define internal (.*?)@"{CRATE}::({named})"\(', r"define \1@\2(", module)
-    module = re.sub(rf'@"{CRATE}::({named})"', r"@\1", module)
+    for part in {part for part, _ in names}:
+        named = "|".join(name for at, name in names if at == part)
+        module = re.sub(rf'define internal (.*?)@"{CRATE}::{part}({named})"\(', r"define \1@\2(", module)
+        module = re.sub(rf'@"{CRATE}::{part}({named})"', r"@\1", module)
     module = re.sub(r"^define ([^\n]*?)@main\(", r"define \1@rattle_try_main(", module, flags=re.M)
     with open(text, "w", encoding="utf-8", errors="surrogateescape") as written:
         written.write(module)

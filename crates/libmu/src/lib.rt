@@ -14,6 +14,8 @@ ghost use Rattle.mu_library.specs.declared.shown.Show.{Show as SomeShow};
 ghost use Rattle.mu_model.specs.declared.config.Config.{Config};
 ghost use Rattle.mu_library.specs.Engines.{Asks, HoldsBy, IsUntold, OfHandle, OpensEngine, PlaysRound, Replies, Submits, Traces};
 
+mod servers;
+
 use mu_handle::Handle;
 use mu_library::{
     Asked, Show, answer, append_line, draw, judge_answer, last_event, let_go, next_access,
