@@ -87,6 +87,8 @@ static bool take_on(struct clients *clients, struct client *client)
     if (got < 0)
         return errno == EAGAIN || errno == EINTR;
     client->is_over = got == 0;
+    if (client->is_over)
+        return true;
     mu_server_take(&clients->server, client->number, in, (size_t)got, &taken);
     return taken == (size_t)got; /* all, unless there was no memory */
 }

@@ -1,5 +1,5 @@
 //! How a server begins and ends.
-ghost use Rattle.std.specs.Prelude.{◌≡◌, ◌⊎◌, ◌×◌, IfOk, None, Some};
+ghost use Rattle.std.specs.Prelude.{◌≡◌, ◌⊎◌, IfOk, None, Some};
 ghost use Rattle.std.specs.Option.{MatchOption};
 ghost use Rattle.mu_engine.specs.Shapes.{HasLimits};
 ghost use Rattle.held_server.specs.Servers.{IsFresh, MayHave, OpensServer};
