@@ -5,6 +5,7 @@
 #include <errno.h>
 #include <netinet/in.h>
 #include <netinet/tcp.h>
+#include <stdio.h>
 #include <stdlib.h>
 #include <sys/epoll.h>
 #include <sys/socket.h>
@@ -20,6 +21,20 @@ struct client {
     size_t from, to;
     char out[MU_SERVER_PIECE];
 };
+
+void need(bool is_well, const char *what)
+{
+    if (is_well)
+        return;
+    perror(what);
+    exit(70);
+}
+
+void ask(const struct clients *clients, int how, int fd, uint32_t events, void *who)
+{
+    struct epoll_event event = { .events = events, .data.ptr = who };
+    need(fd >= 0 && epoll_ctl(clients->poll, how, fd, &event) == 0, "epoll_ctl");
+}
 
 static void swap_to(struct clients *clients, struct client *client, int place)
 {
@@ -49,13 +64,12 @@ static bool begin(struct clients *clients, int fd)
 {
     int one = 1;
     struct client *client = clients->count < MU_SERVER_CONNECTIONS ? calloc(1, sizeof *client) : NULL;
-    struct epoll_event event = { .events = EPOLLIN, .data.ptr = client };
     if (client == NULL || mu_server_open(&clients->server, &client->number) != MU_DONE) {
         free(client);
         return false;
     }
     setsockopt(fd, IPPROTO_TCP, TCP_NODELAY, &one, sizeof one);
-    need(epoll_ctl(clients->poll, EPOLL_CTL_ADD, fd, &event) == 0, "epoll_ctl");
+    ask(clients, EPOLL_CTL_ADD, fd, EPOLLIN, client);
     client->fd = fd;
     client->asked = EPOLLIN;
     client->place = clients->count++;
@@ -87,9 +101,8 @@ static bool take_on(struct clients *clients, struct client *client)
     if (got < 0)
         return errno == EAGAIN || errno == EINTR;
     client->is_over = got == 0;
-    if (client->is_over)
-        return true;
-    mu_server_take(&clients->server, client->number, in, (size_t)got, &taken);
+    if (got > 0)
+        mu_server_take(&clients->server, client->number, in, (size_t)got, &taken);
     return taken == (size_t)got; /* all, unless there was no memory */
 }
 
@@ -114,13 +127,12 @@ static bool give_on(struct clients *clients, struct client *client)
 /* Serves a connection as far as it goes. Whether it goes on; whether the server has something to do for it at once. */
 static bool serve(struct clients *clients, struct client *client, bool *is_due)
 {
-    struct epoll_event event = { .data.ptr = client };
-    uint32_t state = 0;
+    uint32_t state = 0, events = 0;
     if (!give_on(clients, client))
         return false;
     mu_server_state(&clients->server, client->number, &state);
     if (client->from != client->to)
-        event.events |= EPOLLOUT;
+        events |= EPOLLOUT;
     else if (state & MU_SERVER_ENDS || (client->is_over && state & MU_SERVER_RESTS))
         return false;
     else if (state & MU_SERVER_RESTS)
@@ -128,10 +140,10 @@ static bool serve(struct clients *clients, struct client *client, bool *is_due)
     else
         *is_due = true;
     if (state & MU_SERVER_TAKES && !client->is_over)
-        event.events |= EPOLLIN;
-    if (event.events != client->asked)
-        need(epoll_ctl(clients->poll, EPOLL_CTL_MOD, client->fd, &event) == 0, "epoll_ctl");
-    client->asked = event.events;
+        events |= EPOLLIN;
+    if (events != client->asked)
+        ask(clients, EPOLL_CTL_MOD, client->fd, events, client);
+    client->asked = events;
     return true;
 }
 
@@ -153,11 +165,4 @@ bool serve_active(struct clients *clients)
         if (!serve(clients, clients->all[k], &is_due))
             let_go(clients, clients->all[k]);
     return is_due;
-}
-
-void hear_no_more(struct clients *clients)
-{
-    for (int k = 0; k < clients->count; k++)
-        clients->all[k]->is_over = true;
-    clients->active = clients->count;
 }

@@ -1,4 +1,4 @@
-/* clients.h: connections, whose bytes go to a server (mu_server.h) and come from it; what listens for them. */
+/* clients.h: connections, whose bytes go to a server (mu_server.h) and come from it. */
 #ifndef CLIENTS_H
 #define CLIENTS_H
 
@@ -24,15 +24,8 @@ void serve_events(struct clients *clients, struct client *client, uint32_t event
 /* Sends what is to be sent. Whether for some client the server has something to do at once. */
 bool serve_active(struct clients *clients);
 
-/* Reads nothing more of any. */
-void hear_no_more(struct clients *clients);
-
-/* A socket that listens at an address and a port, "0" for any that is free, which goes to `*bound`; or -1, and a line
- * on standard error. */
-int listener_at(const char *address, const char *port, unsigned *bound);
-
-/* A descriptor that can be read once SIGTERM or SIGINT came. */
-int told_of_ends(void);
+/* Waits for these events of a descriptor; `how` is as epoll_ctl has it. */
+void ask(const struct clients *clients, int how, int fd, uint32_t events, void *who);
 
 /* Ends the program with a line on standard error, unless a call of the system went well. */
 void need(bool is_well, const char *what);

@@ -1,6 +1,6 @@
 //! The calls on a server that a C program holds.
 ghost use Rattle.std.specs.Prelude.{◌≡◌, ⊤};
-ghost use Rattle.held_server.specs.Servers.{Closes, Gives, OfServer, OpensOne, Plays, States, Takes, code_of_state};
+ghost use Rattle.held_server.specs.Servers.{Closes, Gives, OfServer, OpensOne, Plays, States, Takes, bit, code_of_state};
 
 use crate::codes::FULL;
 use crate::handle::Handle;
@@ -141,12 +141,12 @@ fn state_in(held: &Held, number: u32) -> Told
 fn code_of(state: &State) -> u32
     ensures { result ≡ code_of_state state.now }
 {
-    bit(1, state.takes) + bit(2, state.gives) + bit(4, state.ends) + bit(8, state.rests)
+    worth(1, state.takes) + worth(2, state.gives) + worth(4, state.ends) + worth(8, state.rests)
 }
 
-/// What a flag is worth.
-fn bit(worth: u32, is: bool) -> u32
-    ensures { result ≡ if is then worth else 0 }
+/// What a flag adds.
+fn worth(worth: u32, is: bool) -> u32
+    ensures { result ≡ bit worth is }
 {
     if is { worth } else { 0 }
 }
