@@ -90,8 +90,8 @@ fn given_by(held: &mut Held, number: u32, out: &mut [u8]) -> Moved
     Moved::of(held.server.give(number, out))
 }
 
-/// Reads what connections sent, and plays rounds while a command waits, but at most so many. Tells 1
-/// if one still waits, or a request for room in the store. The status is 6 for want of memory.
+/// Reads what connections sent, and plays rounds while a command waits, but at most so many. Tells
+/// 1 if one still waits, or a request for room in the store. The status is 6 for want of memory.
 pub fn play_rounds(alloc: Global, handle: &mut Handle, rounds: u32) -> Told
     ensures { OfServer (result.number ≡ 0) (Plays result.number)
         handle.old.held handle.new.held result.status }

@@ -19,8 +19,8 @@ use std::mem::replace;
 /// How many commands an era has.
 const ERA_COMMANDS: u16 = 100;
 
-/// How many places a log has: one for each command of an era, and two for each replica; no fewer, so
-/// that none is used twice in an era.
+/// How many places a log has: one for each command of an era, and two for each replica; no fewer,
+/// so that none is used twice in an era.
 const RING: u16 = 128;
 
 /// How many steps a replica may take in an era. The next one begins after half as many rounds.

@@ -20,11 +20,7 @@ pub extern "C" fn mu_server_renew(alloc: Global, server: &mut ServerHandle, repl
 
 /// Opens a connection, and tells its number.
 #[unsafe(no_mangle)]
-pub extern "C" fn mu_server_open(
-    alloc: Global,
-    server: &mut ServerHandle,
-    number: &mut u32,
-) -> u32
+pub extern "C" fn mu_server_open(alloc: Global, server: &mut ServerHandle, number: &mut u32) -> u32
     ensures { OfServer (number.new ≡ 0) (OpensOne number.new)
         server.old.held server.new.held result }
 {
