@@ -17,7 +17,9 @@ REFUSED = {
     "keys": b"ERR one key a command here: several keys would be several commands",
     "database": b"ERR DB index is out of range", "protocol": b"NOPROTO unsupported protocol version",
     "option": b"ERR of the options of SET only GET is here, not NX, XX or EX (see MU CAS)",
-    "stopped": b"ERR the replica is stopped",
+    "size": b"ERR no command of the store counts its keys", "stopped": b"ERR the replica is stopped",
+    "no reply": b"TRYAGAIN no reply in time; it may still be done",
+    "no room": b"TRYAGAIN no room in the log in time; it was not done",
 }
 
 
@@ -214,6 +216,18 @@ class Model:
 
     def do_quit(self, words):
         return b"+OK\r\n"
+
+    def do_mget(self, words):
+        return refusal("keys")
+
+    def do_setnx(self, words):
+        return refusal("option")
+
+    def do_dbsize(self, words):
+        return refusal("size")
+
+    do_mset = do_msetnx = do_mget
+    do_setex = do_psetex = do_setnx
 
     def do_mu(self, words):
         if not words:

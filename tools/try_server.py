@@ -111,6 +111,20 @@ def answer_from(it):
         got += more
 
 
+def answers_from(it, count):
+    """So many answers of a connection."""
+    got = b""
+    while True:
+        with contextlib.suppress(ValueError, IndexError):
+            parts = redis_model.parts_of(got)
+            if len(parts) == count and redis_model.answer_end(got, len(got) - len(parts[-1])) == len(got):
+                return parts
+        more = it.recv(1 << 16)
+        if not more:
+            return redis_model.parts_of(got)
+        got += more
+
+
 class Judge:
     """What was tried, and what was wrong."""
 
@@ -147,7 +161,8 @@ def drawn_request(draw):
         lambda: (b"MU", b"STATUS"), lambda: (b"DEL", word(), word()), lambda: (b"SET", word(), word(), b"NX"),
         lambda: (b"SELECT", draw.choice([b"0", b"1"])), lambda: (b"CONFIG", b"GET", draw.choice([b"save", b"appendonly", b"x"])),
         lambda: (b"CLIENT", draw.choice([b"SETNAME", b"ID", b"KILL"]), b"x"), lambda: (b"HELLO",), lambda: (b"INFO",),
-        lambda: (b"COMMAND", b"DOCS"), lambda: (word(), word()), lambda: (b"HELLO", b"3"), lambda: (),
+        lambda: (b"COMMAND", b"DOCS"), lambda: (draw.choice([b"MGET", b"MSET", b"MSETNX", b"SETNX", b"SETEX", b"PSETEX", b"DBSIZE"]), word()),
+        lambda: (word(), word()), lambda: (b"HELLO", b"3"), lambda: (),
         lambda: (b"MU", b"PAUSE", draw.choice([b"0", b"2", b"3"]), draw.choice([b"1", b"40", b"0", b"x"])),
     ])()
 
@@ -373,7 +388,12 @@ def without_majority(server, judge_):
         it.sendall(request(b"MU", b"STOP", b"1"))
         judge_.expect("MU STOP again", answer_from(it), redis_model.refusal("stopped"))
         other.sendall(request(b"SET", b"m", b"1"))
-        judge_.expect("SET without a majority", answer_from(other), b"-TRYAGAIN no reply in time; it may still be done\r\n")
+        judge_.expect("SET without a majority", answer_from(other), redis_model.refusal("no reply"))
+        other.sendall(request(b"SET", b"m", b"1") * 150)
+        told = answers_from(other, 150)
+        late = told.count(redis_model.refusal("no reply"))
+        judge_.expect("150 without a majority", (told, late < 100),
+                      ([redis_model.refusal("no reply")] * late + [redis_model.refusal("no room")] * (150 - late), True))
         it.sendall(request(b"MU", b"BACK", b"1"))
         judge_.expect("MU BACK", answer_from(it), b"+OK\r\n")
         other.sendall(request(b"GET", b"m"))
@@ -384,8 +404,9 @@ def without_majority(server, judge_):
 
 def with_cli(server, judge_):
     """redis-cli, as a person types into it."""
-    asked = b"set cli 7\nget cli\nmu stop 0\nget cli\nmu back 0\nmu cas cli 7 8\nstrlen cli\ndel cli\nset a b nx\nmget a b\n"
-    wanted = [b"OK", b"7", b"OK", b"7", b"OK", b"OK", b"1", b"1", redis_model.REFUSED["option"], redis_model.REFUSED["unknown"]]
+    asked = b"set cli 7\nget cli\nmu stop 0\nget cli\nmu back 0\nmu cas cli 7 8\nstrlen cli\ndel cli\nset a b nx\nmget a b\ndbsize\nhi\n"
+    wanted = [b"OK", b"7", b"OK", b"7", b"OK", b"OK", b"1", b"1", redis_model.REFUSED["option"], redis_model.REFUSED["keys"],
+              redis_model.REFUSED["size"], redis_model.REFUSED["unknown"]]
     for more in ([], ["-3"]):
         run = subprocess.run(["redis-cli", "-p", str(server.port), *more], input=asked, capture_output=True, check=False, timeout=LONGEST)
         judge_.expect(f"redis-cli {' '.join(more)}", [line for line in run.stdout.splitlines() if line], wanted)

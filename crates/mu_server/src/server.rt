@@ -136,17 +136,15 @@ impl<S: OrderedStore> Server<S> {
         self.read()
     }
 
-    /// Whether something may be told, or may be read that had to wait.
+    /// Whether something may be told, or may be read that had to wait. While a command waits for its
+    /// reply, the store makes no room.
     fn is_due(&self) -> bool {
-        if self.is_full {
-            return true;
-        }
         match self.next {
             Some(waiting) => {
                 self.rounds.saturating_sub(waiting.since) > WAIT_ROUNDS
                     || self.store.reply_to(waiting.row).is_some()
             }
-            None => false,
+            None => self.is_full,
         }
     }
 
