@@ -2,7 +2,7 @@
 ghost use Rattle.std.specs.Prelude.{◌≡◌, ◌⊎◌, IfOk, None, Some};
 ghost use Rattle.std.specs.Option.{MatchOption};
 ghost use Rattle.mu_engine.specs.Shapes.{HasLimits};
-ghost use Rattle.held_server.specs.Servers.{IsFresh, MayHave, OpensServer};
+ghost use Rattle.held_server.specs.Servers.{IsFresh, OpensServer};
 ghost use Rattle.held_server.specs.declared.holding.Held.{Held as SomeHeld};
 
 use crate::codes::MOST_REPLICAS;
