@@ -38,6 +38,8 @@ FULL = b"-ERR max number of clients reached\r\n"
 MOST_CONNECTIONS = 1024
 # What one connection may take of memory, in bytes, in the server and in the program: docs/SERVER.md has the formula.
 MOST_OF_ONE = 180_000
+# The same of a key, at three replicas.
+MOST_OF_KEY = 1_200
 
 
 class Server:
@@ -507,6 +509,9 @@ def memory(program, judge_):
         judge_.expect("memory of one connection", (server.resident() - before) // len(many) < MOST_OF_ONE, True)
         for it in many:
             it.close()
+        before, count = server.resident(), 60_000
+        server.told([b"".join(request(b"SET", b"key:%d" % k, b"y" * 64) for k in range(count))])
+        judge_.expect("memory of one key", (server.resident() - before) // count < MOST_OF_KEY, True)
 
 
 def short_parts(program, judge_, folder):

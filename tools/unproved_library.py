@@ -28,8 +28,7 @@ FOLDER = os.path.join(TOP, "out", "unproved", "library")
 EXPORT = re.compile(r'pub extern "C" fn (\w+)\((.*?)\)', re.S)
 # What the test hands to a parameter of each type.
 GIVEN = {"Global": "alloc", "u32": "0", "&[u8]": "&[]", "&mut [u8]": "out.as_mut_slice()", "&mut usize": "&mut taken",
-         "&mut u32": "&mut number_{}", "&mut Handle": "&mut handle", "u64": "0", "&mut Operation": "&mut operation",
-         "&mut ServerHandle": "&mut server"}
+         "&mut u32": "&mut number_{}", "&mut Handle": "&mut handle", "u64": "0", "&mut Operation": "&mut operation"}
 TEST = """
 #[test]
 fn each_export_is_made(rt: HostRuntime) {
@@ -42,6 +41,7 @@ fn each_export_is_made(rt: HostRuntime) {
     let mut operation = Operation { value: 0, expected: 0, kind: 0, host: 0, place: 0, reserved: 0 };
 CALLS}
 """
+GIVEN["&mut ServerHandle"] = "&mut server"
 
 
 def copy_with_test(folder):
@@ -50,17 +50,21 @@ def copy_with_test(folder):
     shutil.copytree(CRATES, os.path.join(folder, "crates"), symlinks=True,
                     ignore=shutil.ignore_patterns("out", "must-fail", "edits", "stdin", "stdout"))
     crate = os.path.join(folder, "crates", CRATE)
+    sources = os.path.join(crate, "src")
+    texts = {}
+    for name in os.listdir(sources):
+        with open(os.path.join(sources, name), encoding="utf-8") as source:
+            texts[name.removesuffix(".rt")] = source.read()
+    path, text = os.path.join(sources, "lib.rt"), texts["lib"]
     calls, names = "", []
-    for file in sorted(os.listdir(os.path.join(crate, "src"))):
-        module = "" if file == "lib.rt" else file[:-3] + "::"
-        for name, parameters in EXPORT.findall(contents(os.path.join(crate, "src", file)).decode()):
-            kinds = [it.split(": ")[1].strip() for it in parameters.split(",") if ":" in it]
-            # Each number that a call writes is another.
-            given = (GIVEN[it].format(kinds[:at].count(it)) for at, it in enumerate(kinds))
-            calls += f"    {module}{name}({', '.join(given)});\n"
-            names.append((module, name))
-    with open(os.path.join(crate, "src", "lib.rt"), "a", encoding="utf-8") as source:
-        source.write(TEST.replace("CALLS", calls))
+    for module, name, parameters in ((it, *found) for it in sorted(texts) for found in EXPORT.findall(texts[it])):
+        kinds = [it.split(": ")[1].strip() for it in parameters.split(",") if ":" in it]
+        # Each number that a call writes is another.
+        given = (GIVEN[it].format(kinds[:at].count(it)) for at, it in enumerate(kinds))
+        calls += f"    {'' if module == 'lib' else f'{module}::'}{name}({', '.join(given)});\n"
+        names.append(name)
+    with open(path, "w", encoding="utf-8") as source:
+        source.write(text + TEST.replace("CALLS", calls))
     return crate, names
 
 
@@ -78,10 +82,9 @@ def object_of(room, is_checked):
         module = read.read()
     if not is_checked:
         module = unproved_build.trusting(module)
-    for part in {part for part, _ in names}:
-        named = "|".join(name for at, name in names if at == part)
-        module = re.sub(rf'define internal (.*?)@"{CRATE}::{part}({named})"\(', r"define \1@\2(", module)
-        module = re.sub(rf'@"{CRATE}::{part}({named})"', r"@\1", module)
+    named = "|".join(names)
+    module = re.sub(rf'define internal (.*?)@"{CRATE}::(?:\w+::)?({named})"\(', r"define \1@\2(", module)
+    module = re.sub(rf'@"{CRATE}::(?:\w+::)?({named})"', r"@\1", module)
     module = re.sub(r"^define ([^\n]*?)@main\(", r"define \1@rattle_try_main(", module, flags=re.M)
     with open(text, "w", encoding="utf-8", errors="surrogateescape") as written:
         written.write(module)

@@ -1,6 +1,6 @@
 -- of a server, opens server, opens, takes, gives, plays, states, closes: what each call makes of a
 -- server that a C program holds, and what it tells.
-use Rattle.std.specs.Prelude.{ℕ, ◌≡◌, ◌≤◌, ◌+◌, ◌*◌, ◌⊎◌, Bool, true, if◌then◌else◌, List, [], length, take, None, Some}
+use Rattle.std.specs.Prelude.{ℕ, ◌≡◌, ◌≤◌, ◌+◌, ◌⊎◌, Bool, true, if◌then◌else◌, List, [], length, take, None, Some}
 use Rattle.std.specs.List.{slice_get}
 use Rattle.std.specs.declared.option.Option.{Option}
 use Rattle.mu_outcome.specs.Statuses.{code_of}
