@@ -1,6 +1,6 @@
-/* The three calls of mu.h that begin something. The proved ones put it in place of what a handle has;
+/* The calls of mu.h and mu_server.h that begin something. The proved ones put it in place of what a handle has;
  * these make a handle of whatever bytes are there first, so they read none of them. */
-#include "mu.h"
+#include "mu_server.h"
 
 uint32_t mu_judge_renew(mu_judge *judge, const void *job, size_t length, void *out, size_t room,
                         size_t *taken);
@@ -8,6 +8,7 @@ uint32_t mu_engine_renew(mu_engine *engine, uint32_t replicas, uint32_t places, 
                          uint32_t commands);
 uint32_t mu_replica_renew(mu_replica *replica, const void *job, size_t length, uint32_t id,
                           uint32_t eager, uint32_t room);
+uint32_t mu_server_renew(mu_server *server, uint32_t replicas);
 
 uint32_t mu_judge_new(mu_judge *judge, const void *job, size_t length, void *out, size_t room,
                       size_t *taken)
@@ -28,4 +29,10 @@ uint32_t mu_replica_new(mu_replica *replica, const void *job, size_t length, uin
 {
     replica->at = NULL;
     return mu_replica_renew(replica, job, length, id, eager, room);
+}
+
+uint32_t mu_server_new(mu_server *server, uint32_t replicas)
+{
+    server->at = NULL;
+    return mu_server_renew(server, replicas);
 }

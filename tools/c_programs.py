@@ -7,6 +7,7 @@ import sys
 import tempfile
 import time
 
+import try_server
 import unproved
 import unproved_library
 from own_traces import c_compiler
@@ -18,7 +19,8 @@ FOLDER = os.path.join(TOP, "out", "c")
 # What ./library leaves, and of which sources it is.
 PROVED, PROVED_MARK = os.path.join(TOP, "out", "libmu.a"), os.path.join(TOP, "out", "libmu.sum")
 # The folders of each program, and what it is linked with.
-PARTS = {"mu_processes": (["processes", "shared"], []), "mu_fabric": (["fabric", "shared"], ["-lfabric"])}
+PARTS = {"mu_processes": (["processes", "shared"], []), "mu_fabric": (["fabric", "shared"], ["-lfabric"]),
+         "mu_server": (["server"], [])}
 # The compiler's words; an access of a traced run is one step of sixteen bytes.
 FLAGS = ["-std=c11", "-O2", "-mcx16"]
 WARNINGS = ["-Wall", "-Wextra", "-Wconversion"]
@@ -166,10 +168,26 @@ def compiled(name, library):
     return path
 
 
-def sanitized(name):
-    """Runs a program that the sanitizers watch, with a kill and a trace: what is wrong, or None; and what is left out."""
-    library = library_for(name)
+def watched_run(path, room):
+    """What is wrong with a run by processes, with a kill and a trace; None if nothing is."""
     job = os.path.join(TOP, "examples", "put-and-get.job")
+    done = subprocess.run([path, job, "kill", "leader@#1", "trace", os.path.join(room, "trace"), "moments"],
+                          capture_output=True, text=True, check=False)
+    lines = [line for line in done.stderr.splitlines() if "anitizer" in line or "runtime error" in line]
+    if lines or done.returncode not in (0, 3):
+        return f"status {done.returncode}, {lines[0] if lines else done.stderr[-200:]}"
+    return None
+
+
+def watched_server(path, _):
+    """What is wrong with a server; None if nothing is. One that the sanitizers end answers nobody."""
+    wrong = try_server.tried(path).wrong
+    return wrong[0] if wrong else None
+
+
+def sanitized(name):
+    """Runs a program that the sanitizers watch: what is wrong, or None; and what is left out."""
+    library = library_for(name)
     if library is None:
         return f"{name} with sanitizers: there is no library", None
     with tempfile.TemporaryDirectory(prefix="sanitized-") as room:
@@ -177,12 +195,8 @@ def sanitized(name):
         words = words_for(name, c_compiler(), library, path, SANITIZED)
         if subprocess.run(words, capture_output=True, check=False).returncode:
             return None, f"{name} with sanitizers, which the compiler lacks"
-        done = subprocess.run([path, job, "kill", "leader@#1", "trace", os.path.join(room, "trace"), "moments"],
-                              capture_output=True, text=True, check=False)
-        lines = [line for line in done.stderr.splitlines() if "anitizer" in line or "runtime error" in line]
-        if lines or done.returncode not in (0, 3):
-            return f"{name} with sanitizers: status {done.returncode}, {lines[0] if lines else done.stderr[-200:]}", None
-    return None, None
+        wrong = (watched_server if name == "mu_server" else watched_run)(path, room)
+    return (f"{name} with sanitizers: {wrong}" if wrong else None), None
 
 
 def main():

@@ -27,6 +27,7 @@ import figures
 import made_cases
 import own_traces
 import pages
+import redis_model
 import refused_memory
 import rules
 import second_judge
@@ -35,6 +36,7 @@ import stop_jobs
 import surface
 import talks
 import try_processes
+import try_server
 import trying
 from beginning import begin
 from judged_table import judged
@@ -146,6 +148,25 @@ def tells_runs_of_processes():
     for there, other in (("2 1.1 swap a 7\nlog", "log"), ("1.1 value 5", "1.1 none"), ("commits 2 finished", "commits 2 running"),
                          ("stopped\n0 0.1 put a 5\n0 0.2 get a\n", "stopped\n")):
         yield fault(killed.replace(there, other)) is not None
+
+
+def tells_served_clients():
+    """Each other answer than the foretold one is told, and each other reading of what came."""
+    words = [(b"SET", b"a", b"5"), (b"GET", b"a"), (b"INFO",), (b"DEL", b"a"), (b"GET", b"a"), (b"SET", b"a", b"5", b"NX")]
+    wanted, is_closed = redis_model.Model().answers(b"".join(redis_model.request(*it) for it in words) + b"*1\r\n$4\r\nPI")
+    told = [b"$2\r\nhi\r\n" if it is redis_model.ANY_BULK else it for it in wanted]
+    yield not is_closed and told == [b"+OK\r\n", b"$1\r\n5\r\n", b"$2\r\nhi\r\n", b":1\r\n", b"$-1\r\n", redis_model.refusal("option")]
+    yield redis_model.agree(b"".join(told), wanted)
+    for k, other in enumerate((b"+OK\r\n+OK\r\n", b"$1\r\n6\r\n", b"$-1\r\n", b":0\r\n", b"$0\r\n\r\n", b"")):
+        yield not redis_model.agree(b"".join([*told[:k], other, *told[k + 1:]]), wanted)
+    for came, said in ((b"*1\r\n$4\r\nPINGS", b"expected CRLF"), (b"*17\r\n", b"invalid multibulk length"), (b"x", b"got 'x'")):
+        wanted, is_closed = redis_model.Model().answers(came)
+        yield is_closed and len(wanted) == 1 and said in wanted[0]
+    shared = try_server.Shared()
+    first, second = (shared.sent(0, (kind, "a", *rest)) for kind, *rest in (("put", "5"), ("get",)))
+    shared.told(first, "done")
+    shared.told(second, "none")
+    yield shared.wrong() == ["a"]
 
 
 def tells_answers():
@@ -530,7 +551,8 @@ def tells_unfair_runs():
 
 
 JUDGES = [
-    tells_failures, tells_answers, tells_runs_of_processes, tells_sums, tells_parts, tells_tables, tells_stops, tells_edits,
+    tells_failures, tells_answers, tells_runs_of_processes, tells_served_clients, tells_sums, tells_parts, tells_tables,
+    tells_stops, tells_edits,
     tells_faults, tells_missing_answers, tells_statuses, tells_reports, tells_sessions, tells_bounds, tells_other_words,
     tells_own_traces, tells_pages, tells_clauses, tells_figures, tells_uncited_lemmas, tells_idle_imports, tells_made_up,
     tells_stored_inputs, tells_rules, tells_breaks, tells_refused_memory, tells_finishers, tells_costs,

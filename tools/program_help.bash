@@ -99,6 +99,28 @@ The exit status is as that of ./mu_processes. docs/PROCESSES.md says what is pro
 END
 }
 
+tell_mu_server() {
+    cat <<'END'
+mu_server serves clients of Redis: redis-cli, redis-benchmark, python3-redis, hiredis. Each command goes through the
+log of replicas of Mu, all in this process.
+
+    ./mu_server [PORT] [--bind ADDRESS] [--replicas N]
+
+    PORT               6379 if none is named; 0 takes one that is free
+    --bind ADDRESS     127.0.0.1 if none is named: only this machine reaches it. There is no password
+    --replicas N       1 to 7, else 3: with N of them it goes on while fewer than half are stopped
+
+    redis-cli SET a 5              in another terminal; also GET, GETSET, DEL, EXISTS, STRLEN, PING, INFO
+    redis-cli MU STATUS            which replicas run, and which leads
+    redis-cli MU STOP 0            stops a replica, the leader too; MU BACK 0 calls it back
+    redis-cli MU PAUSE 0 3000      for so many rounds
+    redis-cli MU CAS a 5 6         sets 6 if a is 5
+
+SIGTERM, or Ctrl-C, ends it once what it took is answered. Nothing is kept then. Keys have at most 24 bytes, values 64;
+docs/SERVER.md has all limits, and what is proved.
+END
+}
+
 # Which program is run now: by the marks that ./prove and a first build leave.
 program_now() {
     mark=$top/out/bin/proved.sum

@@ -36,6 +36,7 @@ TEST = """
 fn each_export_is_made(rt: HostRuntime) {
     let alloc = rt.alloc();
     let mut handle = Handle::none(alloc);
+    let mut server = held_server::Handle::none(alloc);
     let mut out = [0u8; 8];
     let mut taken = 0usize;
     let (mut number_0, mut number_1, mut number_2, mut number_3, mut number_4) = (0u32, 0u32, 0u32, 0u32, 0u32);
@@ -46,6 +47,7 @@ fn each_export_is_made(rt: HostRuntime) {
     let mut hold = engines::Hold { stopped: 0, rounds: 0 };
 CALLS}
 """
+GIVEN["&mut ServerHandle"] = "&mut server"
 
 
 def copy_with_test(folder):

@@ -17,6 +17,8 @@ mod engines;
 
 mod rests;
 
+mod servers;
+
 use mu_handle::Handle;
 use mu_library::{
     Asked, Show, answer, append_line, draw, judge_answer, last_event, let_go, next_access,

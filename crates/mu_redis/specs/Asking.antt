@@ -178,6 +178,13 @@ asks_of replicas (Some CommandName.Config) words = config_words words
 asks_of replicas (Some CommandName.Command) words = Asked.Empty
 asks_of replicas (Some CommandName.Info) words = Asked.Information
 asks_of replicas (Some CommandName.Quit) words = Asked.Quit
+asks_of replicas (Some CommandName.Mget) words = Asked.Refused refused.Keys
+asks_of replicas (Some CommandName.Mset) words = Asked.Refused refused.Keys
+asks_of replicas (Some CommandName.Msetnx) words = Asked.Refused refused.Keys
+asks_of replicas (Some CommandName.Setnx) words = Asked.Refused refused.Option
+asks_of replicas (Some CommandName.Setex) words = Asked.Refused refused.Option
+asks_of replicas (Some CommandName.Psetex) words = Asked.Refused refused.Option
+asks_of replicas (Some CommandName.Dbsize) words = Asked.Refused refused.Size
 
 -- what a request asks for, in a server of so many replicas
 abbrev pub asks : ℕ → List (List ℕ) → Asked

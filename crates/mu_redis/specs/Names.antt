@@ -37,12 +37,20 @@ name_of_command command.Config = codes "config"
 name_of_command command.Command = codes "command"
 name_of_command command.Info = codes "info"
 name_of_command command.Quit = codes "quit"
+name_of_command command.Mget = codes "mget"
+name_of_command command.Mset = codes "mset"
+name_of_command command.Msetnx = codes "msetnx"
+name_of_command command.Setnx = codes "setnx"
+name_of_command command.Setex = codes "setex"
+name_of_command command.Psetex = codes "psetex"
+name_of_command command.Dbsize = codes "dbsize"
 
 abbrev pub commands : List CommandName
 commands =
     command.Get ∷ command.Exists ∷ command.Strlen ∷ command.Set ∷ command.Del ∷ command.Getset
     ∷ command.Mu ∷ command.Ping ∷ command.Echo ∷ command.Hello ∷ command.Select ∷ command.Client
-    ∷ command.Config ∷ command.Command ∷ command.Info ∷ command.Quit ∷ []
+    ∷ command.Config ∷ command.Command ∷ command.Info ∷ command.Quit ∷ command.Mget ∷ command.Mset
+    ∷ command.Msetnx ∷ command.Setnx ∷ command.Setex ∷ command.Psetex ∷ command.Dbsize ∷ []
 
 -- the command with this name, if there is one
 abbrev pub command_named : List ℕ → Option CommandName

@@ -21,6 +21,7 @@ words_of_refused refused.Database = codes "ERR DB index is out of range"
 words_of_refused refused.Protocol = codes "NOPROTO unsupported protocol version"
 words_of_refused refused.Option =
     codes "ERR of the options of SET only GET is here, not NX, XX or EX (see MU CAS)"
+words_of_refused refused.Size = codes "ERR no command of the store counts its keys"
 
 -- a byte as it is shown
 abbrev pub shown : ℕ → ℕ
@@ -39,6 +40,10 @@ words_of_fault fault.LineEnd = codes "ERR Protocol error: expected CRLF"
 -- a command got no reply in time
 abbrev pub no_reply : List ℕ
 no_reply = codes "TRYAGAIN no reply in time; it may still be done"
+
+-- a command wasn't taken, since the store had no room for it in time
+abbrev pub no_room : List ℕ
+no_room = codes "TRYAGAIN no room in the log in time; it was not done"
 
 -- the store has as many keys as may be
 abbrev pub many_keys : List ℕ

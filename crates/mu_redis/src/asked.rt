@@ -25,6 +25,8 @@ pub enum Refused {
     Protocol,
     /// A value is set with another option than `GET`.
     Option,
+    /// It asks how many keys there are.
+    Size,
 }
 
 /// What a request asks for.

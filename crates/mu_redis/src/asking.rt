@@ -60,6 +60,13 @@ fn asking_by(name: Option<CommandName>, rest: &[&[u8]], replicas: u8) -> Asked
         Some(CommandName::Command) => Asked::Empty,
         Some(CommandName::Info) => Asked::Information,
         Some(CommandName::Quit) => Asked::Quit,
+        Some(CommandName::Mget | CommandName::Mset | CommandName::Msetnx) => {
+            Asked::Refused(Refused::Keys)
+        }
+        Some(CommandName::Setnx | CommandName::Setex | CommandName::Psetex) => {
+            Asked::Refused(Refused::Option)
+        }
+        Some(CommandName::Dbsize) => Asked::Refused(Refused::Size),
     }
 }
 

@@ -2,7 +2,7 @@
 ghost use Rattle.std.specs.Prelude.{◌≡◌};
 ghost use Rattle.mu_redis.specs.Names.{command_named, own_named, part_named};
 
-/// A command of Redis that is served, or `mu` for the server's own.
+/// A command of Redis that is served or refused by a sentence of its own, or `mu` for the server's.
 #[derive(Clone, Copy)]
 pub enum CommandName {
     Get,
@@ -21,6 +21,13 @@ pub enum CommandName {
     Command,
     Info,
     Quit,
+    Mget,
+    Mset,
+    Msetnx,
+    Setnx,
+    Setex,
+    Psetex,
+    Dbsize,
 }
 
 impl CommandName {
@@ -45,6 +52,13 @@ impl CommandName {
             b"command" => Some(CommandName::Command),
             b"info" => Some(CommandName::Info),
             b"quit" => Some(CommandName::Quit),
+            b"mget" => Some(CommandName::Mget),
+            b"mset" => Some(CommandName::Mset),
+            b"msetnx" => Some(CommandName::Msetnx),
+            b"setnx" => Some(CommandName::Setnx),
+            b"setex" => Some(CommandName::Setex),
+            b"psetex" => Some(CommandName::Psetex),
+            b"dbsize" => Some(CommandName::Dbsize),
             _ => None,
         }
     }

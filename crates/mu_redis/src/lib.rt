@@ -15,7 +15,7 @@ mod wording;
 pub use alone::put_alone;
 pub use asked::{Asked, Refused};
 pub use asking::asking_of;
-pub use outcomes::{put_fault, put_many_keys, put_no_reply, put_stopped};
+pub use outcomes::{put_fault, put_many_keys, put_no_reply, put_no_room, put_stopped};
 pub use wording::{Wording, put_reply};
 
 /// The most bytes of the name of a command.

@@ -1,7 +1,7 @@
 //! Refusals, as Redis words them.
 ghost use Rattle.std.specs.Prelude.{◌≡◌, ◌++◌, ◌∷◌, ◌+◌, ◌≤◌, [], length, OnOk};
 ghost use Rattle.mu_resp.specs.Answers.{refusal};
-ghost use Rattle.mu_redis.specs.Refusals.{is_stopped, many_keys, no_reply, shown, words_of_fault, words_of_refused};
+ghost use Rattle.mu_redis.specs.Refusals.{is_stopped, many_keys, no_reply, no_room, shown, words_of_fault, words_of_refused};
 
 use crate::asked::Refused;
 use mu_resp::{Fault, put_refusal};
@@ -33,6 +33,7 @@ fn words_of_refused(refused: Refused) -> &'static [u8]
         Refused::Option => {
             b"ERR of the options of SET only GET is here, not NX, XX or EX (see MU CAS)"
         }
+        Refused::Size => b"ERR no command of the store counts its keys",
     }
 }
 
@@ -82,6 +83,13 @@ pub fn put_no_reply(out: &mut Vec<u8>) -> Result<(), AllocError>
     ensures { OnOk result (out.new.items ≡ out.old.items ++ refusal no_reply) }
 {
     put_refusal(out, b"TRYAGAIN no reply in time; it may still be done")
+}
+
+/// Puts that a command wasn't taken, since the store had no room for it in time.
+pub fn put_no_room(out: &mut Vec<u8>) -> Result<(), AllocError>
+    ensures { OnOk result (out.new.items ≡ out.old.items ++ refusal no_room) }
+{
+    put_refusal(out, b"TRYAGAIN no room in the log in time; it was not done")
 }
 
 /// Puts that the store takes no further key.

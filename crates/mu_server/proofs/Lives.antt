@@ -10,7 +10,7 @@ use Rattle.ordered_store.specs.Moments.{Moment, with_more}
 use Rattle.ordered_store.proofs.Going.{answers_stay, begins-get, begins-length, get_front, goes_on-along, goes_on-more, goes_on-same}
 use Rattle.mu_server.specs.Holding.{AreOwn, AsksStore, HasRow, HoldsLife, HoldsSession, IsAnswered, IsExchange, IsQuestion, IsRowOf, Life, TellsAlone, rows_so_far}
 use Rattle.mu_server.specs.Serving.{LifeGoesOn, Moves}
-use Rattle.mu_server.specs.Sessions.{Alone, Answer, Exchange, Late, ManyKeys, Question, Replied, Session, rows_of}
+use Rattle.mu_server.specs.Sessions.{Alone, Answer, Exchange, Late, ManyKeys, NoRoom, Question, Replied, Session, rows_of}
 use Rattle.mu_server.specs.declared.connection.Connection.{Connection}
 use Rattle.mu_server.proofs.Lists.{all-append, all-weaker, ascend-more}
 
@@ -48,6 +48,7 @@ answered-goes : (before after : Life) (words : List (List ℕ)) (answer : Answer
 answered-goes before after words (Replied row wording reply) goes is = (row-goes before after words row wording goes is.0, answers_stay before.moment after.moment goes.moment row reply is.1)
 answered-goes before after words (Late row) goes is = (is.0, row-goes before after words row is.0 goes is.1)
 answered-goes before after words ManyKeys goes is = (is.0, (is.1.0, asks-goes before after words is.0 is.1.0 goes is.1.1))
+answered-goes before after words NoRoom goes is = (is.0, (is.1.0, asks-goes before after words is.0 is.1.0 goes is.1.1))
 answered-goes before after words (Alone text) goes is = subst (λ n. TellsAlone (asks n words) words text) (sym goes.replicas) is
 
 own-goes : (before after : Life) (number : ℕ) → LifeGoesOn before after → (rows : List ℕ) → AreOwn before number rows → AreOwn after number rows

@@ -15,7 +15,7 @@ use Rattle.mu_redis.specs.Refusals.{is_stopped}
 use Rattle.mu_redis.specs.declared.asked.Asked.{Asked}
 use Rattle.mu_redis.specs.declared.wording.Wording.{Wording}
 use Rattle.ordered_store.specs.Moments.{IsAnswer, Moment}
-use Rattle.mu_server.specs.Sessions.{Answer, Alone, Exchange, Late, ManyKeys, Question, Replied, Session, read_of, rows_of, told_of}
+use Rattle.mu_server.specs.Sessions.{Answer, Alone, Exchange, Late, ManyKeys, NoRoom, Question, Replied, Session, read_of, rows_of, told_of}
 use Rattle.mu_server.specs.declared.connection.Connection.{Connection}
 use Rattle.mu_server.specs.declared.connection.Waiting.{Waiting}
 
@@ -88,14 +88,18 @@ pub record HasRow (life : Life) (words : List (List ℕ)) (row : ℕ)
   pub asked : AsksStore life words op wording
   pub row_is : IsRowOf life row op
 
+-- the request asks the store, and its command wasn't submitted
+abbrev pub IsUntaken : Life → List (List ℕ) → Type 0
+IsUntaken life words = (op : Op) × ((wording : Wording) × AsksStore life words op wording)
+
 -- the answer to a request: if it asks the store, the reply of the store to its command at the
 -- command's place in the order
 abbrev pub IsAnswered : Life → List (List ℕ) → Answer → Type 0
 IsAnswered life words (Replied row wording reply) =
     HasRow life words row wording × IsAnswer life.moment row reply
 IsAnswered life words (Late row) = (wording : Wording) × HasRow life words row wording
-IsAnswered life words ManyKeys =
-    (op : Op) × ((wording : Wording) × AsksStore life words op wording)
+IsAnswered life words ManyKeys = IsUntaken life words
+IsAnswered life words NoRoom = IsUntaken life words
 IsAnswered life words (Alone text) = TellsAlone (asks life.replicas words) words text
 
 abbrev pub IsExchange : Life → Exchange → Type 0

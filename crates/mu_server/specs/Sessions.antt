@@ -3,17 +3,18 @@ use Rattle.std.specs.Prelude.{ℕ, ◌≡◌, List, [], ◌∷◌, ◌++◌, fla
 use Rattle.kv_store.specs.declared.store.Reply.{Reply}
 use Rattle.mu_resp.specs.Answers.{refusal}
 use Rattle.mu_resp.specs.Requests.{request}
-use Rattle.mu_redis.specs.Refusals.{many_keys, no_reply}
+use Rattle.mu_redis.specs.Refusals.{many_keys, no_reply, no_room}
 use Rattle.mu_redis.specs.Wordings.{told}
 use Rattle.mu_redis.specs.declared.wording.Wording.{Wording}
 use Rattle.mu_server.specs.declared.connection.Waiting.{Waiting}
 
 -- an answer: the reply to a row in some words; that there is no reply in time; that the store has as
--- many keys as may be; or bytes that tell nothing of the store
+-- many keys as may be; that it had no room in time; or bytes that tell nothing of the store
 pub data Answer : Type 0 where
   Replied : ℕ → Wording → Reply → Answer
   Late : ℕ → Answer
   ManyKeys : Answer
+  NoRoom : Answer
   Alone : List ℕ → Answer
 
 -- a request and its answer
@@ -53,6 +54,7 @@ abbrev pub spelled_answer : Answer → List ℕ
 spelled_answer (Replied row wording reply) = told wording reply
 spelled_answer (Late row) = refusal no_reply
 spelled_answer ManyKeys = refusal many_keys
+spelled_answer NoRoom = refusal no_room
 spelled_answer (Alone text) = text
 
 abbrev pub answer_of : Exchange → List ℕ
@@ -78,6 +80,7 @@ abbrev pub row_of : Answer → List ℕ
 row_of (Replied row wording reply) = row ∷ []
 row_of (Late row) = row ∷ []
 row_of ManyKeys = []
+row_of NoRoom = []
 row_of (Alone text) = []
 
 abbrev pub row_in : Exchange → List ℕ

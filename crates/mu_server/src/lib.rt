@@ -1,5 +1,5 @@
-//! A server of the protocol of Redis over an ordered store, without sockets: it takes the bytes that
-//! clients sent, and gives the bytes to send back.
+//! A server of the protocol of Redis over an ordered store, without sockets: it takes the bytes
+//! that clients sent, and gives the bytes to send back.
 #![tactic(auto)]
 
 ghost use Rattle.std.specs.Prelude.{◌≡◌};

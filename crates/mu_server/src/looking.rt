@@ -17,7 +17,8 @@ pub enum Look {
     Request(Asked, usize),
 }
 
-/// What stands in front of the bytes. Puts what is told to it without the store, if it is a request.
+/// What stands in front of the bytes. Puts what is told to it without the store, if it is a
+/// request.
 pub(crate) fn look_at(bytes: &[u8], replicas: u8, text: &mut Vec<u8>) -> Result<Look, AllocError>
     requires { text.old.items ≡ [] }
     ensures { IfOk result (λ look. Sees replicas bytes.now look text.new.items) }

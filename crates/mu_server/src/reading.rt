@@ -1,6 +1,6 @@
 //! Reading the requests of a connection.
 ghost use Rattle.std.specs.Prelude.{◌≡◌, ◌≤◌, ◌⊎◌, ◌++◌, [], List, ℕ, drop, false, length};
-ghost use Rattle.mu_redis.specs.Refusals.{many_keys};
+ghost use Rattle.mu_redis.specs.Refusals.{many_keys, no_room};
 ghost use Rattle.mu_redis.specs.declared.asked.Asked.{Asked as SomeAsked};
 ghost use Rattle.mu_resp.specs.Answers.{refusal};
 ghost use Rattle.mu_server.specs.Holding.{HoldsLife, IsAlone, Life};
@@ -11,7 +11,7 @@ use crate::connection::{Connection, Waiting};
 use crate::looking::{Look, look_at};
 use crate::replicas::put_of_replicas;
 use kv_store::Op;
-use mu_redis::{Asked, Wording, put_fault, put_many_keys};
+use mu_redis::{Asked, Wording, put_fault, put_many_keys, put_no_room};
 use ordered_store::{OrderedStore, Untaken};
 use std::alloc::{AllocError, Global};
 
@@ -26,13 +26,22 @@ pub(crate) enum Step {
     NoRoom,
 }
 
+/// One reading of the requests of all connections.
+#[derive(Clone, Copy)]
+pub(crate) struct Pass {
+    /// How many rounds were played.
+    pub(crate) round: u64,
+    /// Whether what lacks room in the store has waited for it long enough.
+    pub(crate) is_late: bool,
+}
+
 /// Reads the requests of a connection, up to one that isn't whole or has to wait: whether the store
 /// has no room for it. An `Err` comes only for want of memory.
 pub(crate) fn read_requests<S: OrderedStore>(
     alloc: Global,
     connection: &mut Connection,
     store: &mut S,
-    now: u64,
+    pass: Pass,
 ) -> Result<bool, AllocError>
     ensures { (life : Life) (number : ℕ)
         → HoldsLife (S.stands store.old) (S.replicas store.old) life
@@ -43,7 +52,7 @@ pub(crate) fn read_requests<S: OrderedStore>(
         if connection.is_read || !connection.may_ask() {
             return Ok(false);
         }
-        let step = read_next(alloc, connection, store, now)?;
+        let step = read_next(alloc, connection, store, pass)?;
         if step != Step::Next {
             return Ok(step == Step::NoRoom);
         }
@@ -56,7 +65,7 @@ fn read_next<S: OrderedStore>(
     alloc: Global,
     connection: &mut Connection,
     store: &mut S,
-    now: u64,
+    pass: Pass,
 ) -> Result<Step, AllocError>
     requires { connection.old.is_ending ≡ false }
     ensures { (life : Life) (number : ℕ)
@@ -80,7 +89,7 @@ fn read_next<S: OrderedStore>(
         }
         Look::Request(asked, count) => match asked {
             Asked::Operation(op, wording) => {
-                submit(alloc, connection, store, now, op, wording, count)
+                submit(alloc, connection, store, pass, op, wording, count)
             }
             _ => answer(alloc, connection, store, &asked, count, &mut text),
         },
@@ -118,7 +127,7 @@ fn submit<S: OrderedStore>(
     alloc: Global,
     connection: &mut Connection,
     store: &mut S,
-    now: u64,
+    pass: Pass,
     op: Op,
     wording: Wording,
     count: usize,
@@ -139,12 +148,12 @@ fn submit<S: OrderedStore>(
                 Waiting {
                     row,
                     wording,
-                    since: now,
+                    since: pass.round,
                 },
             );
             Ok(Step::Next)
         }
-        Err(Untaken::NoRoom) => Ok(Step::NoRoom),
+        Err(Untaken::NoRoom) => refuse_late(alloc, connection, count, pass.is_late),
         Err(Untaken::Keys) => refuse_key(alloc, connection, count),
         Err(Untaken::NoMemory) => Err(AllocError),
     }
@@ -164,6 +173,33 @@ fn refuse_key(alloc: Global, connection: &mut Connection, count: usize) -> Resul
     }
     let mut text = Vec::new(alloc);
     put_many_keys(&mut text)?;
+    connection.answer(count, text.as_slice(), false)?;
+    Ok(Step::Next)
+}
+
+/// Answers that the store had no room in time, if that is so, once the requests before are
+/// answered.
+fn refuse_late(
+    alloc: Global,
+    connection: &mut Connection,
+    count: usize,
+    is_late: bool,
+) -> Result<Step, AllocError>
+    requires { count ≤ length connection.old.input }
+    ensures { (connection.new ≡ connection.old) ⊎ ((connection.old.waiting.items ≡ [])
+        × (connection.new ≡ record connection.old {
+          input = drop count connection.old.input;
+          output = connection.old.output ++ refusal no_room;
+        })) }
+{
+    if !is_late {
+        return Ok(Step::NoRoom);
+    }
+    if connection.is_waiting() {
+        return Ok(Step::Later);
+    }
+    let mut text = Vec::new(alloc);
+    put_no_room(&mut text)?;
     connection.answer(count, text.as_slice(), false)?;
     Ok(Step::Next)
 }

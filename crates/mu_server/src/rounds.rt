@@ -5,7 +5,7 @@ ghost use Rattle.mu_server.specs.Holding.{HoldsLife, Life};
 ghost use Rattle.mu_server.specs.Serving.{Serves, no_bytes};
 
 use crate::connection::{Connection, Waiting};
-use crate::reading::read_requests;
+use crate::reading::{Pass, read_requests};
 use crate::telling::tell_replies;
 use ordered_store::OrderedStore;
 use std::alloc::{AllocError, Global};
@@ -17,7 +17,7 @@ pub(crate) fn read_all<S: OrderedStore>(
     connections: &mut [Connection],
     first: usize,
     store: &mut S,
-    now: u64,
+    pass: Pass,
 ) -> Result<bool, AllocError>
     ensures { (life : Life) → HoldsLife (S.stands store.old) (S.replicas store.old) life
         → Serves (S.stands store.new) (S.replicas store.new) life no_bytes no_bytes
@@ -25,10 +25,10 @@ pub(crate) fn read_all<S: OrderedStore>(
 {
     let count = connections.len();
     let first = if first < count { first } else { 0 };
-    if read_range(alloc, connections, first, count, store, now)? {
+    if read_range(alloc, connections, first, count, store, pass)? {
         return Ok(true);
     }
-    read_range(alloc, connections, 0, first, store, now)
+    read_range(alloc, connections, 0, first, store, pass)
 }
 
 /// Reads the requests of these connections, until the store has no room: whether it has none. An
@@ -39,7 +39,7 @@ fn read_range<S: OrderedStore>(
     from: usize,
     to: usize,
     store: &mut S,
-    now: u64,
+    pass: Pass,
 ) -> Result<bool, AllocError>
     requires { to ≤ length connections.old }
     ensures { (life : Life) → HoldsLife (S.stands store.old) (S.replicas store.old) life
@@ -47,7 +47,7 @@ fn read_range<S: OrderedStore>(
         connections.old connections.new }
 {
     'range: for at in from..to {
-        if read_at(alloc, connections, at, store, now)? {
+        if read_at(alloc, connections, at, store, pass)? {
             return Ok(true);
         }
     }
@@ -61,14 +61,14 @@ fn read_at<S: OrderedStore>(
     connections: &mut [Connection],
     at: usize,
     store: &mut S,
-    now: u64,
+    pass: Pass,
 ) -> Result<bool, AllocError>
     requires { at < length connections.old }
     ensures { (life : Life) → HoldsLife (S.stands store.old) (S.replicas store.old) life
         → Serves (S.stands store.new) (S.replicas store.new) life no_bytes no_bytes
         connections.old connections.new }
 {
-    read_requests(alloc, &mut connections[at], store, now)
+    read_requests(alloc, &mut connections[at], store, pass)
 }
 
 /// Tells all connections the replies that are there. An `Err` comes only for want of memory.

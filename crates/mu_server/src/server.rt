@@ -8,6 +8,7 @@ ghost use Rattle.mu_server.specs.Sessions.{Session};
 ghost use Rattle.mu_server.specs.declared.connection.Connection.{Connection as SomeConnection};
 
 use crate::connection::{Connection, State, Waiting};
+use crate::reading::Pass;
 use crate::rounds::{first_waiting, read_all, tell_all};
 use crate::single::{close_at, free_place, give_at, reopen_at, state_at, take_at};
 use crate::{MOST_CONNECTIONS, WAIT_ROUNDS};
@@ -28,6 +29,8 @@ pub struct Server<S: OrderedStore> {
     pub(crate) next: Option<Waiting>,
     /// Whether a request waits for room in the store.
     pub(crate) is_full: bool,
+    /// Since which round one does while no command waits for its reply.
+    pub(crate) stuck: Option<u64>,
 }
 
 impl<S: OrderedStore> Server<S> {
@@ -44,11 +47,12 @@ impl<S: OrderedStore> Server<S> {
             rounds: 0,
             next: None,
             is_full: false,
+            stuck: None,
         }
     }
 
-    /// Opens a connection, and tells its number; none if there are as many as may be. An `Err` comes
-    /// only for want of memory.
+    /// Opens a connection, and tells its number; none if there are as many as may be. An `Err`
+    /// comes only for want of memory.
     pub fn open(&mut self) -> Result<Option<u32>, AllocError>
         ensures store { self.new.store ≡ self.old.store }
         ensures opens { MatchResult result
@@ -80,8 +84,8 @@ impl<S: OrderedStore> Server<S> {
         ensures moves { IfOk result (λ count. (life : Life) (k : ℕ) (connection : SomeConnection)
             (session : Session) → slice_get self.old.connections.items k ≡ Some connection
             → HoldsSession life k session connection
-            → MovesAt (rows_so_far life) life k (bytes_of number (take count bytes.now) k) [] session
-            self.new.connections.items) }
+            → MovesAt (rows_so_far life) life k (bytes_of number (take count bytes.now) k) []
+            session self.new.connections.items) }
     {
         let at = number as usize;
         if at >= self.connections.len() {
@@ -132,17 +136,15 @@ impl<S: OrderedStore> Server<S> {
         self.read()
     }
 
-    /// Whether something may be told, or may be read that had to wait.
+    /// Whether something may be told, or may be read that had to wait. While a command waits for its
+    /// reply, the store makes no room.
     fn is_due(&self) -> bool {
-        if self.is_full {
-            return true;
-        }
         match self.next {
             Some(waiting) => {
                 self.rounds.saturating_sub(waiting.since) > WAIT_ROUNDS
                     || self.store.reply_to(waiting.row).is_some()
             }
-            None => false,
+            None => self.is_full,
         }
     }
 
@@ -178,10 +180,14 @@ impl<S: OrderedStore> Server<S> {
             self.connections.as_mut_slice(),
             self.first,
             &mut self.store,
-            self.rounds,
+            Pass {
+                round: self.rounds,
+                is_late: is_late(self.stuck, self.rounds),
+            },
         )?;
         self.is_full = is_full;
         self.next = first_waiting(self.connections.as_slice());
+        self.stuck = stuck_since(self.stuck, is_full && self.next.is_none(), self.rounds);
         Ok(())
     }
 
@@ -222,5 +228,24 @@ impl<S: OrderedStore> Server<S> {
         if at < self.connections.len() {
             close_at(self.connections.as_mut_slice(), at);
         }
+    }
+}
+
+/// Whether requests have waited for room long enough.
+fn is_late(stuck: Option<u64>, now: u64) -> bool {
+    match stuck {
+        Some(since) => now.saturating_sub(since) > WAIT_ROUNDS,
+        None => false,
+    }
+}
+
+/// Since which round requests wait for room, and nothing else.
+fn stuck_since(stuck: Option<u64>, is_stuck: bool, now: u64) -> Option<u64> {
+    if !is_stuck {
+        return None;
+    }
+    match stuck {
+        Some(since) => Some(since),
+        None => Some(now),
     }
 }

@@ -42,7 +42,8 @@ pub(crate) fn take_at(
     ensures moves { IfOk result (λ count. (life : Life) (k : ℕ) (connection : SomeConnection)
         (session : Session) → slice_get connections.old k ≡ Some connection
         → HoldsSession life k session connection
-        → MovesAt (rows_so_far life) life k (bytes_of at (take count bytes.now) k) [] session connections.new) }
+        → MovesAt (rows_so_far life) life k (bytes_of at (take count bytes.now) k) [] session
+        connections.new) }
 {
     connections[at].take(bytes)
 }
@@ -53,7 +54,8 @@ pub(crate) fn give_at(connections: &mut [Connection], at: usize, out: &mut [u8])
     ensures { (life : Life) (k : ℕ) (connection : SomeConnection) (session : Session)
         → slice_get connections.old k ≡ Some connection
         → HoldsSession life k session connection
-        → MovesAt (rows_so_far life) life k [] (bytes_of at (take result out.new) k) session connections.new }
+        → MovesAt (rows_so_far life) life k [] (bytes_of at (take result out.new) k) session
+        connections.new }
 {
     connections[at].give(out)
 }
@@ -63,7 +65,8 @@ pub(crate) fn close_at(connections: &mut [Connection], at: usize)
     requires { at < length connections.old }
     ensures { (life : Life) (k : ℕ) (connection : SomeConnection) (session : Session)
         → slice_get connections.old k ≡ Some connection
-        → HoldsSession life k session connection → MovesAt (rows_so_far life) life k [] [] session connections.new }
+        → HoldsSession life k session connection
+        → MovesAt (rows_so_far life) life k [] [] session connections.new }
 {
     connections[at].close();
 }

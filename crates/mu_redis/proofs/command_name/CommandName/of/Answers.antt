@@ -27,3 +27,18 @@ returns-in-config c = sym (ap command_named (text_from_reads c.args.name.now (co
 
 pub returns-in-command : goal.returns-in-command
 returns-in-command c = sym (ap command_named (text_from_reads c.args.name.now (codes "command") (omega arith) (omega arith, (omega arith, (omega arith, (omega arith, (omega arith, (omega arith, (omega arith, tt)))))))))
+
+pub returns-in-msetnx : goal.returns-in-msetnx
+returns-in-msetnx c = sym (ap command_named (text_from_reads c.args.name.now (codes "msetnx") (omega arith) (omega arith, (omega arith, (omega arith, (omega arith, (omega arith, (omega arith, tt))))))))
+
+pub returns-in-setnx : goal.returns-in-setnx
+returns-in-setnx c = sym (ap command_named (text_from_reads c.args.name.now (codes "setnx") (omega arith) (omega arith, (omega arith, (omega arith, (omega arith, (omega arith, tt)))))))
+
+pub returns-in-setex : goal.returns-in-setex
+returns-in-setex c = sym (ap command_named (text_from_reads c.args.name.now (codes "setex") (omega arith) (omega arith, (omega arith, (omega arith, (omega arith, (omega arith, tt)))))))
+
+pub returns-in-psetex : goal.returns-in-psetex
+returns-in-psetex c = sym (ap command_named (text_from_reads c.args.name.now (codes "psetex") (omega arith) (omega arith, (omega arith, (omega arith, (omega arith, (omega arith, (omega arith, tt))))))))
+
+pub returns-in-dbsize : goal.returns-in-dbsize
+returns-in-dbsize c = sym (ap command_named (text_from_reads c.args.name.now (codes "dbsize") (omega arith) (omega arith, (omega arith, (omega arith, (omega arith, (omega arith, (omega arith, tt))))))))
