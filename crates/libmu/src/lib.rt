@@ -14,9 +14,7 @@ ghost use Rattle.mu_model.specs.declared.config.Config.{Config};
 ghost use Rattle.mu_library.specs.Engines.{IsUntold};
 
 mod engines;
-
 mod rests;
-
 mod servers;
 
 use mu_handle::Handle;
