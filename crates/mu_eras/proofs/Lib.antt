@@ -7,6 +7,7 @@ mod Kept
 mod Lasting
 pub mod Linear
 mod Orders
+mod Places
 mod Presents
 mod Rows
 mod Wholes

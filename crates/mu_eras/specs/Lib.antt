@@ -6,3 +6,4 @@ pub mod Lasting
 pub mod Orders
 pub mod Standing
 pub mod Telling
+pub mod Turns

@@ -9,6 +9,7 @@ ghost use Rattle.mu_eras.specs.Inside.{IsLasting-prop};
 ghost use Rattle.mu_eras.specs.Lasting.{HoldsEras, IsLasting, KeepsEras, KeepsOn, Lasts};
 ghost use Rattle.mu_eras.specs.Standing.{era_of};
 ghost use Rattle.mu_eras.specs.Telling.{HasNoReply, first_told};
+ghost use Rattle.mu_eras.specs.Turns.{PlaysTurns};
 
 use crate::succession::Succession;
 use kv_store::{NoMemory, Op, Reply};
@@ -73,6 +74,7 @@ impl Eras {
     pub fn round(&mut self) -> Result<(), NoMemory>
         ensures held { self.new.succession.present.engine.holds
             ≡ map after_round self.old.succession.present.engine.holds }
+        ensures turns { PlaysTurns self.old.succession self.new.succession }
         ensures lasts { (past : List Era) → HoldsEras past self.old.succession
             → Lasts past self.old.succession self.new.succession }
     {

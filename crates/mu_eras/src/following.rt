@@ -7,6 +7,7 @@ ghost use Rattle.mu_engine.specs.Moments.{GoesOn, IsMoment};
 ghost use Rattle.mu_model.specs.Contents.{rows_in};
 ghost use Rattle.mu_eras.specs.Applied.{AreKept, KeepsReplies, TellsOrder};
 ghost use Rattle.mu_eras.specs.Holding.{AreFollowed, AreInside, AreTaken, HoldStores, HoldsApplied, IsApplied, handed_by};
+ghost use Rattle.mu_eras.specs.Turns.{HasTurns};
 
 use crate::applied::Applied;
 use kv_store::Reply;
@@ -75,6 +76,7 @@ pub(crate) fn play(engine: &mut Engine, stores: &mut [Applied], replies: &mut [O
     ensures places { length replies.new ≡ length replies.old }
     ensures moment { IsMoment engine.new.job engine.new.events }
     ensures goes { GoesOn engine.old.job engine.old.events engine.new.job engine.new.events }
+    ensures turns { HasTurns engine.old engine.new }
     ensures holds { (base : Table) → HoldStores base engine.old stores.old
         → HoldStores base engine.new stores.new }
     ensures keeps { KeepsReplies replies.old replies.new }

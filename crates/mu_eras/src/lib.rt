@@ -5,6 +5,7 @@
 ghost use Rattle.mu_eras.specs.Eras.{ErasAreLinear, ErasGoFurther};
 
 mod applied;
+mod counting;
 mod ending;
 mod eras;
 mod following;
@@ -14,6 +15,7 @@ mod renewing;
 mod submitting;
 mod succession;
 
+pub use counting::free_replicas;
 pub use eras::Eras;
 pub use mu_engine::Refusal;
 

@@ -11,6 +11,7 @@ ghost use Rattle.mu_eras.specs.Eras.{Era, IsReplyOver};
 ghost use Rattle.mu_eras.specs.Holding.{IsSettledBy};
 ghost use Rattle.mu_eras.specs.Standing.{HoldsPresent, IsInside, era_of};
 ghost use Rattle.mu_eras.specs.Telling.{IsUnapplied};
+ghost use Rattle.mu_eras.specs.Turns.{HasTurns};
 
 use crate::applied::{Applied, first_stores};
 use crate::ending::{hand_over, make_room};
@@ -82,6 +83,7 @@ impl Present {
         ensures held { self.new.engine.holds ≡ map after_round self.old.engine.holds }
         ensures space { vec_capacity self.new.replies ≡ vec_capacity self.old.replies }
         ensures keeps { KeepsReplies self.old.replies.items self.new.replies.items }
+        ensures turns { HasTurns self.old.engine self.new.engine }
         ensures goes { GoesOn self.old.engine.job self.old.engine.events self.new.engine.job
             self.new.engine.events }
         ensures inside { IsInside self.new }

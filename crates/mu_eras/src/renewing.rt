@@ -1,10 +1,12 @@
 //! Rounds, and the end of an era.
-ghost use Rattle.std.specs.Prelude.{IfSome, List, Some, length, map, ◌+◌, ◌<◌, ◌^◌, ◌≡◌};
+ghost use Rattle.std.specs.Prelude.{IfSome, IsTrue, List, Some, length, map, ◌*◌, ◌+◌, ◌<◌, ◌^◌, ◌≡◌, ◌≤◌, ◌⊎◌};
 ghost use Rattle.mu_engine.specs.Live.{after_round};
 ghost use Rattle.mu_eras.specs.Eras.{Era};
 ghost use Rattle.mu_eras.specs.Lasting.{HoldsEras, IsLasting, IsSettled, KeepsEras, KeepsOn, Lasts};
 ghost use Rattle.mu_eras.specs.Standing.{IsInside};
+ghost use Rattle.mu_eras.specs.Turns.{HasTurns, PlaysTurns, begun, count_free};
 
+use crate::counting::free_replicas;
 use crate::keeping::let_pass;
 use crate::present::Present;
 use crate::succession::Succession;
@@ -19,6 +21,7 @@ impl Succession {
         ensures held { self.new.present.engine.holds
             ≡ map after_round self.old.present.engine.holds }
         ensures inside { IsLasting self.new }
+        ensures turns { PlaysTurns self.old self.new }
         ensures lasts { (past : List Era) → HoldsEras past self.old → Lasts past self.old self.new }
     {
         self.pass();
@@ -39,6 +42,7 @@ impl Succession {
         ensures goes { KeepsOn self.old self.new }
         ensures job { self.new.present.engine.job ≡ self.old.present.engine.job }
         ensures inside { IsLasting self.new }
+        ensures turns { HasTurns self.old.present.engine self.new.present.engine }
         ensures here { KeepsEras self.old self.new }
     {
         if self.rests() {
@@ -56,20 +60,24 @@ impl Succession {
         ensures goes { KeepsOn self.old self.new }
         ensures job { self.new.present.engine.job ≡ self.old.present.engine.job }
         ensures inside { IsLasting self.new }
+        ensures turns { HasTurns self.old.present.engine self.new.present.engine }
         ensures here { KeepsEras self.old self.new }
     {
         let before = self.present.engine.events().len();
         let free = free_replicas(&self.present.engine);
         self.present.round();
         let steps = self.present.engine.events().len().saturating_sub(before);
-        self.halted = self.halted || steps < free;
+        self.halted = self.halted || steps < usize::from(free);
         self.rounds = self.rounds.saturating_add(1);
     }
 
     /// Whether no steps are to be spent: half of the budget is gone, and no majority is free.
-    fn rests(&self) -> bool {
+    fn rests(&self) -> bool
+        ensures { IsTrue result
+            → 2 * count_free self.now.present.engine.holds ≤ self.now.shape.replicas }
+    {
         let free = free_replicas(&self.present.engine);
-        self.is_old() && free <= usize::from(self.shape.replicas) / 2
+        self.is_old() && 2 * u32::from(free) <= u32::from(self.shape.replicas)
     }
 
     /// Whether half of the budget is gone.
@@ -88,6 +96,8 @@ impl Succession {
         requires settled { IsSettled self.old.present from }
         ensures held { self.new.present.engine.holds ≡ self.old.present.engine.holds }
         ensures inside { IsLasting self.new }
+        ensures now { (self.new.present.engine ≡ self.old.present.engine)
+            ⊎ (self.new.present.engine ≡ begun self.new.shape self.old.present.engine.holds) }
         ensures lasts { (past : List Era) → HoldsEras past self.old → Lasts past self.old self.new }
     {
         let Some(past) = self.next_past() else {
@@ -116,18 +126,6 @@ impl Succession {
         }
         Some(past)
     }
-}
-
-/// How many replicas nothing holds.
-fn free_replicas(engine: &Engine) -> usize {
-    let mut free: usize = 0;
-    for r in 0..engine.config().replicas {
-        let hold = engine.hold_of(r);
-        if !hold.stopped && hold.rounds == 0 {
-            free = free.saturating_add(1);
-        }
-    }
-    free
 }
 
 /// A replica that isn't stopped and has applied every command of the era, if there is one.

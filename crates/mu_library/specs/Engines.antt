@@ -16,6 +16,7 @@ use Rattle.mu_eras.specs.Eras.{Era, IsReplyTo, submitted_over}
 use Rattle.mu_eras.specs.Lasting.{HoldsEras, KeepsEras, KeepsOn, Lasts}
 use Rattle.mu_eras.specs.Standing.{era_of}
 use Rattle.mu_eras.specs.Telling.{HasNoReply, first_told}
+use Rattle.mu_eras.specs.Turns.{PlaysTurns}
 use Rattle.mu_eras.specs.declared.eras.Eras.{Eras}
 use Rattle.mu_handle.specs.declared.holding.Held.{Held}
 use Rattle.mu_input.specs.Grammar.{job}
@@ -116,6 +117,7 @@ Submits client line row old new status =
 pub record PlaysRound (old new : Eras) (status : ℕ) : Type 0 where
   pub done : (status ≡ 0) ⊎ (status ≡ code_of Status.NoMemory)
   pub holds : (live_of new).holds ≡ map after_round (live_of old).holds
+  pub turns : PlaysTurns old.succession new.succession
   pub lasts :
       (past : List Era) → HoldsEras past old.succession
       → Lasts past old.succession new.succession

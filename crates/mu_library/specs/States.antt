@@ -2,11 +2,12 @@
 use Rattle.std.specs.Prelude.{Bool, List, None, Some, [], false, if◌then◌else◌, length, true, ℕ, ◌+◌, ◌<◌, ◌∷◌, ◌≡◌, ◌⊎◌}
 use Rattle.std.specs.declared.option.Option.{Option}
 use Rattle.std.specs.List.{slice_get}
-use Rattle.mu_engine.specs.Live.{Live, is_free}
+use Rattle.mu_engine.specs.Live.{Live}
 use Rattle.mu_engine.specs.declared.hold.Hold.{Hold}
 use Rattle.mu_eras.specs.Eras.{Era, submitted_over}
 use Rattle.mu_eras.specs.Lasting.{HoldsEras}
 use Rattle.mu_eras.specs.Telling.{first_told}
+use Rattle.mu_eras.specs.Turns.{count_free}
 use Rattle.mu_eras.specs.declared.eras.Eras.{Eras}
 use Rattle.mu_library.specs.Engines.{era_now, is_stopped, live_of}
 use Rattle.mu_library.specs.declared.codes.TheConstants.{NO_REPLICA}
@@ -27,11 +28,6 @@ abbrev pub IsFirstLeader : Live → ℕ → Type 0
 IsFirstLeader live r =
     (Leads live r × ((s : ℕ) → s < r → Leads live s → ⊥))
     ⊎ ((r ≡ NOBODY) × ((s : ℕ) → Leads live s → ⊥))
-
--- how many of these are free
-abbrev pub count_free : List Hold → ℕ
-count_free [] = 0
-count_free (hold ∷ holds) = if is_free hold then count_free holds + 1 else count_free holds
 
 -- nothing is shown
 abbrev pub no_state : ℕ → EngineState

@@ -1,13 +1,12 @@
 //! What a live engine stands at: how many commands and eras it had, who leads, and what holds whom.
-ghost use Rattle.std.specs.Prelude.{IsTrue, if◌then◌else◌, length, ◌+◌, ◌<◌, ◌↔◌, ◌≡◌};
-ghost use Rattle.mu_engine.specs.Live.{is_free};
+ghost use Rattle.std.specs.Prelude.{IsTrue, length, ◌<◌, ◌↔◌, ◌≡◌};
 ghost use Rattle.mu_library.specs.Engines.{Asks, OfHandle, OfHeld};
-ghost use Rattle.mu_library.specs.States.{HasState, IsFirstLeader, Leads, ShowsHold, ShowsState, count_free, no_hold, no_state};
+ghost use Rattle.mu_library.specs.States.{HasState, IsFirstLeader, Leads, ShowsHold, ShowsState, no_hold, no_state};
 
 use crate::codes::{EMPTY, NO_REPLICA};
 use crate::handles::taken_out;
-use mu_engine::{Engine, Hold};
-use mu_eras::Eras;
+use mu_engine::Engine;
+use mu_eras::{Eras, free_replicas};
 use mu_handle::{Handle, Held};
 use mu_outcome::Status;
 use std::alloc::Global;
@@ -87,7 +86,7 @@ fn state_of(eras: &Eras) -> EngineState
         status: Status::Done.code(),
         replicas: engine.config().replicas,
         leader: leader_in(engine),
-        free: free_in(engine),
+        free: free_replicas(engine),
         room: engine.room(),
         commands: eras.commands(),
         first_row: eras.first_row(),
@@ -113,30 +112,6 @@ fn leads(engine: &Engine, r: u8) -> bool
     ensures { IsTrue result ↔ Leads engine.now r }
 {
     !engine.hold_of(r).stopped && engine.leader_by(r) == r
-}
-
-/// How many replicas nothing holds.
-fn free_in(engine: &Engine) -> u8
-    ensures { result ≡ count_free engine.now.holds }
-{
-    let replicas = engine.config().replicas;
-    let mut free: u8 = 0;
-    for k in 0..replicas {
-        free = counted(free, engine.hold_of(replicas - 1 - k));
-    }
-    free
-}
-
-/// The count with a replica that is held so.
-fn counted(free: u8, hold: Hold) -> u8
-    requires { free < 255 }
-    ensures { result ≡ (if is_free hold then free + 1 else free) }
-{
-    if !hold.stopped && hold.rounds == 0 {
-        free + 1
-    } else {
-        free
-    }
 }
 
 /// What holds a replica.

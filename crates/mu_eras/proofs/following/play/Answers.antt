@@ -1,4 +1,4 @@
-use Rattle.std.proofs.Common.{◌+◌, ◌≤◌, ap, arith, length}
+use Rattle.std.proofs.Common.{◌+◌, ◌≤◌, ap, arith, inl, length}
 use Rattle.std.proofs.Math.Logic.{∥∥₁_map}
 use Rattle.mu_eras.proofs.Handing.{stores_go, tells_go}
 use Rattle.mu_eras.proofs.Kept.{taken_goes}
@@ -33,3 +33,6 @@ pub returns-clause-fresh : goal.returns-clause-fresh
 returns-clause-fresh c base held was =
     c.follow.ensures.fresh
     (taken_goes base c.args.engine.now c.round.new.self c.args.stores.now c.args.replies.now c.events.ensures.moment c.events-2.ensures.moment c.round.ensures.goes c.requires.there held was)
+
+pub returns-clause-turns : goal.returns-clause-turns
+returns-clause-turns c = let steps = c.round.ensures.steps in record { steps = steps.0; events = steps.1; turns = inl steps.2 }

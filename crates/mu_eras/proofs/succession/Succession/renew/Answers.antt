@@ -1,4 +1,4 @@
-use Rattle.std.proofs.Common.{◌+◌, ap, false, refl, subst, sym}
+use Rattle.std.proofs.Common.{◌+◌, ap, false, inl, inr, refl, subst, sym}
 use Rattle.mu_engine.specs.Live.{Live}
 use Rattle.mu_engine.specs.Moments.{GoesOn}
 use Rattle.mu_engine.proofs.Going.{goes_still}
@@ -25,3 +25,12 @@ returns-clause-lasts c past held =
     lasts_next past e d
     (eras_next past e d c.args.from held c.requires.settled (c.in_ok-renew.ensures.next past held.present) c.in_ok-renew.ensures.last c.in-Some.ensures.count refl)
     (ap (λ (l : Live). l.job.commands) c.in_ok-renew.ensures.live)
+
+pub returns-in_default-clause-now : goal.returns-in_default-clause-now
+returns-in_default-clause-now c = inl refl
+
+pub returns-in_err-renew-clause-now : goal.returns-in_err-renew-clause-now
+returns-in_err-renew-clause-now c = inl c.in_err-renew.ensures.same
+
+pub returns-clause-now : goal.returns-clause-now
+returns-clause-now c = inr c.in_ok-renew.ensures.live

@@ -2,9 +2,9 @@ use Rattle.std.proofs.Common.{◌+◌, ◌-◌, ◌≡◌, ◌≤◌, ◌∙◌,
 use Rattle.std.specs.Prelude.{if◌then◌else◌}
 use Rattle.std.specs.List.{slice_get}
 use Rattle.mu_engine.specs.Live.{is_free}
-use Rattle.mu_library.specs.States.{count_free}
-use Rattle.mu_library.proofs.Places.{counted_few, drop_here}
-use Rattle.mu_library.proofs.states.free_in.Goals as goal
+use Rattle.mu_eras.specs.Turns.{count_free}
+use Rattle.mu_eras.proofs.Places.{counted_few, drop_here}
+use Rattle.mu_eras.proofs.counting.free_replicas.Goals as goal
 
 pub loop-k-preserved : goal.loop-k-preserved
 loop-k-preserved c =

@@ -1,6 +1,6 @@
 use Rattle.std.proofs.Common.{◌≡◌, ◌≤◌, ◌-◌, drop}
-use Rattle.mu_library.specs.States.{count_free}
-use Rattle.mu_library.proofs.states.free_in.Given as goal
+use Rattle.mu_eras.specs.Turns.{count_free}
+use Rattle.mu_eras.proofs.counting.free_replicas.Given as goal
 
 abbrev pub invariant-loop-k : goal.invariant-loop-k
 invariant-loop-k l = record {
