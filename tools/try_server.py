@@ -48,10 +48,10 @@ class Server:
     def __init__(self, program, *words):
         self.run = subprocess.Popen([program, "0", *words], stdout=subprocess.PIPE, stderr=subprocess.PIPE, text=True)
         self.line = self.run.stdout.readline()
-        found = re.search(r"port (\d+)\. ", self.line)
+        found = re.search(r"(\d) replicas at .*, port (\d+)\. ", self.line)
         if not found:
             raise OSError(f"no server: {self.line}{self.run.stderr.read()}")
-        self.port = int(found[1])
+        self.replicas, self.port = int(found[1]), int(found[2])
 
     def __enter__(self):
         return self
@@ -202,7 +202,7 @@ def cut(draw, came):
 
 def with_model(server, judge_, draw, count, of_each, is_mutated):
     """Connections one after the other, whose answers are foretold."""
-    model = Model()
+    model = Model(server.replicas)
     for k in range(count):
         came = b"".join(request(*drawn_request(draw)) for _ in range(of_each))
         pieces = [mutated(draw, came)] if is_mutated else cut(draw, came) if k % 4 == 0 else [came]
