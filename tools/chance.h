@@ -8,7 +8,7 @@
 #include <stdlib.h>
 #include <string.h>
 
-static uint64_t chance;
+extern uint64_t chance; /* one in each program */
 
 /* Any 64 bits. */
 static inline uint64_t any_word(void)

@@ -27,8 +27,8 @@ def microseconds(program, path, loaded, first):
     is_threads = os.path.basename(program) == "mu"
     words = [program, "run"] if is_threads else [program, path, "moments"]
     with open(path, "rb") as given:
-        done = subprocess.run([*first, *words], stdin=given if is_threads else subprocess.DEVNULL, capture_output=True, check=False,
-                              env=dict(os.environ, LD_PRELOAD=loaded) if is_threads else None)
+        more = {"env": dict(os.environ, LD_PRELOAD=loaded), "stdin": given} if is_threads else {"stdin": subprocess.DEVNULL}
+        done = subprocess.run([*first, *words], capture_output=True, check=False, **more)
     if is_threads:
         return int(done.stderr.split()[-1]) / 1e3, done.returncode == 0
     spans = [(float(went), float(ended)) for went, ended in WENT.findall(done.stderr)]

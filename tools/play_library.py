@@ -57,7 +57,8 @@ def fault_of(words, what):
 
 def calls_played(folder, calls, seed):
     """How many ways were tried, what was wrong, and what is left out here."""
-    sources, wrong, left, tried = sorted(it.path for it in os.scandir(os.path.join(TOOLS, "calls")) if it.name.endswith(".c")), [], [], 0
+    wrong, left, tried = [], [], 0
+    sources = sorted(it.path for it in os.scandir(os.path.join(TOOLS, "calls")) if it.name.endswith(".c"))
     watched = built(folder, "calls_watched", SANITIZED, sources)
     plain = built(folder, "calls", ["-O1", "-g"], sources)
     if watched:
@@ -67,8 +68,9 @@ def calls_played(folder, calls, seed):
         left.append("calls with sanitizers, which the compiler lacks")
     if plain and shutil.which("valgrind"):
         tried += 1
-        words = ["valgrind", "--quiet", "--leak-check=full", "--error-exitcode=9", plain, str(calls // WATCHED_PART), str(seed + 1)]
-        wrong.append(fault_of(words, f"{calls // WATCHED_PART} calls under valgrind"))
+        few = calls // WATCHED_PART
+        words = ["valgrind", "--quiet", "--leak-check=full", "--error-exitcode=9", plain, str(few), str(seed + 1)]
+        wrong.append(fault_of(words, f"{few} calls under valgrind"))
     else:
         left.append("calls under valgrind, which isn't here")
     return tried, [it for it in wrong if it], left
@@ -112,7 +114,8 @@ def main():
     tried, wrong, left, ends = played(calls, runs, seed)
     for it in left:
         print(f"left out: {it}")
-    print(f"{runs} runs with a stray word from seed {seed}: " + ", ".join(f"{name} {number}" for name, number in sorted(ends.items())))
+    told = ", ".join(f"{name} {number}" for name, number in sorted(ends.items()))
+    print(f"{runs} runs with a stray word from seed {seed}: {told}")
     return tell(wrong, f"{tried - len(wrong)} of {tried} as they should be: {calls} calls, and {runs} runs with a stray word")
 
 

@@ -5,6 +5,8 @@
  *     cc -std=c11 -Ic tools/schedules.c out/libmu.a -o schedules && ./schedules RUNS SEED */
 #include "chance.h"
 
+uint64_t chance;
+
 enum { MOST = 7, LINE = 192, TEXT = 64, EVENTS = 60000, JOB = 4096, COMMANDS = 24 };
 
 /* Where a replica is between two steps of its own. */

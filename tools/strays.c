@@ -4,6 +4,8 @@
  *     cc -std=c11 -Ic tools/strays.c out/libmu.a -o strays && ./strays RUNS SEED */
 #include "chance.h"
 
+uint64_t chance;
+
 enum { MOST = 7, ROWS = 12, ROW_WORDS = 12, STEPS = 40000, TEXT = 16, JOB = 1024, ENTRIES = 64, KEYS = 3, BUDGET = 60000 };
 
 /* Where the words of a host are. */

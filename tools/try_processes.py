@@ -9,7 +9,8 @@ A report is judged as tools/run_trials.py judges those of threads: logs, batches
 its own over the longest log. A half of the runs is traced: `mu check` has to find the list of
 events legal, and what `mu tell` makes of it has to be the report. Of a replica that was killed, outrun, spent its budget
 or got no answer `tell` has at least the entries of the report: what it had read whole it may have been about to apply.
-`./test` makes sixty such runs; some thousand take an hour.
+`./test` makes sixty such runs; some thousand take an hour. $PROGRAM is run in place of ./NAME, as one with sanitizers, and
+$MU in place of ./mu.
 """
 import os
 import random
@@ -39,7 +40,7 @@ class Setting:
 
     def __init__(self, name, most=300):
         self.name, self.is_fabric = name, name == "mu_fabric"
-        self.path = os.path.join(TOP, "mu_fabric" if self.is_fabric else "mu_processes")
+        self.path = os.environ.get("PROGRAM") or os.path.join(TOP, "mu_fabric" if self.is_fabric else "mu_processes")
         self.replicas = [3, 5] if self.is_fabric else [3, 5, 7]
         self.sizes = [size for size in ([20, 60] if self.is_fabric else [20, 60, 120, 300]) if size <= most]
         self.lengths = [5, 10] if most < 100 else [5, 20, 40]

@@ -30,6 +30,7 @@ int main(int count, char **given)
     mu_rests_begin(&calls.rests, 0, 1, 1, 1, 0);
     for (; calls.count < most; calls.count++) {
         uint32_t kind = below(64);
+        calls.is_wild = below(3) == 0;
         if (kind == 0)
             ask_input();
         else if (kind == 1)

@@ -15,6 +15,7 @@ struct calls {
     mu_replica replicas[HELD];
     mu_rests rests;
     uint64_t count, refusals;
+    int is_wild; /* whether what is drawn for this call may be wrong */
     char *out; /* `room` bytes, and guards behind */
     size_t room;
 };
@@ -24,7 +25,7 @@ extern struct calls calls;
 /* Ends the program with a line, unless this is so. */
 void expect(int is_so, const char *what);
 
-/* Mostly a number up to this one; or one that is near a limit, or any. */
+/* A number up to this one; of a wild call also one that is near a limit, or any. */
 uint32_t any_number(uint32_t most);
 
 /* Some room for a text: none, a little, or enough. */
@@ -33,7 +34,7 @@ void give_room(void);
 /* A call has told a text of so many bytes: it may not have written behind the room. */
 void told(size_t taken, const char *what);
 
-/* A line, which may be no command; and a job, which may be none. How many bytes they have. */
+/* A line, which may be no command if the call is wild; and a job, which may be none. How many bytes they have. */
 size_t command_drawn(char *line, size_t most);
 size_t job_drawn(char *text, size_t most);
 

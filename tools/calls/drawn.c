@@ -1,6 +1,7 @@
 /* drawn.c: numbers, lines, jobs and room; and what may not change. */
 #include "calls.h"
 
+uint64_t chance;
 struct calls calls;
 static char before[SEEN + 128], after[SEEN + 128];
 static size_t length_before;
@@ -17,7 +18,7 @@ void expect(int is_so, const char *what)
 
 uint32_t any_number(uint32_t most)
 {
-    switch (below(8)) {
+    switch (calls.is_wild ? below(8) : 4) {
     case 0: return (uint32_t)any_word();
     case 1: return UINT32_MAX - below(3);
     case 2: return 255 + below(3);
@@ -43,9 +44,9 @@ void told(size_t taken, const char *what)
 size_t command_drawn(char *line, size_t most)
 {
     static const char *const forms[] = { "put %c %u", "get %c", "swap %c %u", "del %c", "cas %c %u 7", "put %c", "", "get %c\n", "put %c %u %u" };
-    uint32_t kind = below(14);
-    int length = snprintf(line, most, forms[kind < 9 ? kind : kind % 4], 'a' + (int)below(3), below(100), below(9));
-    if (below(20) == 0 && length > 0)
+    uint32_t kind = below(calls.is_wild ? 9 : 5);
+    int length = snprintf(line, most, forms[kind], 'a' + (int)below(3), below(100), below(9));
+    if (calls.is_wild && length > 0 && below(4) == 0)
         line[below((uint32_t)length)] = (char)any_word();
     return (size_t)length;
 }
@@ -58,13 +59,13 @@ size_t job_drawn(char *text, size_t most)
         used += (size_t)snprintf(text + used, most - used, "client %u\n", client);
         for (uint32_t k = 0; k < 1 + below(3); k++) {
             command_drawn(line, sizeof line);
-            used += (size_t)snprintf(text + used, most - used, "%s\n", below(4) ? "put a 1" : line);
+            used += (size_t)snprintf(text + used, most - used, "%s\n", line);
         }
     }
     used += (size_t)snprintf(text + used, most - used, "end\n");
-    if (below(6) == 0)
+    if (calls.is_wild && below(2))
         text[below((uint32_t)used)] = (char)any_word();
-    return below(8) == 0 ? below((uint32_t)used + 1) : used;
+    return calls.is_wild && below(4) == 0 ? below((uint32_t)used + 1) : used;
 }
 
 /* What can be seen of a judge, an engine or a replica, as a text. */
