@@ -1,0 +1,5 @@
+mod Places
+mod Rows
+mod Orders
+mod Laws
+mod Cells
