@@ -2,8 +2,7 @@
 use Rattle.std.proofs.Common.{◌≡◌, ℕ, ◌+◌, ◌*◌, ◌/◌, ◌%◌, ◌<◌, ◌≤◌, ◌⊎◌, inl, inr, sym, ap, ◌∙◌, arith}
 use Rattle.std.proofs.lemmas.Bool.{cases_order}
 use Rattle.mu_inbox.specs.declared.access.Cell.{Cell}
-use Rattle.mu_inbox.specs.declared.access.Shape.{Shape}
-use Rattle.mu_inbox.specs.Shapes.{CellsDiffer, IsCell, index_of}
+use Rattle.mu_inbox.specs.Shapes.{CellsDiffer}
 
 -- the parts of a row's word, by its number among the words of rows
 quotient : (n k : ℕ) → k < 12 → (n * 12 + k) / 12 ≡ n

@@ -1,11 +1,11 @@
 -- The law of the list.
-use Rattle.std.proofs.Common.{◌≡◌, ◌≢◌, ◌⊎◌, ℕ, suc, zero, ◌+◌, ◌<◌, ◌≤◌, Bool, true, false, List, [], ◌∷◌, ◌++◌, Some, inl, inr, length, get_or, refl, sym, ap, subst, ◌∙◌, arith, true≢false}
+use Rattle.std.proofs.Common.{◌≡◌, ◌≢◌, ◌⊎◌, ℕ, ◌<◌, List, [], ◌∷◌, ◌++◌, inl, inr, length, refl, sym, ap, subst, ◌∙◌, arith, true≢false}
 use Rattle.std.specs.Prelude.{slice_index}
 use Rattle.std.proofs.lemmas.Bool.{cases_eq}
 use Rattle.std.proofs.lemmas.List.{ext_get_or}
 use Rattle.mu_inbox.specs.declared.access.Cell.{Cell}
-use Rattle.mu_inbox.specs.Entries.{GoesOn, IsEntry, IsOneList, IsRead, ListGoesOn, OneList, place_word}
-use Rattle.mu_inbox.specs.Memory.{AreAnswered, Made, has_taken, held, is_reference, own_of, row_in, writer_in}
+use Rattle.mu_inbox.specs.Entries.{GoesOn, IsEntry, IsRead, ListGoesOn, OneList, place_word}
+use Rattle.mu_inbox.specs.Memory.{AreAnswered, Made, held, is_reference, own_of, row_in, writer_in}
 use Rattle.mu_inbox.proofs.Orders.{behind_law, in_order}
 use Rattle.mu_inbox.proofs.Places.{front_law, not_zero, place_kept}
 use Rattle.mu_inbox.proofs.Rows.{read_stands, row_kept, taken_by_writer, taken_stands, word_held}

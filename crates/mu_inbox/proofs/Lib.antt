@@ -3,3 +3,6 @@ mod Rows
 mod Orders
 mod Laws
 mod Cells
+mod Growing
+mod Running
+mod WordsRead

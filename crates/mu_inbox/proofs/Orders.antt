@@ -1,9 +1,9 @@
 -- Orders: each row of a writer stands once, and its rows stand in their order.
-use Rattle.std.proofs.Common.{◌≡◌, ◌≢◌, ◌⊎◌, ℕ, suc, zero, ◌+◌, ◌<◌, ◌≤◌, ◌==◌, ◌&&◌, ◌||◌, Bool, true, false, cond, List, [], ◌∷◌, inl, inr, refl, sym, ap, subst, ◌∙◌, eqb-true, arith, true≢false}
+use Rattle.std.proofs.Common.{◌≡◌, ◌≢◌, ◌⊎◌, ℕ, ◌<◌, ◌≤◌, ◌==◌, ◌&&◌, Bool, true, false, cond, List, [], ◌∷◌, inl, inr, refl, sym, ap, subst, ◌∙◌, eqb-true, arith, true≢false}
 use Rattle.std.proofs.lemmas.Bool.{and_parts, cases_lt, or_cases}
 use Rattle.mu_inbox.specs.declared.access.Verb.{Verb}
 use Rattle.mu_inbox.specs.Entries.{place_word}
-use Rattle.mu_inbox.specs.Memory.{AreAnswered, IsAnsweredOnce, Made, MayPut, has_taken, is_reference, own_of, puts_at, reference}
+use Rattle.mu_inbox.specs.Memory.{AreAnswered, IsAnsweredOnce, Made, has_taken, is_reference, own_of, puts_at}
 use Rattle.mu_inbox.proofs.Places.{front_law, made_of, not_zero}
 use Rattle.mu_inbox.proofs.Rows.{is_row, taken_stands}
 

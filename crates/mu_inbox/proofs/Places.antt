@@ -1,11 +1,11 @@
 -- Places: what stands at one stays, who filled it, and that they fill from the front.
-use Rattle.std.proofs.Common.{◌≡◌, ◌≢◌, ◌⊎◌, ℕ, suc, zero, ◌+◌, ◌<◌, ◌≤◌, ◌==◌, ◌&&◌, ◌||◌, Bool, true, false, cond, List, [], ◌∷◌, inl, inr, refl, sym, ap, subst, ◌∙◌, eqb-true, ne_eqb, eq-eqb, arith, true≢false}
-use Rattle.std.proofs.lemmas.Bool.{and_parts, and_from, or_cases, or_left, or_right, cases_eq, cases_lt}
+use Rattle.std.proofs.Common.{◌≡◌, ◌≢◌, ◌⊎◌, ℕ, suc, zero, ◌<◌, ◌≤◌, ◌==◌, ◌&&◌, Bool, true, false, cond, List, [], ◌∷◌, inl, inr, refl, sym, ap, subst, ◌∙◌, eqb-true, ne_eqb, eq-eqb, arith, true≢false}
+use Rattle.std.proofs.lemmas.Bool.{and_parts, and_from, or_cases, cases_eq, cases_lt}
 use Rattle.lone_words.specs.Memory.{left_by}
 use Rattle.mu_inbox.specs.declared.access.Cell.{Cell}
 use Rattle.mu_inbox.specs.declared.access.Verb.{Verb}
 use Rattle.mu_inbox.specs.Entries.{place_word}
-use Rattle.mu_inbox.specs.Memory.{Allowed, AreAnswered, IsAnsweredOnce, Made, MayPut, cell_of, has_found, has_passed, has_taken, held, is_about, is_reference, is_same_cell, own_of, puts_at, reference, row_in, step_of, stores, writer_in}
+use Rattle.mu_inbox.specs.Memory.{AreAnswered, IsAnsweredOnce, Made, MayPut, cell_of, has_found, has_passed, is_about, is_reference, is_same_cell, own_of, puts_at, reference, step_of}
 
 -- an access by its parts
 abbrev pub made_of : ℕ → Verb → ℕ → Made

@@ -1,12 +1,10 @@
 -- Rows: the words of one are what its writer wrote, and don't change once it was put.
-use Rattle.std.proofs.Common.{◌≡◌, ◌≢◌, ◌⊎◌, ℕ, suc, zero, ◌+◌, ◌-◌, ◌*◌, ◌/◌, ◌%◌, ◌<◌, ◌≤◌, ◌==◌, ◌&&◌, ◌||◌, Bool, true, false, cond, List, [], ◌∷◌, None, Some, inl, inr, refl, sym, ap, subst, ◌∙◌, eqb-true, ne_eqb, eq-eqb, arith, true≢false}
-use Rattle.std.specs.declared.option.Option.{Option}
-use Rattle.std.proofs.lemmas.Bool.{and_parts, and_from, cases_eq, le-leb, leb-true, or_cases, or_left, or_right}
-use Rattle.lone_words.specs.Memory.{left_by}
+use Rattle.std.proofs.Common.{◌≡◌, ◌⊎◌, ℕ, ◌<◌, ◌≤◌, ◌==◌, ◌&&◌, ◌||◌, Bool, true, false, cond, List, [], ◌∷◌, None, Some, inl, inr, refl, sym, ap, subst, ◌∙◌, eqb-true, ne_eqb, eq-eqb, arith, true≢false}
+use Rattle.std.proofs.lemmas.Bool.{and_parts, cases_eq, le-leb, leb-true, or_cases, or_left, or_right}
 use Rattle.mu_inbox.specs.declared.access.Cell.{Cell}
 use Rattle.mu_inbox.specs.declared.access.Verb.{Verb}
 use Rattle.mu_inbox.specs.Entries.{place_word, read_at, reads}
-use Rattle.mu_inbox.specs.Memory.{Allowed, AreAnswered, IsAnsweredOnce, Made, MayPut, cell_of, has_found, has_put, has_taken, held, is_reference, is_same_cell, own_of, puts, puts_at, reference, row_in, step_of, written, written_by, writer_in}
+use Rattle.mu_inbox.specs.Memory.{Allowed, AreAnswered, IsAnsweredOnce, Made, has_found, has_put, has_taken, held, is_reference, own_of, puts, puts_at, reference, row_in, written, written_by, writer_in}
 use Rattle.mu_inbox.proofs.Places.{ClosedHere, PutHere, fills, found_stays, made_of, not_zero, place_kept, same_both}
 
 -- what a reference says

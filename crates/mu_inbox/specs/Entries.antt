@@ -1,6 +1,6 @@
 -- entry, read, one list, goes on: what stands at a place; what a process has read there; that this is
 -- one list for all; and that it only grows.
-use Rattle.std.specs.Prelude.{Bool, List, None, Some, [], false, if◌then◌else◌, length, slice_index, true, ℕ, ◌&&◌, ◌++◌, ◌<◌, ◌==◌, ◌≡◌, ◌≢◌, ◌≤◌, ◌∷◌}
+use Rattle.std.specs.Prelude.{Bool, List, None, Some, [], false, if◌then◌else◌, length, slice_index, true, ℕ, ◌&&◌, ◌++◌, ◌<◌, ◌==◌, ◌≡◌, ◌≢◌, ◌∷◌}
 use Rattle.std.specs.declared.option.Option.{Option}
 use Rattle.mu_inbox.specs.declared.access.Cell.{Cell}
 use Rattle.mu_inbox.specs.declared.access.Verb.{Verb}

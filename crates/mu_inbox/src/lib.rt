@@ -3,12 +3,17 @@
 #![tactic(auto)]
 
 ghost use Rattle.mu_inbox.specs.Entries.{ListGoesOn, OneList};
-
+ghost use Rattle.mu_inbox.specs.Running.{AccessesGoOn};
 ghost use Rattle.mu_inbox.specs.Shapes.{CellsDiffer};
 
 mod access;
+mod inbox;
+mod planning;
+mod taking;
 
 pub use access::{Access, Cell, Shape, Verb};
+pub use inbox::{Inbox, Refusal};
+pub use taking::{Came, Untaken};
 
 /// Different words of the list stand at different places of memory.
 pub fn cells_differ()
@@ -24,4 +29,10 @@ pub fn one_list()
 /// Whatever accesses come, the list only grows at its end, and a closed one doesn't.
 pub fn list_goes_on()
     ensures { ListGoesOn }
+{}
+
+/// The access that is under way may be made, whatever came between; then the value that takes what it
+/// found stands for the accesses of its process.
+pub fn accesses_go_on()
+    ensures { AccessesGoOn }
 {}
