@@ -1,0 +1,5 @@
+pub mod Shapes
+pub mod Memory
+pub mod Entries
+pub mod Standing
+pub mod Running
