@@ -1,4 +1,4 @@
-/* mu.hpp: the judge and the engine of mu.h as C++17 objects, each of which owns what it holds. It may
+/* mu.hpp: the judge, the engine and the replica of mu.h as C++17 objects, each of which owns what it holds. It may
  * be moved and not copied; what was moved from holds nothing, and every call on it is refused.
  *
  *     c++ -std=c++17 -Ic yours.cc out/libmu.a -o yours */
@@ -30,6 +30,8 @@ inline const char *name_of(std::uint32_t status)
     case MU_FULL: return "MU_FULL";
     case MU_STOPPED: return "MU_STOPPED";
     case MU_MIXED: return "MU_MIXED";
+    case MU_ENDED: return "MU_ENDED";
+    case MU_STRAY: return "MU_STRAY";
     case MU_BEYOND: return "MU_BEYOND";
     case MU_NO_SUCH_CLIENT: return "MU_NO_SUCH_CLIENT";
     case MU_NO_SUCH_REPLICA: return "MU_NO_SUCH_REPLICA";
@@ -179,6 +181,104 @@ public:
 
 private:
     mu_judge held;
+};
+
+/* How the events of a replica have ended: if it was outrun, by which region and position it saw that. */
+struct End {
+    std::uint32_t how; /* of mu_end */
+    std::uint32_t region, position;
+};
+
+/* One replica that makes no access itself. */
+class Replica {
+public:
+    Replica(std::string_view job, std::uint32_t id, bool eager, std::uint32_t room = 0)
+    {
+        accept(mu_replica_new(&held, job.data(), job.size(), id, eager, room));
+    }
+    ~Replica() { mu_replica_free(&held); }
+    Replica(Replica &&other) noexcept : held(std::exchange(other.held, mu_replica MU_NO_REPLICA)) {}
+    Replica &operator=(Replica &&other) noexcept
+    {
+        std::swap(held, other.held);
+        return *this;
+    }
+
+    /* How many hosts there are, and how many words each has. */
+    std::pair<std::uint32_t, std::uint32_t> shape()
+    {
+        std::uint32_t hosts = 0, words = 0;
+        accept(mu_replica_shape(&held, &hosts, &words));
+        return {hosts, words};
+    }
+    /* The access that it wants now; none if it is halted. */
+    std::optional<mu_operation> next()
+    {
+        mu_operation operation;
+        return unless_ended(mu_replica_next(&held, &operation), operation);
+    }
+    /* Takes the word that the access found. */
+    void take(std::uint64_t found) { accept(mu_replica_take(&held, found)); }
+    /* The same, and then the next access. */
+    std::optional<mu_operation> take_next(std::uint64_t found)
+    {
+        mu_operation operation;
+        return unless_ended(mu_replica_take_next(&held, found, &operation), operation);
+    }
+    /* Appends the next command of a client: its row. */
+    std::uint32_t append(std::uint32_t client, std::string_view line)
+    {
+        std::uint32_t row = 0;
+        accept(mu_replica_append(&held, client, line.data(), line.size(), &row));
+        return row;
+    }
+
+    /* Its end, if its events have one. */
+    std::optional<End> end()
+    {
+        End end{};
+        const std::uint32_t status = mu_replica_end(&held, &end.how, &end.region, &end.position);
+        if (status == MU_UNFINISHED)
+            return std::nullopt;
+        accept(status);
+        return end;
+    }
+    /* The reply of its own store to a row, if it is there. */
+    std::optional<Reply> reply(std::uint32_t row)
+    {
+        std::uint32_t kind = 0;
+        auto [status, text] = told(
+            [&](char *out, std::size_t room, std::size_t *taken) {
+                return mu_replica_reply(&held, row, &kind, out, room, taken);
+            },
+            64);
+        if (status == MU_UNFINISHED)
+            return std::nullopt;
+        accept(status);
+        return Reply{kind, std::move(text)};
+    }
+    /* Its newest event, as a line of a trace; empty if it has none. */
+    std::string event()
+    {
+        auto [status, text] = told(
+            [&](char *out, std::size_t room, std::size_t *taken) {
+                return mu_replica_event(&held, out, room, taken);
+            },
+            192);
+        if (status != MU_UNFINISHED)
+            accept(status);
+        return std::move(text);
+    }
+
+private:
+    static std::optional<mu_operation> unless_ended(std::uint32_t status, const mu_operation &operation)
+    {
+        if (status == MU_ENDED)
+            return std::nullopt;
+        accept(status);
+        return operation;
+    }
+    mu_replica held;
 };
 
 } // namespace mu

@@ -1,10 +1,11 @@
-// Uses mu.hpp: an engine over a stop of its leader, moves, refusals, and a judge.
+// Uses mu.hpp: an engine over a stop of its leader, moves, refusals, a judge, and a replica alone.
 //
 //     c++ -std=c++17 -Ic c/uses.cc out/libmu.a -o uses && ./uses
 #include "mu.hpp"
 
 #include <cstdio>
 #include <type_traits>
+#include <vector>
 
 static int wrong;
 
@@ -75,9 +76,50 @@ static void judges()
     }
 }
 
+// The word as an access leaves it.
+static std::uint64_t left(std::uint64_t found, const mu_operation &o)
+{
+    switch (o.kind) {
+    case MU_STORE: case MU_SWAP: return o.value;
+    case MU_RAISE: return found < o.value ? o.value : found;
+    case MU_ADD: return found + o.value;
+    case MU_SET_BITS: return found | o.value;
+    case MU_COMPARE: return found == o.expected ? o.value : found;
+    default: return found;
+    }
+}
+
+static void replicas()
+{
+    mu::Replica replica("mu 1\nreplicas 1\nring 8\nbudget 9999\nclient 0\nput a 5\nend\n", 0, false, 2);
+    const auto shape = replica.shape();
+    expect("one host", shape.first == 1 && shape.second > 8);
+    std::vector<std::uint64_t> words(shape.second);
+    words[0] = MU_FIRST_FENCE;
+    expect("no event", replica.event().empty() && !replica.end());
+    expect("no access", refusal([&] { replica.take(0); }) == MU_USAGE);
+    auto operation = replica.next();
+    expect("its row", replica.append(0, "get a") == 1);
+    expect("no room", refusal([&] { replica.append(0, "get a"); }) == MU_FULL);
+    mu::Replica moved(std::move(replica));
+    expect("the one moved from", refusal([&] { replica.next(); }) == MU_USAGE);
+    while (operation && !moved.reply(1)) {
+        std::uint64_t &word = words[operation->place];
+        const std::uint64_t found = word;
+        word = left(found, *operation);
+        moved.take(found);
+        expect("an event", moved.event().compare(0, 2, "0 ") == 0);
+        operation = moved.next();
+    }
+    const auto value = moved.reply(1);
+    expect("its reply", value && value->kind == MU_REPLY_VALUE && value->text == "5");
+    expect("no replica", refusal([] { mu::Replica("mu 3\n", 0, false); }) == MU_REFUSED);
+}
+
 int main()
 {
     engines();
+    replicas();
     judges();
     std::puts(wrong ? "mu.hpp is not as it says" : "mu.hpp is as it says");
     return wrong ? 1 : 0;

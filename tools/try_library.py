@@ -112,7 +112,10 @@ def try_alone(tried, folder, compiler):
     """Replicas over an array: in turn they make the stored trace, and lists of random schedules are legal."""
     example = built(compiler, folder, "alone", "-std=c11", os.path.join(OWN, "alone.c"))
     run = subprocess.run([example], stdout=subprocess.PIPE, timeout=120, check=False)
-    tried.expect("alone.c", (run.returncode, run.stdout), (0, contents(os.path.join(EXAMPLES, "put-and-get.trace")) + b"legal 725\n"))
+    wanted = contents(os.path.join(EXAMPLES, "put-and-get.trace")) + b"legal 725\n"
+    tried.expect("alone.c", (run.returncode, run.stdout), (0, wanted))
+    run = subprocess.run([sys.executable, os.path.join(OWN, "alone.py")], stdout=subprocess.PIPE, timeout=120, check=False)
+    tried.expect("alone.py", (run.returncode, run.stdout), (0, wanted))
     program = built(compiler, folder, "schedules", "-std=c11", "-Wno-format-nonliteral", os.path.join(TOOLS, "schedules.c"))
     runs = QUICK_SCHEDULES if "--quick" in sys.argv else SCHEDULES
     run = subprocess.run([program, str(runs), "1"], stdout=subprocess.PIPE, timeout=600, check=False)

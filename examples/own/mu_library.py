@@ -3,7 +3,7 @@ import ctypes
 import os
 
 DONE, USAGE, REFUSED, UNFINISHED, NO_MEMORY, ILLEGAL, TOO_LONG = 0, 1, 2, 3, 6, 7, 8
-FULL, STOPPED, MIXED = 9, 10, 11
+FULL, STOPPED, MIXED, ENDED, STRAY = 9, 10, 11, 12, 13
 BEYOND, NO_SUCH_CLIENT, NO_SUCH_REPLICA, NO_SUCH_ROW, OLD_ROW, EMPTY = 15, 16, 17, 18, 19, 20
 # What each status that isn't DONE says, beside its name.
 MEANT = {USAGE: ("USAGE", "no such task or number, or it was let go"),
@@ -11,6 +11,7 @@ MEANT = {USAGE: ("USAGE", "no such task or number, or it was let go"),
          NO_MEMORY: ("NO_MEMORY", "there was no memory"), ILLEGAL: ("ILLEGAL", "the list isn't legal"),
          TOO_LONG: ("TOO_LONG", "the input is too long"), FULL: ("FULL", "the era takes no more commands now"),
          STOPPED: ("STOPPED", "the replica is stopped"), MIXED: ("MIXED", "no text of a job has the commands in this order"),
+         ENDED: ("ENDED", "the replica is halted"), STRAY: ("STRAY", "no legal list leaves this word there"),
          BEYOND: ("BEYOND", "a number is out of its limits"), NO_SUCH_CLIENT: ("NO_SUCH_CLIENT", "there is no such client"),
          NO_SUCH_REPLICA: ("NO_SUCH_REPLICA", "there is no such replica"), NO_SUCH_ROW: ("NO_SUCH_ROW", "there is no such row yet"),
          OLD_ROW: ("OLD_ROW", "its reply isn't kept any more"), EMPTY: ("EMPTY", "there is no engine: it was let go")}
@@ -28,7 +29,7 @@ except OSError as cause:
 
 
 class Held(ctypes.Structure):
-    """What the library keeps of a judge or of an engine."""
+    """What the library keeps of a judge, of an engine or of a replica."""
     _fields_ = [("at", ctypes.c_void_p)]
 
 
@@ -43,7 +44,13 @@ class Hold(ctypes.Structure):
     _fields_ = [("stopped", NUMBER), ("rounds", NUMBER)]
 
 
+class Operation(ctypes.Structure):
+    """An access to one word: that at `place` among the words of `host`; c/mu.h says what each kind does to it."""
+    _fields_ = [("value", WIDE), ("expected", WIDE), ("kind", NUMBER), ("host", NUMBER), ("place", NUMBER), ("reserved", NUMBER)]
+
+
 ROOM = [ctypes.POINTER(ctypes.c_char), SIZE, ctypes.POINTER(SIZE)]
+OPERATION = ctypes.POINTER(Operation)
 HELD, OUT_NUMBER, OUT_WIDE = ctypes.POINTER(Held), ctypes.POINTER(NUMBER), ctypes.POINTER(WIDE)
 for name, given in {
         "mu_answer": [NUMBER, TEXT, SIZE, *ROOM],
@@ -64,9 +71,19 @@ for name, given in {
         "mu_engine_reply": [HELD, WIDE, OUT_NUMBER, *ROOM],
         "mu_engine_until": [HELD, WIDE, NUMBER, OUT_NUMBER, *ROOM],
         "mu_engine_trace": [HELD, *ROOM],
-        "mu_engine_free": [HELD]}.items():
+        "mu_engine_free": [HELD],
+        "mu_replica_new": [HELD, TEXT, SIZE, NUMBER, NUMBER, NUMBER],
+        "mu_replica_shape": [HELD, OUT_NUMBER, OUT_NUMBER],
+        "mu_replica_next": [HELD, OPERATION],
+        "mu_replica_take": [HELD, WIDE],
+        "mu_replica_take_next": [HELD, WIDE, OPERATION],
+        "mu_replica_append": [HELD, NUMBER, TEXT, SIZE, OUT_NUMBER],
+        "mu_replica_end": [HELD, OUT_NUMBER, OUT_NUMBER, OUT_NUMBER],
+        "mu_replica_reply": [HELD, NUMBER, OUT_NUMBER, *ROOM],
+        "mu_replica_event": [HELD, *ROOM],
+        "mu_replica_free": [HELD]}.items():
     getattr(library, name).argtypes, getattr(library, name).restype = given, NUMBER
-library.mu_judge_free.restype = library.mu_engine_free.restype = None
+library.mu_judge_free.restype = library.mu_engine_free.restype = library.mu_replica_free.restype = None
 
 
 def number(value):
@@ -118,7 +135,7 @@ def draw(given, first=0, last=LAST_STEP):
 
 
 class Owner:
-    """What holds a judge or an engine: it is let go at the end of a `with`, by `close`, or with the object."""
+    """What holds a judge, an engine or a replica: it is let go at the end of a `with`, by `close`, or with the object."""
 
     let_go = None
 
@@ -164,7 +181,7 @@ class Judge(Owner):
 
 
 class Refused(Exception):
-    """A call on an engine was refused; `status` and `name` say why, as c/mu.h has them."""
+    """A call on an engine or a replica was refused; `status` and `name` say why, as c/mu.h has them."""
 
     def __init__(self, status):
         self.status = status
@@ -237,5 +254,76 @@ class Engine(Owner):
     def trace(self):
         """The commands and the events so far of the era under way, as a trace."""
         status, text = told(library.mu_engine_trace, self.held)
+        accepted(status)
+        return text
+
+
+class Replica(Owner):
+    """One replica that makes no access itself: it says which it wants, and takes the word that this found."""
+
+    let_go = staticmethod(library.mu_replica_free)
+
+    def __init__(self, job, own_id, eager=True, room=0):
+        super().__init__()
+        job = in_bytes(job)
+        accepted(library.mu_replica_new(self.held, job, len(job), number(own_id), int(eager), number(room)))
+
+    def shape(self):
+        """How many hosts there are, and how many words each has."""
+        hosts, words = NUMBER(), NUMBER()
+        accepted(library.mu_replica_shape(self.held, ctypes.byref(hosts), ctypes.byref(words)))
+        return hosts.value, words.value
+
+    def next(self):
+        """The access that it wants now, or None if it is halted."""
+        operation = Operation()
+        return operation if self.goes_on(library.mu_replica_next(self.held, ctypes.byref(operation))) else None
+
+    def take(self, found):
+        """Takes the word that the access found."""
+        accepted(library.mu_replica_take(self.held, wide(found)))
+
+    def take_next(self, found):
+        """The same, and then the next access, or None if it is halted."""
+        operation = Operation()
+        status = library.mu_replica_take_next(self.held, wide(found), ctypes.byref(operation))
+        return operation if self.goes_on(status) else None
+
+    @staticmethod
+    def goes_on(status):
+        """Whether it isn't halted; raises what was refused."""
+        if status != ENDED:
+            accepted(status)
+        return status != ENDED
+
+    def append(self, client, line):
+        """Appends the next command of a client, and gives its row."""
+        row, line = NUMBER(), in_bytes(line)
+        accepted(library.mu_replica_append(self.held, number(client), line, len(line), ctypes.byref(row)))
+        return row.value
+
+    def end(self):
+        """How its events have ended (of `mu_end`), by which region and which position; None if they haven't."""
+        how, region, position = NUMBER(), NUMBER(), NUMBER()
+        status = library.mu_replica_end(self.held, ctypes.byref(how), ctypes.byref(region), ctypes.byref(position))
+        if status == UNFINISHED:
+            return None
+        accepted(status)
+        return how.value, region.value, position.value
+
+    def reply(self, row):
+        """The reply of its own store to the command of a row, or None as long as there is none."""
+        reply = NUMBER()
+        status, text = told(library.mu_replica_reply, self.held, number(row), ctypes.byref(reply), room=64)
+        if status == UNFINISHED:
+            return None
+        accepted(status)
+        return b" ".join([REPLIES[reply.value].encode(), *([text] if text else [])])
+
+    def event(self):
+        """Its newest event, as a line of a trace, or None if it has none."""
+        status, text = told(library.mu_replica_event, self.held, room=192)
+        if status == UNFINISHED:
+            return None
         accepted(status)
         return text
