@@ -6,3 +6,4 @@ mod Cells
 mod Growing
 mod Running
 mod WordsRead
+mod Right

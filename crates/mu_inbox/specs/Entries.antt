@@ -1,5 +1,5 @@
--- entry, read, one list, goes on: what stands at a place; what a process has read there; that this is
--- one list for all; and that it only grows.
+-- entry, read, one list, goes on: what stands at a place; what a process has read there; that this
+-- is one list for all; and that it only grows.
 use Rattle.std.specs.Prelude.{Bool, List, None, Some, [], false, if◌then◌else◌, length, slice_index, true, ℕ, ◌&&◌, ◌++◌, ◌<◌, ◌==◌, ◌≡◌, ◌≢◌, ◌∷◌}
 use Rattle.std.specs.declared.option.Option.{Option}
 use Rattle.mu_inbox.specs.declared.access.Cell.{Cell}
@@ -44,8 +44,8 @@ pub record IsOfWriter (own : List Made) (p j : ℕ) (words : List ℕ) : Type 0 
   pub each : (k : ℕ) → k < 12 → written j k own ≡ slice_index words k
 
 -- what processes have read is what stands in the list; what a writer was told to be taken stands at
--- its place; what stands there is of its writer, as it wrote it; each row stands once, and those of a
--- writer in their order; places fill from the front; and behind a closed one nothing stands
+-- its place; what stands there is of its writer, as it wrote it; each row stands once, and those of
+-- a writer in their order; places fill from the front; and behind a closed one nothing stands
 pub record IsOneList (made : List Made) : Type 0 where
   pub read :
       (r p : ℕ) (words : List ℕ) → IsRead (own_of r made) p words → IsEntry made p words

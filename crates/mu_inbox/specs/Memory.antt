@@ -1,6 +1,6 @@
--- made, own, held, allowed, answered: an access that was made; those of one process; what a word holds
--- after them; what a process may do by what it has found; and that each was so, and was told what its
--- word held.
+-- made, own, held, allowed, answered: an access that was made; those of one process; what a word
+-- holds after them; what a process may do by what it has found; and that each was so, and was told
+-- what its word held.
 use Rattle.std.specs.Prelude.{Bool, List, [], ◌∷◌, false, if◌then◌else◌, nat_le, suc, true, zero, ℕ, ◌%◌, ◌&&◌, ◌*◌, ◌+◌, ◌-◌, ◌/◌, ◌<◌, ◌==◌, ◌||◌, ◌≡◌}
 use Rattle.mu_words.specs.declared.verbs.Move.{Move}
 use Rattle.lone_words.specs.Memory.{left_by}
@@ -13,8 +13,8 @@ pub record Made : Type 0 where
   pub verb : Verb
   pub word : ℕ
 
--- what stands at the place of row j of writer r, and what it says of them; 0 is a free place, and 1 a
--- closed one
+-- what stands at the place of row j of writer r, and what it says of them; 0 is a free place, and 1
+-- a closed one
 abbrev pub reference : ℕ → ℕ → ℕ
 reference r j = 256 * j + 256 + r
 
@@ -112,7 +112,8 @@ written j k [] = 0
 written j k (m ∷ own) = written_by j k m.verb (written j k own)
 
 -- a row isn't written any more once it was put; it is put behind what is known to be filled, and
--- behind all rows of its writer that were taken; and a list is closed behind what is known to be filled
+-- behind all rows of its writer that were taken; and a list is closed behind what is known to be
+-- filled
 pub record MayPut (r p j : ℕ) (own : List Made) : Type 0 where
   pub writer : r < 256
   pub passed : has_passed p own ≡ true

@@ -1,5 +1,5 @@
--- stands for (inbox), due, next, came: the value of a process stands for the accesses that it made; the
--- access under way; what an access brought.
+-- stands for (inbox), due, next, came: the value of a process stands for the accesses that it made;
+-- the access under way; what an access brought.
 use Rattle.std.specs.Prelude.{Bool, List, None, Some, false, length, nat_le, nat_lt, not, slice_index, slice_set, true, ℕ, ◌&&◌, ◌+◌, ◌<◌, ◌==◌, ◌||◌, ◌≡◌, ◌≢◌, ◌≤◌, ◌∷◌}
 use Rattle.std.specs.declared.option.Option.{Option}
 use Rattle.mu_model.specs.declared.config.Row.{Row}

@@ -101,7 +101,8 @@ impl Inbox {
     /// # Errors
     ///
     /// `Waiting` exactly if the row before it isn't taken yet; else `Full` exactly if nothing more
-    /// comes, or as many rows of this writer were taken as there are places. Then nothing has changed.
+    /// comes, or as many rows of this writer were taken as there are places. Then nothing has
+    /// changed.
     pub fn offer(&mut self, row: Row) -> Result<(), Refusal>
         ghost mine: { List Made }
         requires { StandsForInbox mine self.old }

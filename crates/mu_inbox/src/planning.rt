@@ -9,8 +9,8 @@ use crate::access::{Access, Verb, cell_of, step_of};
 use crate::inbox::{Inbox, Offer};
 
 impl Inbox {
-    /// Its next access, or `None` if nothing more comes. Told again before the word is taken it is the
-    /// same. It begins with what it has to put; who offers nothing only looks and reads.
+    /// Its next access, or `None` if nothing more comes. Told again before the word is taken it is
+    /// the same. It begins with what it has to put; who offers nothing only looks and reads.
     pub fn next(&mut self) -> Option<Access>
         ghost mine: { List Made }
         requires { StandsForInbox mine self.old }

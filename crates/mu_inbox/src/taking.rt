@@ -38,8 +38,8 @@ impl Inbox {
     ///
     /// # Errors
     ///
-    /// `NotDue` if no access is under way; `Stray` if what was found at a place is none of a free or a
-    /// closed one, nor of a row that there may be. Then nothing has changed.
+    /// `NotDue` if no access is under way; `Stray` if what was found at a place is none of a free
+    /// or a closed one, nor of a row that there may be. Then nothing has changed.
     pub fn take(&mut self, word: u64) -> Result<Came, Untaken>
         ghost mine: { List Made }
         requires { StandsForInbox mine self.old }
