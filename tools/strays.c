@@ -56,7 +56,8 @@ static void draw_job(struct run *run)
         used += snprintf(run->job + used, JOB - (size_t)used, "client %u\n", client);
         for (uint32_t k = 1 + below(4); k > 0; k--) {
             struct command *it = &run->command[run->rows++];
-            *it = (struct command){ .key = (char)('a' + below(KEYS)), .kind = "pgsd"[below(4)], .value = below(1000), .client = client };
+            *it = (struct command){ .key = (char)('a' + below(KEYS)), .kind = "pgsd"[below(4)], .value = below(1000),
+                                    .client = client };
             static const char *const forms[] = { "put %c %u\n", "swap %c %u\n", "get %c\n", "del %c\n" };
             const char *form = forms[it->kind == 'p' ? 0 : it->kind == 's' ? 1 : it->kind == 'g' ? 2 : 3];
             used += snprintf(run->job + used, JOB - (size_t)used, form, it->key, it->value);

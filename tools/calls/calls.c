@@ -11,12 +11,13 @@ static void ask_input(void)
     size_t length = job_drawn(text, sizeof text), taken = 9;
     uint32_t which = below(3), status;
     give_room();
+    char *out = calls.room ? calls.out : NULL;
     if (which == 0)
-        status = mu_answer(below(2) ? MU_CHECK + below(2) : any_number(9), text, length, calls.room ? calls.out : NULL, calls.room, &taken);
+        status = mu_answer(below(2) ? MU_CHECK + below(2) : any_number(9), text, length, out, calls.room, &taken);
     else if (which == 1)
-        status = mu_show_answer(any_number(MU_LAST_STEP), text, length, calls.room ? calls.out : NULL, calls.room, &taken);
+        status = mu_show_answer(any_number(MU_LAST_STEP), text, length, out, calls.room, &taken);
     else
-        status = mu_draw_answer(any_number(MU_LAST_STEP), any_number(MU_LAST_STEP), text, length, calls.room ? calls.out : NULL, calls.room, &taken);
+        status = mu_draw_answer(any_number(MU_LAST_STEP), any_number(MU_LAST_STEP), text, length, out, calls.room, &taken);
     calls.refusals += status == MU_USAGE || status == MU_REFUSED;
     expect(status <= MU_TOO_LONG, "a status of an answer");
     told(taken, "a text behind its room");

@@ -43,7 +43,8 @@ void told(size_t taken, const char *what)
 
 size_t command_drawn(char *line, size_t most)
 {
-    static const char *const forms[] = { "put %c %u", "get %c", "swap %c %u", "del %c", "cas %c %u 7", "put %c", "", "get %c\n", "put %c %u %u" };
+    static const char *const forms[] = { "put %c %u", "get %c", "swap %c %u", "del %c", "cas %c %u 7",
+                                         "put %c", "", "get %c\n", "put %c %u %u" };
     uint32_t kind = below(calls.is_wild ? 9 : 5);
     int length = snprintf(line, most, forms[kind], 'a' + (int)below(3), below(100), below(9));
     if (calls.is_wild && length > 0 && below(4) == 0)

@@ -27,7 +27,8 @@ void play_engine(void)
         if (calls.engines[k].at)
             return;
         memset(&calls.engines[k], below(256) & 0xff, sizeof calls.engines[k]);
-        status = mu_engine_new(&calls.engines[k], any_number(4), any_number(40), below(3) ? BUDGET : any_number(131071), below(20));
+        status = mu_engine_new(&calls.engines[k], any_number(4), any_number(40), below(3) ? BUDGET : any_number(131071),
+                               below(20));
         expect((status == MU_DONE) == (calls.engines[k].at != NULL), "a new engine");
         break;
     case 2:

@@ -3,7 +3,8 @@
 
 void play_judge(void)
 {
-    static const char *const lines[] = { "0 ask 1", "0 fence 1", "1 beat", "0 readbeat 1 = 0", "", "9 beat", "0 beat = 1", "0 beat" };
+    static const char *const lines[] = { "0 ask 1", "0 fence 1", "1 beat", "0 readbeat 1 = 0",
+                                         "", "9 beat", "0 beat = 1", "0 beat" };
     uint32_t k = below(HELD), status;
     char text[4096];
     size_t taken = 9, length;

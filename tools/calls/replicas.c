@@ -50,14 +50,19 @@ static void step_replica(uint32_t k)
 
 static void ask_replica(uint32_t k)
 {
-    uint32_t each[5] = { 9, 9, 9, 9, 9 };
+    uint32_t each[5] = { 9, 9, 9, 9, 9 }, status;
     size_t taken = 9;
     int is_there = calls.replicas[k].at != NULL;
     watch(A_REPLICA, k);
     give_room();
     switch (below(6)) {
-    case 0: expect(is_there || mu_replica_end(&calls.replicas[k], each, each + 1, each + 2) == MU_USAGE, "an end of nothing"); break;
-    case 1: expect((mu_replica_state(&calls.replicas[k], each, each + 1, each + 2, each + 3, each + 4) == MU_DONE) == is_there, "a state"); break;
+    case 0:
+        expect(is_there || mu_replica_end(&calls.replicas[k], each, each + 1, each + 2) == MU_USAGE, "an end of nothing");
+        break;
+    case 1:
+        status = mu_replica_state(&calls.replicas[k], each, each + 1, each + 2, each + 3, each + 4);
+        expect((status == MU_DONE) == is_there, "a state");
+        break;
     case 2: mu_replica_applied(&calls.replicas[k], any_number(10), each); break;
     case 3: mu_replica_commit(&calls.replicas[k], any_number(10), each, each + 1); break;
     case 4:
