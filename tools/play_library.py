@@ -61,12 +61,14 @@ def calls_played(folder, calls, seed):
     sources = sorted(it.path for it in os.scandir(os.path.join(TOOLS, "calls")) if it.name.endswith(".c"))
     watched = built(folder, "calls_watched", SANITIZED, sources)
     plain = built(folder, "calls", ["-O1", "-g"], sources)
+    if plain is None:
+        return 1, ["tools/calls doesn't compile"], []
     if watched:
         tried += 1
         wrong.append(fault_of([watched, str(calls), str(seed)], f"{calls} calls with sanitizers"))
     else:
         left.append("calls with sanitizers, which the compiler lacks")
-    if plain and shutil.which("valgrind"):
+    if shutil.which("valgrind"):
         tried += 1
         few = calls // WATCHED_PART
         words = ["valgrind", "--quiet", "--leak-check=full", "--error-exitcode=9", plain, str(few), str(seed + 1)]
