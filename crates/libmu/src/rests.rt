@@ -9,8 +9,8 @@ ghost use Rattle.mu_rest.specs.declared.sign.Sign.{Sign as SomeSign};
 use crate::Operation;
 use mu_rest::{Rests, Sign};
 
-/// Where the words of a host begin that rests go by (docs/WORDS.md): its head, its beats, and the asks
-/// of replica 0.
+/// Where the words of a host are that rests go by (docs/WORDS.md): its head, its beats, and the
+/// asks of replica 0.
 const HEAD: u32 = 3;
 
 const BEATS: u32 = 4;
@@ -33,8 +33,8 @@ const SWAP: u32 = 6;
 /// There are at most so many hosts.
 const MOST_HOSTS: u32 = 7;
 
-/// What `mu_rests_take` tells: no rest is due; one may be; a cycle ended; and so did the one before it,
-/// and neither changed anything.
+/// What `mu_rests_take` tells: no rest is due; one may be; a cycle ended; and so did the one before
+/// it, and neither changed anything.
 const NOT_DUE: u32 = 0;
 
 const MAY_BE_DUE: u32 = 1;

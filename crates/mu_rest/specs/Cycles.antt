@@ -12,8 +12,8 @@ time_taken began ends rested = min 1_000_000_000 (ends - began - rested)
 abbrev pub forgotten_at : ℕ → ℕ → ℕ
 forgotten_at ended took = min (ended + 64 * took) (2 ^ 64 - 1)
 
--- what a cycle is taken to have taken before the first: some time slices of others, if more wants to
--- run than there are processors
+-- what a cycle is taken to have taken before the first: some time slices of others, if more wants
+-- to run than there are processors
 abbrev pub taken_before : ℕ → ℕ → ℕ
 taken_before running processors = if nat_lt processors running then 16_000_000 else 0
 
@@ -39,3 +39,7 @@ pub record EndsCycle (moment : ℕ) (old new : Cycles) : Type 0 where
   pub rested : new.rested ≡ 0
   pub forgotten : new.forgotten
       ≡ max old.forgotten (forgotten_at moment (time_taken old.began moment old.rested))
+
+-- a rest is counted in the cycle
+abbrev pub CountsRest : ℕ → Cycles → Cycles → Type 0
+CountsRest rest old new = new ≡ record old { rested = min (old.rested + rest) (2 ^ 64 - 1) }

@@ -3,8 +3,9 @@ use Rattle.std.specs.Prelude.{Bool, false, true, if◌then◌else◌, max, min, 
 use Rattle.mu_rest.specs.declared.naps.Rest.{Rest}
 use Rattle.mu_rest.specs.declared.naps.Shown.{Shown}
 
--- a rest for a silence, if nothing shortens it: four microseconds for each of the first three silent
--- reads, and four times as many with each from there on; none once the other counts as failed
+-- a rest for a silence, if nothing shortens it: four microseconds for each of the first three
+-- silent reads, and four times as many with each from there on; none once the other counts as
+-- failed
 pub record IsSilenceNap (silence nanoseconds : ℕ) : Type 0 where
   pub none : silence ≡ 0 → nanoseconds ≡ 0
   pub first : 1 ≤ silence → silence ≤ 3 → nanoseconds ≡ 4_000
@@ -32,26 +33,27 @@ longest_by late = max 4_000 (min 8_192_000 (late / 4))
 abbrev pub longest : ℕ → ℕ → ℕ
 longest fixed late = if fixed == 0 then longest_by late else fixed
 
--- the cycles in a row that count: if processors are scarce those in which nothing got done, else those
--- in which nothing was changed either, from the 248th on, since who naps may be held failed
+-- the cycles in a row that count: if processors are scarce those in which nothing got done, else
+-- those in which nothing was changed either, from the 248th on, since who naps may be held failed
 abbrev pub cycles_counted : Shown → ℕ → ℕ
 cycles_counted shown late = if are_scarce late then min 8 shown.idle else shown.quiet - 248
 
--- so many nanoseconds are a rest after a step that shows this: for cycles, if it ended one, else for a
--- silence
+-- so many nanoseconds are a rest after a step that shows this: for cycles, if it ended one, else
+-- for a silence
 pub record IsNap (fixed late : ℕ) (shown : Shown) (nanoseconds : ℕ) : Type 0 where
   pub idle : shown.ended ≡ true → (wanted : ℕ) × IsIdleNap (cycles_counted shown late) wanted
       × (nanoseconds ≡ (if fixed == 0 then wanted else min fixed wanted))
   pub silent : shown.ended ≡ false → (wanted : ℕ) × IsSilenceNap shown.silence wanted
       × (nanoseconds ≡ min (longest fixed late) wanted)
 
--- a rest is spent awake if it is short, each replica has a processor, and none was scarce of late: a
--- sleep takes longer than asked
+-- a rest is spent awake if it is short, each replica has a processor, and none was scarce of late:
+-- a sleep takes longer than asked
 abbrev pub is_awake : Bool → ℕ → ℕ → Bool
 is_awake crowded late nanoseconds =
     not crowded && not (are_scarce late) && nat_le nanoseconds 50_000
 
 -- this is the rest
-pub record IsRest (fixed : ℕ) (crowded : Bool) (late : ℕ) (shown : Shown) (rest : Rest) : Type 0 where
+pub record IsRest (fixed : ℕ) (crowded : Bool) (late : ℕ) (shown : Shown) (rest : Rest) :
+    Type 0 where
   pub nap : IsNap fixed late shown rest.nanoseconds
   pub awake : rest.awake ≡ is_awake crowded late rest.nanoseconds

@@ -20,8 +20,8 @@ abbrev pub last_head : ℕ → List Sign → ℕ
 last_head q [] = 0
 last_head q (s ∷ past) = head_after q s (last_head q past)
 
--- a step gets something done: a word of a row is written or read, a FUO or the own head raised, or a
--- greater head of another found than was read last
+-- a step gets something done: a word of a row is written or read, a FUO or the own head raised, or
+-- a greater head of another found than was read last
 abbrev pub gets_done : Sign → List Sign → Bool
 gets_done Sign.Work past = true
 gets_done (Sign.Head q x) past = nat_lt (last_head q past) x

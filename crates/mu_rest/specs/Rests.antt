@@ -1,6 +1,6 @@
 -- rests: what a replica's steps and the times of its cycles have come to.
-use Rattle.std.specs.Prelude.{Bool, List, MatchBool, min, nat_lt, ℕ, ◌+◌, ◌-◌, ◌^◌, ◌||◌, ◌≡◌}
-use Rattle.mu_rest.specs.Cycles.{EndsCycle, late}
+use Rattle.std.specs.Prelude.{Bool, List, MatchBool, nat_lt, ℕ, ◌||◌, ◌≡◌}
+use Rattle.mu_rest.specs.Cycles.{CountsRest, EndsCycle, late}
 use Rattle.mu_rest.specs.Naps.{IsRest}
 use Rattle.mu_rest.specs.Progress.{StandsForProgress}
 use Rattle.mu_rest.specs.Silences.{StandsForSilences}
@@ -32,7 +32,8 @@ may_rest rests = nat_lt 0 rests.silences.shown || rests.progress.ended
 abbrev pub TimesCycle : Bool → ℕ → Cycles → Cycles → Type 0
 TimesCycle ended moment old new = MatchBool ended (EndsCycle moment old new) (new ≡ old)
 
--- what doesn't change: the longest rest, if it is fixed, and whether not each replica has a processor
+-- what doesn't change: the longest rest, if it is fixed, and whether not each replica has a
+-- processor
 pub record HasSettings (longest : ℕ) (is_crowded : Bool) (rests : Rests) : Type 0 where
   pub fixed : rests.fixed ≡ longest
   pub crowded : rests.crowded ≡ is_crowded
@@ -44,4 +45,4 @@ pub record Tells (moment : ℕ) (old new : Rests) (rest : Rest) : Type 0 where
   pub settings : HasSettings old.fixed old.crowded new
   pub times : (cycles : Cycles) × TimesCycle old.progress.ended moment old.cycles cycles
       × IsRest old.fixed old.crowded (late cycles moment) (shown_by old) rest
-      × (new.cycles ≡ record cycles { rested = min (cycles.rested + rest.nanoseconds) (2 ^ 64 - 1) })
+      × CountsRest rest.nanoseconds cycles new.cycles

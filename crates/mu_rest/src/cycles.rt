@@ -1,6 +1,6 @@
 //! How long the cycles of a replica take.
-ghost use Rattle.std.specs.Prelude.{min, ◌+◌, ◌-◌, ◌^◌, ◌≡◌};
-ghost use Rattle.mu_rest.specs.Cycles.{BeginsAmong, BeginsCycle, EndsCycle, forgotten_at, late};
+ghost use Rattle.std.specs.Prelude.{◌≡◌};
+ghost use Rattle.mu_rest.specs.Cycles.{BeginsAmong, BeginsCycle, CountsRest, EndsCycle, forgotten_at, late};
 
 /// What a cycle may take if there are fewer processors than want to run: some time slices of
 /// others, in nanoseconds.
@@ -32,8 +32,8 @@ fn forgotten_at(ended: u64, took: u64) -> u64
 }
 
 impl Cycles {
-    /// The first cycle begins, where so much wants to run on so many processors: if that is more than
-    /// there are, as if a cycle had taken some time slices.
+    /// The first cycle begins, if so much wants to run on so many processors: where that is more
+    /// than there are, as if a cycle had taken some time slices.
     pub(crate) fn new(moment: u64, running: u32, processors: u32) -> Cycles
         ensures { BeginsAmong moment running processors result }
     {
@@ -74,9 +74,7 @@ impl Cycles {
 
     /// Counts a rest in the cycle.
     pub(crate) fn count(&mut self, rest: u64)
-        ensures { self.new ≡ record self.old {
-          rested = min (self.old.rested + rest) (2 ^ 64 - 1);
-        } }
+        ensures { CountsRest rest self.old self.new }
     {
         self.rested = self.rested.saturating_add(rest);
     }

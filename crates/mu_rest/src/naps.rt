@@ -13,8 +13,8 @@ const LEAST_LONGEST: u64 = 4_000;
 
 const MOST_LONGEST: u64 = 8_192_000;
 
-/// No longer rest is spent awake, in nanoseconds: a sleep takes some fifty microseconds more than is
-/// asked for.
+/// No longer rest is spent awake, in nanoseconds: a sleep takes some fifty microseconds more than
+/// is asked for.
 const MOST_AWAKE: u64 = 50_000;
 
 /// More idle cycles make no rest longer.
@@ -127,8 +127,8 @@ fn nap(fixed: u64, late: u64, shown: &Shown) -> u64
     }
 }
 
-/// The rest after a step that shows this, where the longest cycle of late took so long, and no rest is
-/// to be longer than `fixed`, if that isn't 0; crowded if not each replica has a processor.
+/// The rest after a step that shows this, if the longest cycle of late took so long, and no rest is
+/// to be longer than `fixed`, unless that is 0; crowded if not each replica has a processor.
 pub(crate) fn rest_after(fixed: u64, crowded: bool, late: u64, shown: &Shown) -> Rest
     ensures { IsRest fixed crowded late shown.now result }
 {
