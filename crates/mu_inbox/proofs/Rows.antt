@@ -17,12 +17,6 @@ writer_of r j few = omega (arith, few)
 pub is_row : (r j : ℕ) → is_reference (reference r j) ≡ true
 is_row r j = le-leb 256 (reference r j) (omega arith)
 
-pub reference_is : (word : ℕ) → is_reference word ≡ true → reference (writer_in word) (row_in word) ≡ word
-reference_is word is = go (leb-true 256 word is)
-  where
-    go : 256 ≤ word → reference (writer_in word) (row_in word) ≡ word
-    go least = omega (arith, least)
-
 -- what was put was put, also after one access more
 pub put_of_taken : (p j : ℕ) (own : List Made) → has_taken p j own ≡ true → has_put j own ≡ true
 put_of_taken p j [] is = is

@@ -1,7 +1,5 @@
 //! The next access of a process to the list.
-ghost use Rattle.std.specs.Prelude.{IfSome, List, None, Some, [], is_some, true, ◌<◌, ◌≡◌, ◌↔◌};
-ghost use Rattle.mu_inbox.specs.declared.inbox.Offer.{Offer as SomeOffer};
-ghost use Rattle.mu_inbox.specs.declared.inbox.Reading.{Reading as SomeReading};
+ghost use Rattle.std.specs.Prelude.{IfSome, List, None, Some, is_some, true, ◌<◌, ◌≡◌};
 ghost use Rattle.mu_inbox.specs.Memory.{Made};
 ghost use Rattle.mu_inbox.specs.Standing.{IsAccess, IsDue, IsNext, StandsForInbox, is_done, with_due};
 
