@@ -23,7 +23,6 @@ struct session {
     struct segment *segment;
     struct group group;
     mu_replica reader; /* takes no steps: it says whether a line is a command */
-    int is_stopped[MOST_REPLICAS];
 };
 
 static void print_reply(uint32_t number, const struct reply *reply)
@@ -46,23 +45,9 @@ static const struct reply *awaited(struct segment *segment, uint32_t row)
     return NULL;
 }
 
-/* Waits until all sleep but those that are stopped: 0, or -1 if they don't. */
-static int rest_awaited(struct session *it)
-{
-    struct timespec nap = { .tv_nsec = LOOK_AGAIN };
-    for (uint64_t began = now(); now() - began < LONGEST_WAIT; nanosleep(&nap, NULL))
-        if (are_at_rest(it->segment, &it->group, it->is_stopped))
-            return 0;
-    return -1;
-}
-
 /* Puts a command into the list, rings at all, and prints the reply. */
 static void submit(struct session *it, const char *line, size_t length)
 {
-    if (rest_awaited(it)) {
-        printf("not taken: the replicas are still at the command before\n");
-        return;
-    }
     uint32_t row = 0, status = length < MOST_LINE ? mu_replica_append(&it->reader, 0, line, length, &row) : MU_REFUSED;
     if (status != MU_DONE) {
         printf(status == MU_FULL ? "full\n" : status == MU_REFUSED ? "refused\n" : "no memory\n");
@@ -99,10 +84,8 @@ static void answer(struct session *it, const char *line, size_t length)
         kill_replica(&it->group, id);
         printf("replica %u is killed\n", id);
     } else if (is_about(it, line, "stop", &id) && kill(it->group.process[id], SIGSTOP) == 0) {
-        it->is_stopped[id] = 1;
         printf("replica %u is stopped\n", id);
     } else if (is_about(it, line, "continue", &id) && kill(it->group.process[id], SIGCONT) == 0) {
-        it->is_stopped[id] = 0;
         printf("replica %u goes on\n", id);
     } else {
         submit(it, line, length);

@@ -4,9 +4,9 @@
 
 #include "plan.h"
 
-/* A command is given to the replicas only while all of them sleep, but for those that are stopped: so no access is under way,
- * and each knows it before its next one. The law of rows that come (lone_words) then holds of it. One that was stopped in the
- * midst of a step ends `late`, before it takes a word that may speak of a command which it doesn't know.
+/* A command stands in the list that all read before a replica can know it. Each reads the list after an access and before it
+ * takes the word that this found: so it knows each command that whoever left the word knew, and the law of rows that come
+ * (lone_replica) holds, also of one that was stopped in the midst of a step.
  *
  * Starts so many replicas, and answers the lines of standard input one by one, up to its end; then tells the report: its
  * status, or what went wrong. */

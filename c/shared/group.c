@@ -123,11 +123,11 @@ static int is_at_rest(struct segment *segment, struct group *group, uint32_t id)
 }
 
 /* If nobody was rung while it looks at one after the other, they are at rest all at once. */
-int are_at_rest(struct segment *segment, struct group *group, const int *passed_over)
+int are_at_rest(struct segment *segment, struct group *group)
 {
     uint64_t before = rings(segment);
     for (uint32_t id = 0; id < segment->layout.replicas; id++)
-        if (!(passed_over && passed_over[id]) && !is_at_rest(segment, group, id))
+        if (!is_at_rest(segment, group, id))
             return 0;
     return rings(segment) == before;
 }
@@ -166,7 +166,7 @@ static int is_awaited(struct segment *segment, const struct deed *deed, struct g
         int is_some = is_some_stopped(group);
         if (deed->is_by_entries ? decided_in(segment) >= deed->entries : now() - group->began >= deed->after)
             return 1;
-        if (!is_some && are_at_rest(segment, group, NULL))
+        if (!is_some && are_at_rest(segment, group))
             return 0;
         wait_a_little();
     }
@@ -198,7 +198,7 @@ void carry_out(struct segment *segment, const struct plan *plan, struct group *g
 {
     for (int k = 0; k < plan->count && is_awaited(segment, &plan->deeds[k], group); k++)
         do_deed(segment, &plan->deeds[k], group);
-    while (is_some_stopped(group) || !are_at_rest(segment, group, NULL))
+    while (is_some_stopped(group) || !are_at_rest(segment, group))
         wait_a_little();
     let_tell(segment, group);
 }

@@ -36,9 +36,8 @@ void kill_replica(struct group *group, uint32_t id);
 /* Whether the process of a replica is gone; how it went is noted. */
 int is_gone(struct group *group, uint32_t id);
 
-/* Whether all at once have ended, are gone, or sleep since they have nothing to do; but for those for which `passed_over` has
- * 1, if it isn't NULL. */
-int are_at_rest(struct segment *segment, struct group *group, const int *passed_over);
+/* Whether all at once have ended, are gone, or sleep since they have nothing to do. */
+int are_at_rest(struct segment *segment, struct group *group);
 
 /* Says that all are over, and waits until each that isn't gone has told. */
 void let_tell(struct segment *segment, struct group *group);

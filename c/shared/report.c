@@ -23,8 +23,7 @@ static void print_entry(FILE *out, const struct commands *commands, uint32_t i, 
 
 static const char *end_of(struct page *page, const struct group *group, uint32_t id)
 {
-    static const char *const names[] = { "running",  "stopped",    "budget",  "outrun",
-                                         "finished", "unanswered", "refused", "late" };
+    static const char *const names[] = { "running", "stopped", "budget", "outrun", "finished", "unanswered", "refused" };
     if (atomic_load(&page->state) == TOLD)
         return names[page->end];
     return group->is_killed[id] ? "stopped" : "lost";

@@ -24,7 +24,7 @@ struct run {
     uint32_t rung; /* how often its bell had been rung when its cycle began */
     struct last_seen seen;
     uint32_t id, steps, appended, replied;
-    uint32_t broken; /* UNANSWERED, REFUSED or LATE, if it ends by that */
+    uint32_t broken; /* UNANSWERED or REFUSED, if it ends by that */
 };
 
 /* Tells the reply to a row, if it is applied. */
@@ -55,23 +55,16 @@ static void publish_applied(struct run *run)
     atomic_store_explicit(&page->applied, applied, memory_order_release);
 }
 
-/* Takes the commands that came, while no access is under way: whether some did. */
-static int has_appended(struct run *run)
+/* Takes the commands that came, at whatever moment. After an access and before its word is taken this is owed: who left the
+ * word may know them all, and no others. */
+static void append_new(struct run *run)
 {
-    uint32_t count = atomic_load(&run->segment->commands), before = run->appended, row;
-    while (run->appended < count) {
+    uint32_t count = run->segment->flags & IS_LIVE ? atomic_load(&run->segment->commands) : 0, row;
+    for (; run->appended < count; run->appended++) {
         const struct command_line *line = &commands_of(run->segment)[run->appended];
         if (mu_replica_append(&run->replica, line->client, line->text, line->length, &row) != MU_DONE)
-            break;
-        run->appended++;
+            return;
     }
-    return run->appended > before;
-}
-
-/* Whether commands came while an access was under way: then its word may be of a replica that knows them. */
-static int is_late(struct run *run)
-{
-    return run->segment->flags & IS_LIVE && atomic_load(&run->segment->commands) != run->appended;
 }
 
 /* Rings at a replica that is asked: it may have finished, and sleep. */
@@ -113,10 +106,7 @@ static int is_turned(struct run *run)
     }
     if (event)
         event->ended = now();
-    if (is_late(run)) {
-        run->broken = LATE;
-        return 0;
-    }
+    append_new(run);
     if (!is_taken(run, &op, found)) {
         run->broken = REFUSED;
         return 0;
@@ -129,9 +119,8 @@ static int is_turned(struct run *run)
     return 1;
 }
 
-/* Sleeps, since there is nothing to do, until it is asked or commands come: whether it goes on then. Commands come only
- * while all sleep, so that nobody finds a word that speaks of one before it knows it (serve.h). A ring since the cycle began
- * that just ended counts: its ask may have come after that cycle had read it. */
+/* Sleeps, since there is nothing to do, until it is asked or commands come: whether it goes on then. A ring since the cycle
+ * began that just ended counts: its ask may have come after that cycle had read it. */
 static int is_woken(struct run *run)
 {
     const struct memory *memory = run->memory;
@@ -141,7 +130,7 @@ static int is_woken(struct run *run)
     if (!memory->await_ask)
         bell_await(&run->page->bell, run->rung);
     mu_rests_wake(&run->rests, now());
-    has_appended(run);
+    append_new(run);
     return atomic_load(&run->segment->over) == 0;
 }
 

@@ -15,7 +15,7 @@ enum { MOST_ENTRIES = MOST_ROWS + MOST_REPLICAS, MOST_MOMENTS = 8192, MOST_REPLY
 
 /* How a replica has ended, as mu_replica_end tells it; or because a host gave no answer, or a word that no run leaves, or
  * commands came while it was stopped in the midst of a step. */
-enum { RUNNING = 0, STOPPED = 1, BUDGET = 2, OUTRUN = 3, FINISHED = 4, UNANSWERED = 5, REFUSED = 6, LATE = 7 };
+enum { RUNNING = 0, STOPPED = 1, BUDGET = 2, OUTRUN = 3, FINISHED = 4, UNANSWERED = 5, REFUSED = 6 };
 
 /* What a process is doing. */
 enum { ABSENT = 0, READY = 1, GOING = 2, ENDED = 3, TOLD = 4 };
