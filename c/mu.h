@@ -261,8 +261,8 @@ uint32_t mu_replica_take(mu_replica *replica, uint64_t found);
 uint32_t mu_replica_take_next(mu_replica *replica, uint64_t found, mu_operation *operation);
 
 /* MU_DONE, and which end its events have; if it was outrun, also by which region and position it saw
- * that (else 0). MU_UNFINISHED if they have none. This and what follows up to mu_replica_reply tells of
- * a replica without an access under way. */
+ * that (else 0). MU_UNFINISHED if they have none. This and mu_replica_reply tell of a replica without
+ * an access under way; what stands between them, and mu_replica_event, at any moment. */
 uint32_t mu_replica_end(mu_replica *replica, uint32_t *how, uint32_t *region, uint32_t *position);
 
 /* How many steps it took, whom its scores name leader, whether it leads (1 or 0), how many entries it
@@ -323,6 +323,10 @@ uint32_t mu_rests_take(mu_rests *rests, const mu_operation *operation, uint64_t 
 /* How long to rest now, after an access that isn't MU_NOT_DUE: at most 8,192,000. `*awake` is 1 if that
  * is so short that a sleep would take longer. To be asked once each time. */
 uint64_t mu_rests_due(mu_rests *rests, uint64_t moment, uint32_t *awake);
+
+/* Another replica is known to have ended: the rests of the next eighty cycles are none. It counts as failed the
+ * sooner, and another leads. */
+void mu_rests_hasten(mu_rests *rests);
 
 /* The process slept for another cause, and goes on: a cycle begins. */
 void mu_rests_wake(mu_rests *rests, uint64_t moment);

@@ -1,5 +1,5 @@
 /* Drives a live engine by lines from the standard input, and answers each with a line: the status, and
- * what the call told. tools/try_library.py asks the same of C, of C++ and of Python. */
+ * what the call told. tools/library/try_library.py asks the same of C, of C++ and of Python. */
 #include "mu.h"
 
 #include <stdio.h>

@@ -6,7 +6,7 @@
 
 CASES is a folder or a table. In a folder a case NAME is a file NAME with the input, NAME.args with the
 words, one a line, and NAME.stdout with what has to be printed; if there is a file NAME.told, it is what
-`tell` has to print of NAME.stdout, a trace. A table is a file NAME.table. A case of
+`tell` has to print of NAME.stdout, a trace. Of each the checksum alone may be stored (tools/stored.py). A table is a file NAME.table. A case of
 it is a line `case NAME WORD`, the input, and a line `prints` with what has to be printed below it, or
 `begins` or `ends` with what that has to begin or to end with, or `prints sha256 SUM` with its checksum. A
 backslash before that word says that the last line of the input has no line feed. The status that is wanted
@@ -20,17 +20,13 @@ import sys
 
 import programs
 import trying
+from stored import contents, is_made, names, rule_of, stands
 from telling import telling
 
 # The line of a table between an input and what is printed of it.
 TOLD_LINE = re.compile(rb"^(\\?)(prints|begins|ends)(?: sha256 ([0-9a-f]+))?(?: status (\d))?(?:\n|\Z)", re.MULTILINE)
 CHANGE = re.compile(rb"(\d+)([=+-]) ?(.*)")
 STATUS_OF = {b"usage:": 1, b"refused": 2, b"illegal": 7, b"legal": 0}
-
-
-def contents(path):
-    with open(path, "rb") as source:
-        return source.read()
 
 
 def wanted_status(text):
@@ -41,20 +37,38 @@ def wanted_status(text):
     return STATUS_OF.get(text.split(b" ", 1)[0], None)
 
 
+def stored_case(title, path):
+    """A case of a folder. Where the checksum of what has to be printed is stored, that is compared."""
+    words = contents(path + ".args").decode().split()
+    if is_made(path + ".stdout"):
+        rule = rule_of(path + ".stdout")
+        return trying.SummedCase(title, words, contents(path), rule.summed, rule.status)
+    wanted = contents(path + ".stdout")
+    return trying.Case(title, words, contents(path), wanted, wanted_status(wanted))
+
+
 def stored_cases(folder):
     """The cases of a folder, by name."""
     cases = []
-    for name in sorted(os.listdir(folder)):
+    for name in names(folder):
         path = os.path.join(folder, name)
-        if os.path.exists(path + ".args") and os.path.exists(path + ".stdout"):
-            words, wanted = contents(path + ".args").decode().split("\n"), contents(path + ".stdout")
+        if stands(path + ".args") and stands(path + ".stdout"):
             title = os.path.join(os.path.basename(os.path.normpath(folder)), name)
-            cases.append(trying.Case(title, [word for word in words if word], contents(path), wanted,
-                                     wanted_status(wanted)))
-            if os.path.exists(path + ".told"):
+            cases.append(stored_case(title, path))
+            if stands(path + ".told"):
                 told = contents(path + ".told")
-                cases.append(trying.Case(f"{title}, told", ["tell"], wanted, told, wanted_status(told)))
+                cases.append(trying.Case(f"{title}, told", ["tell"], contents(path + ".stdout"), told, wanted_status(told)))
     return cases
+
+
+def stored_traces(folder):
+    """The names of the cases of a folder that print a trace, with that trace."""
+    for name in names(folder):
+        path = os.path.join(folder, name)
+        if stands(path + ".args") and contents(path + ".args").split()[-1:] == [b"trace"]:
+            trace = contents(path + ".stdout")
+            if trace.startswith(b"mu"):
+                yield os.path.join(os.path.basename(os.path.normpath(folder)), name), trace
 
 
 def changed(given, changes):

@@ -1,4 +1,4 @@
-/* mu_fabric.c: replicas over libfabric. tools/program_help.bash has what --help says. */
+/* mu_fabric.c: replicas over libfabric. tools/launchers/program_help.bash has what --help says. */
 #define _GNU_SOURCE
 #include "memory.h"
 #include "network.h"

@@ -1,4 +1,4 @@
-/* mu_processes.c: a process for each replica of a job. tools/program_help.bash has what --help says. */
+/* mu_processes.c: a process for each replica of a job. tools/launchers/program_help.bash has what --help says. */
 #define _GNU_SOURCE
 #include "mapped.h"
 #include "serve.h"

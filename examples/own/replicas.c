@@ -15,111 +15,13 @@
  * Replica 0 leads and commits the first command. In the midst of the second it is slow: it has
  * entered region 1, and puts its entry only once the region is granted on. Replica 1 takes over.
  * The ring is larger than the job, so no place is used twice here. docs/TRACING.md says what the
- * lines of a trace mean. */
+ * lines of a trace mean. The words and the log stand in steps.h, what is told at the end in told.h. */
 #define _POSIX_C_SOURCE 200809L
+#include "steps.h"
+#include "told.h"
 #include <pthread.h>
-#include <stdarg.h>
-#include <stdatomic.h>
 #include <stdbool.h>
-#include <stdint.h>
-#include <stdio.h>
-#include <stdlib.h>
-#include <string.h>
 #include <time.h>
-
-enum { REPLICAS = 3, RING = 8, COMMANDS = 2, WORDS = 12, NOBODY = 255, MOST_EVENTS = 40000 };
-enum { NO_TARGET = 0, MINIMUM = 1, FIRST_PLACE = 2 };
-
-static const char JOB[] =
-    "mu 1\nreplicas 3\nring 8\nbudget 1000\nclient 0\nput a 5\nget a\nend\n";
-
-/* The words of both rows: the head word, the key and the value. */
-static const uint64_t ROWS[COMMANDS][WORDS] = {
-    {1 | 1 << 16 | 1ull << 32 | 1ull << 40, 'a', 0, 0, '5'},
-    {2 | 2 << 16 | 1ull << 32, 'a'},
-};
-
-/* ---- The shared words: a region for each replica. ---- */
-
-static struct region {
-    _Atomic uint64_t fence;       /* owner, closing, target and grant, from the low bytes */
-    _Atomic uint64_t minimum;     /* a number, and above it a stamp of 16 bits */
-    _Atomic uint64_t slots[RING]; /* a number, a value of 16 bits, and above them a stamp */
-    _Atomic uint64_t fuo, head;
-    _Atomic uint64_t asks[REPLICAS];
-    _Atomic uint64_t rows[COMMANDS][WORDS]; /* of the replica's own commands */
-} regions[REPLICAS];
-
-/* What a drain adds to a word, so that a late put fails. */
-static const uint64_t STAMP = 1ull << 48;
-
-static uint64_t fence_of(int owner, uint64_t grant, int closing, int target)
-{
-    return (uint64_t)owner | (uint64_t)closing << 8 | (uint64_t)target << 16 | grant << 32;
-}
-static int owner_of(uint64_t fence) { return fence & 255; }
-static int is_closing(uint64_t fence) { return fence >> 8 & 1; }
-static int target_of(uint64_t fence) { return fence >> 16 & 255; }
-static uint64_t grant_of(uint64_t fence) { return fence >> 32; }
-static uint64_t number_of(uint64_t slot) { return slot & 0xffffffff; }
-static int value_of(uint64_t slot) { return slot >> 32 & 0xffff; }
-
-/* ---- The log: a step and its line are one section under a lock, so that the lines stand in the
- * order of the steps. That is for the test alone: the steps themselves are single atomics. ---- */
-
-static atomic_flag stepping = ATOMIC_FLAG_INIT;
-static char events[MOST_EVENTS][80];
-static int event_count; /* the counter that each step takes its place from */
-
-#ifdef WITH_MU
-#include "mu.h"
-
-/* The judge takes each line in the step that makes it, so it knows of a mistake at once. */
-static mu_judge judge = MU_NO_JUDGE;
-
-static void begin_judging(void)
-{
-    char why[64];
-    size_t taken;
-    if (mu_judge_new(&judge, JOB, strlen(JOB), why, sizeof why, &taken) != MU_DONE) abort();
-}
-
-static void judge_line(const char *line) { mu_judge_take(&judge, line, strlen(line)); }
-#else
-static void begin_judging(void) {}
-static void judge_line(const char *line) { (void)line; }
-#endif
-
-static void begin_step(void) { while (atomic_flag_test_and_set(&stepping)) ; }
-static void end_step(void) { atomic_flag_clear(&stepping); }
-
-static void say(const char *form, ...)
-{
-    va_list words;
-    if (event_count == MOST_EVENTS) abort();
-    va_start(words, form);
-    vsnprintf(events[event_count], sizeof events[0], form, words);
-    va_end(words);
-    judge_line(events[event_count++]);
-}
-
-#define STEP(made, ...) (begin_step(), (void)(made), say(__VA_ARGS__), end_step())
-
-static const char *spelled_target(char *text, int target)
-{
-    if (target >= FIRST_PLACE) sprintf(text, "place %d", target - FIRST_PLACE);
-    else strcpy(text, target == MINIMUM ? "min" : "none");
-    return text;
-}
-
-static const char *spelled_fence(char *text, uint64_t fence)
-{
-    char owner[8] = "none", target[16];
-    if (owner_of(fence) != NOBODY) sprintf(owner, "%d", owner_of(fence));
-    sprintf(text, "%s %d %s %s", owner, (int)grant_of(fence),
-            is_closing(fence) ? "closing" : "open", spelled_target(target, target_of(fence)));
-    return text;
-}
 
 /* ---- A replica. ---- */
 
@@ -347,54 +249,6 @@ static void *run(void *given)
     }
     return NULL;
 }
-
-static void print_trace(FILE *out)
-{
-    fputs(JOB, out);
-    for (int k = 0; k < event_count; k++) fprintf(out, "%s\n", events[k]);
-    fputs("end\n", out);
-}
-
-#ifdef WITH_MU
-/* The picture of the trace that this file holds, into one of that name. */
-static void draw(FILE *trace, const char *name)
-{
-    enum { ROOM = 1 << 20 };
-    static char input[ROOM], picture[ROOM];
-    size_t length, taken;
-    FILE *out = fopen(name, "w");
-    rewind(trace);
-    length = fread(input, 1, ROOM, trace);
-    if (!out || mu_draw_answer(0, MU_LAST_STEP, input, length, picture, ROOM, &taken) != MU_DONE
-        || taken > ROOM)
-        abort();
-    fwrite(picture, 1, taken, out);
-    fclose(out);
-}
-
-/* What the judge says, and the picture of a legal run. */
-static void tell(const char *name)
-{
-    char why[1024];
-    size_t taken;
-    uint32_t status = mu_judge_why(&judge, why, sizeof why, &taken);
-    fwrite(why, 1, taken < sizeof why ? taken : sizeof why, stdout);
-    if (status == MU_DONE && name) {
-        FILE *trace = tmpfile();
-        if (!trace) abort();
-        print_trace(trace);
-        draw(trace, name);
-        fclose(trace);
-    }
-    mu_judge_free(&judge);
-}
-#else
-static void tell(const char *name)
-{
-    (void)name;
-    print_trace(stdout);
-}
-#endif
 
 int main(int count, char **words)
 {

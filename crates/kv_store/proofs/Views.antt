@@ -1,6 +1,8 @@
 -- The map of the store answers as the table that it is seen as, and changes as the table does.
-use Rattle.std.proofs.Common.{◌≡◌, ℕ, Bool, cond, List, [], ◌∷◌, None, Some, is_some, refl, sym, ap, ◌∙◌, MutBor}
+use Rattle.std.proofs.Common.{◌≡◌, ℕ, Bool, cond, List, [], ◌∷◌, None, Some, is_some, refl, sym, ap, ◌∙◌, MutBor, arith}
+use Rattle.std.specs.Prelude.{false, length, map as map_of, ◌+◌}
 use Rattle.std.specs.declared.option.Option.{Option}
+use Rattle.std.specs.List.{AllByRecursion, IsDistinct}
 use Rattle.std.specs.Str.{bytes_eq}
 use Rattle.std.specs.Ordering.{nat_cmp, eq_by_cmp}
 use Rattle.std.specs.Cmp.{eq_by_cmp_equiv}
@@ -8,7 +10,7 @@ use Rattle.std.specs.Cmp.Lexicographic.{slice_cmp, nat_list_cmp_total, texts_tie
 use Rattle.std.specs.Option.{option_copied_mut}
 use Rattle.std.specs.Map.{lookup}
 use Rattle.std.specs.FinMap as map
-use Rattle.std.specs.FinMap.{find, same_map, get-from_entries, get-insert, get-remove, nat_cmp-IsAntisymmetric, slice_cmp-IsAntisymmetric}
+use Rattle.std.specs.FinMap.{find, same_map, get-from_entries, get-insert, get-remove, len-empty, len-insert, nat_cmp-IsAntisymmetric, slice_cmp-IsAntisymmetric}
 use Rattle.std.proofs.lemmas.Map.Steps.{set_value_same}
 use Rattle.indexmap.specs.IndexMap.{IndexMap, get, Updates, WritesThrough}
 use Rattle.kv_store.specs.Tables.{Table, holds, compared, table_after}
@@ -19,6 +21,23 @@ use Rattle.kv_store.specs.Texts.{table_of}
 lookup-find : (key : List ℕ) (entries : List (List ℕ × List ℕ)) → lookup (bytes_eq key) entries ≡ find (slice_cmp nat_cmp) key entries
 lookup-find key [] = refl
 lookup-find key (e ∷ entries) = ap (λ b. cond b (Some e.1) (lookup (bytes_eq key) entries)) (texts_ties key e.0) ∙ ap (cond (eq_by_cmp (slice_cmp nat_cmp) key e.0) (Some e.1)) (lookup-find key entries)
+
+-- a key that none of the entries has is not found
+not_found : (key : List ℕ) (entries : List (List ℕ × List ℕ)) → AllByRecursion (λ other. bytes_eq key other ≡ false) (map_of (λ e. e.0) entries) → find (slice_cmp nat_cmp) key entries ≡ None
+not_found key [] all = refl
+not_found key (e ∷ entries) all = ap (λ b. cond b (Some e.1) (find (slice_cmp nat_cmp) key entries)) (sym (texts_ties key e.0) ∙ all.0) ∙ not_found key entries all.1
+
+-- a key that a table doesn't have adds one to it
+one_key_more : (table : Table) (key text : List ℕ) → map.get table key ≡ None → map.len table + 1 ≡ map.len (map.insert table key text)
+one_key_more table key text none =
+    sym (len-insert nat_list_cmp_total table key text ∙ ap (λ found. cond (is_some found) (map.len table) (map.len table + 1)) none)
+
+-- if no two entries have the same key, the table has as many keys as there are entries
+pub length-table : (entries : List (List ℕ × List ℕ)) → IsDistinct bytes_eq (map_of (λ e. e.0) entries) → length entries ≡ map.len (map.from_entries {R = slice_cmp nat_cmp} entries)
+unfolding IsDistinct
+length-table [] distinct = sym (len-empty _ _)
+length-table (e ∷ entries) distinct =
+    omega (arith, length-table entries distinct.1, one_key_more (map.from_entries entries) e.0 e.1 (get-from_entries nat_list_cmp_total entries e.0 ∙ not_found e.0 entries distinct.0))
 
 -- two tables with the same text at each key are one
 one_table : (m n : Table) → ((key : List ℕ) → map.get m key ≡ map.get n key) → m ≡ n

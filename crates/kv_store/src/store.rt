@@ -74,6 +74,13 @@ impl Store {
         look_up(&self.texts, key)
     }
 
+    /// How many keys have a text. Takes no memory.
+    pub fn key_count(&self) -> usize
+        ensures { result ≡ map.len self.now.table }
+    {
+        count_of(&self.texts)
+    }
+
     /// Acts on the store as the command says, with one look-up of its key. It takes no memory, and
     /// uses up the room for one command at most.
     pub fn apply(&mut self, command: &Command) -> Reply
@@ -103,6 +110,12 @@ fn found(before: Option<Text>) -> Reply
         Some(text) => Reply::Value(text),
         None => Reply::None,
     }
+}
+
+fn count_of(texts: &Texts) -> usize
+    ensures { result ≡ map.len (table_of texts.now) }
+{
+    texts.len()
 }
 
 fn look_up(texts: &Texts, key: &Key) -> Option<Text>

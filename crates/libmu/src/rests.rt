@@ -2,7 +2,7 @@
 ghost use Rattle.std.specs.Prelude.{List, [], nat_lt, ◌==◌, ◌∷◌, ◌≡◌};
 ghost use Rattle.libmu.specs.Rests.{due_told, sign_of, sign_of_compare, sign_of_load, sign_of_store};
 ghost use Rattle.mu_rest.specs.Cycles.{BeginsAmong, BeginsCycle};
-ghost use Rattle.mu_rest.specs.Rests.{HasSettings, StandsForRests, Tells};
+ghost use Rattle.mu_rest.specs.Rests.{HasSettings, Hastens, StandsForRests, Tells};
 ghost use Rattle.mu_rest.specs.Signs.{IsOfSeven};
 ghost use Rattle.mu_rest.specs.declared.sign.Sign.{Sign as SomeSign};
 
@@ -59,6 +59,7 @@ pub extern "C" fn mu_rests_begin(
     ensures stands { StandsForRests [] rests.new }
     ensures cycles { BeginsAmong moment running processors rests.new.cycles }
     ensures settings { HasSettings fixed (nat_lt processors replicas) rests.new }
+    ensures haste { rests.new.haste ≡ 0 }
 {
     *rests = Rests::new(moment, replicas, running, processors, fixed);
 }
@@ -76,6 +77,7 @@ pub extern "C" fn mu_rests_take(
         → StandsForRests (sign_of operation.now found own rows_at ∷ signs) rests.new }
     ensures cycles { rests.new.cycles ≡ rests.old.cycles }
     ensures settings { HasSettings rests.old.fixed rests.old.crowded rests.new }
+    ensures haste { rests.new.haste ≡ rests.old.haste }
     ensures due { result ≡ due_told rests.new }
 {
     rests.take(sign_of(operation, found, own, rows_at));
@@ -102,8 +104,17 @@ pub extern "C" fn mu_rests_wake(rests: &mut Rests, moment: u64)
         → StandsForRests (SomeSign.Work ∷ signs) rests.new }
     ensures cycles { BeginsCycle moment rests.old.cycles rests.new.cycles }
     ensures settings { HasSettings rests.old.fixed rests.old.crowded rests.new }
+    ensures haste { rests.new.haste ≡ rests.old.haste }
 {
     rests.wake(moment);
+}
+
+/// Another is known to have ended: it counts as failed the sooner the less is rested.
+#[unsafe(no_mangle)]
+pub extern "C" fn mu_rests_hasten(rests: &mut Rests)
+    ensures { Hastens rests.old rests.new }
+{
+    rests.hasten();
 }
 
 /// What is told of the last step.

@@ -25,7 +25,7 @@ use Rattle.mu_node.specs.declared.deciding.Decision.{Decision}
 use Rattle.mu_node.specs.declared.node.Node.{Node}
 use Rattle.mu_node.specs.Deciding.{HasDecided}
 use Rattle.mu_node.specs.Growing.{StandsInTurn, StandsOn}
-use Rattle.mu_node.specs.Node.{LivesForNode}
+use Rattle.mu_node.specs.Node.{StandsForNode}
 use Rattle.mu_node.proofs.Growing.{in_turn}
 use Rattle.mu_node.proofs.Midway.{decided_in_turn}
 use Rattle.mu_node.proofs.Moving.{to_port}
@@ -68,7 +68,7 @@ access_grown c row r own s verb access it = record {
 
 -- the node lives or has decided what it does
 holds_grown : (c : Config) (row : Row) (r : ℕ) (own : Own) (s : Shape) (old new : Node) (o : Option Due) → new.follow.config ≡ with_more c (row ∷ []) → new.id ≡ old.id
-    → (LivesForNode c r own.0 old → LivesForNode (with_more c (row ∷ [])) r own.0 new) → ((d : Decision) → HasDecided own.0 old d → HasDecided own.0 new d) → HoldsNode c r own s old o → HoldsNode (with_more c (row ∷ [])) r own s new o
+    → (StandsForNode c r own.0 old → StandsForNode (with_more c (row ∷ [])) r own.0 new) → ((d : Decision) → HasDecided own.0 old d → HasDecided own.0 new d) → HoldsNode c r own s old o → HoldsNode (with_more c (row ∷ [])) r own s new o
 holds_grown c row r own s old new None config id lives decided held = lives held
 holds_grown c row r own s old new (Some due) config id lives decided held = record {
   config = config;
@@ -79,7 +79,7 @@ holds_grown c row r own s old new (Some due) config id lives decided held = reco
 
 -- so the value stands for the same with the row
 pub replica_grown : (c : Config) (row : Row) (r : ℕ) (own : Own) (old new : Replica) → IsConfig (with_more c (row ∷ [])) → row_count c < old.accesses.shape.rows → StandsForReplica c r own old
-    → new.config ≡ with_more c (row ∷ []) → new.node.follow.config ≡ with_more c (row ∷ []) → new.node.id ≡ old.node.id → (LivesForNode c r own.0 old.node → LivesForNode (with_more c (row ∷ [])) r own.0 new.node)
+    → new.config ≡ with_more c (row ∷ []) → new.node.follow.config ≡ with_more c (row ∷ []) → new.node.id ≡ old.node.id → (StandsForNode c r own.0 old.node → StandsForNode (with_more c (row ∷ [])) r own.0 new.node)
     → ((d : Decision) → HasDecided own.0 old.node d → HasDecided own.0 new.node d) → new.due ≡ old.due → new.id ≡ old.id → new.last ≡ old.last → new.accesses ≡ old.accesses → StandsForReplica (with_more c (row ∷ [])) r own new
 replica_grown c row r own old new grown room stands config follow node lives decided due id last accesses = record {
   parts = record {
@@ -107,7 +107,7 @@ in_turn_held c r own s node None held = in_turn c r own.0 node held
 in_turn_held c r own s node (Some due) held = to_port (λ k i l. StandsInTurn k i l node) held.config held.id refl (decided_in_turn own.0 node due.decision held.decided)
 
 holds_on : (c : Config) (r : ℕ) (own : Own) (s : Shape) (old new : Node) (o : Option Due) → StandsOn old new → new.follow.config ≡ old.follow.config → new.id ≡ old.id → HoldsNode c r own s old o → HoldsNode c r own s new o
-holds_on c r own s old new None on config id held = on.lives c r own.0 held
+holds_on c r own s old new None on config id held = on.stands c r own.0 held
 holds_on c r own s old new (Some due) on config id held = record {
   config = config ∙ held.config;
   id = id ∙ held.id;

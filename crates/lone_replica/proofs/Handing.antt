@@ -24,7 +24,7 @@ handed_due : (c : Config) (r : ℕ) (mine : List Event) (node : Node) (d : Decis
 handed_due c r mine node d config id it = go d.again refl ∙ (λ i. handed (config i) (id i) mine)
   where
     go : (t : Bool) → d.again ≡ t → node.follow.progress.handed ≡ handed node.follow.config node.id mine
-    go true on = let asks = it.asks on in asks.gone.handed ∙ handed_odd node.follow.config node.id mine asks.odd
+    go true on = let asks = it.asks on in asks.stands.handed ∙ handed_odd node.follow.config node.id mine asks.odd
     go false off = (it.plans off).planned.handed
 
 pub handed_held : (c : Config) (r : ℕ) (own : Own) (s : Shape) (node : Node) (o : Option Due) → HoldsNode c r own s node o → node.follow.progress.handed ≡ handed_by c r own.0 o

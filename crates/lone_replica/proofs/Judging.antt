@@ -22,8 +22,8 @@ use Rattle.lone_words.specs.Right.{may_be_told}
 use Rattle.lone_words.proofs.Found.{found_possible, found_told}
 use Rattle.mu_node.specs.declared.node.Node.{Node}
 use Rattle.mu_node.specs.declared.deciding.Decision.{Decision}
-use Rattle.mu_node.specs.Deciding.{HasDecided, LivesAfter}
-use Rattle.mu_node.specs.Node.{LivesForNode}
+use Rattle.mu_node.specs.Deciding.{HasDecided, StandsAfter}
+use Rattle.mu_node.specs.Node.{StandsForNode}
 use Rattle.mu_node.specs.Reads.{IsNext, IsReadNext}
 use Rattle.lone_replica.specs.declared.due.Due.{Due}
 use Rattle.lone_replica.specs.declared.replica.Untaken.{Untaken}
@@ -90,7 +90,7 @@ err_ok why (Err other) is same = cc
 -- the value once it took a word that it may be told
 pub settled : (c : Config) (r : ℕ) (own : Own) (old new : Replica) (due : Due) (word : ℕ) (verb : Verb) (answer : Answer) → HoldsParts c r own old → IsDue c r own old.accesses.shape old.node due → IsFound c r own due.decision.plan.verb word
     → verb ≡ due.decision.plan.verb → answer ≡ answer_from c.ring verb (expected c old.accesses.id own.0 own.1 verb) word → StandsForAccesses c old.accesses.id (own_with c old.accesses.id own verb word) new.accesses → new.accesses.shape ≡ old.accesses.shape
-    → LivesAfter own.0 old.node due.decision answer new.node → new.config ≡ old.config → new.id ≡ old.id → new.due ≡ None → new.last ≡ Some (event_by old.id verb answer) → StandsForReplica c r (own_with c r own due.decision.plan.verb word) new
+    → StandsAfter own.0 old.node due.decision answer new.node → new.config ≡ old.config → new.id ≡ old.id → new.due ≡ None → new.last ≡ Some (event_by old.id verb answer) → StandsForReplica c r (own_with c r own due.decision.plan.verb word) new
 settled c r own old new due word verb answer parts is found same told stands shape lives config id none last = record {
   parts = record {
     good = parts.good;
@@ -128,8 +128,8 @@ settled c r own old new due word verb answer parts is found same told stands sha
         (subst (λ (i : ℕ). IsPossible c i (event_by i v answer ∷ own.0)) (sym is.id)
         (subst (λ (e : Event). IsPossible c r (e ∷ own.0)) (sym event) possible))
 
-    lived : LivesForNode c r (event_at c r own v word ∷ own.0) new.node
+    lived : StandsForNode c r (event_at c r own v word ∷ own.0) new.node
     lived =
-        subst (λ (e : Event). LivesForNode c r (e ∷ own.0) new.node) event
-        (subst (λ (i : ℕ). LivesForNode c i (event_by i v answer ∷ own.0) new.node) is.id
-        (subst (λ (k : Config). LivesForNode k node.id (event_by node.id v answer ∷ own.0) new.node) is.config (lives possible_there)))
+        subst (λ (e : Event). StandsForNode c r (e ∷ own.0) new.node) event
+        (subst (λ (i : ℕ). StandsForNode c i (event_by i v answer ∷ own.0) new.node) is.id
+        (subst (λ (k : Config). StandsForNode k node.id (event_by node.id v answer ∷ own.0) new.node) is.config (lives possible_there)))

@@ -16,7 +16,7 @@ use Rattle.lone_words.specs.Memory.{IsFound, Own, own_with}
 use Rattle.lone_words.specs.Right.{may_be_told}
 use Rattle.mu_node.specs.declared.node.Node.{Node}
 use Rattle.mu_node.specs.Deciding.{HasDecided}
-use Rattle.mu_node.specs.Node.{LivesForNode}
+use Rattle.mu_node.specs.Node.{StandsForNode}
 use Rattle.mu_node.specs.Turns.{TellsHalt}
 use Rattle.lone_replica.specs.declared.due.Due.{Due}
 use Rattle.lone_replica.specs.declared.replica.Next.{Next}
@@ -38,7 +38,7 @@ pub record IsDue (c : Config) (r : ℕ) (own : Own) (s : Shape) (node : Node) (d
 
 -- the node lives for the events of r, or has decided what it does after them
 abbrev pub HoldsNode : Config → ℕ → Own → Shape → Node → Option Due → Type 0
-HoldsNode c r own s node None = LivesForNode c r own.0 node
+HoldsNode c r own s node None = StandsForNode c r own.0 node
 HoldsNode c r own s node (Some due) = IsDue c r own s node due
 
 -- the newest of these events, if there is one

@@ -8,7 +8,7 @@ ghost use Rattle.mu_model.specs.Parts.{IsPossible};
 ghost use Rattle.mu_node.specs.declared.deciding.Decision.{Decision};
 ghost use Rattle.mu_node.specs.Deciding.{HasDecided};
 ghost use Rattle.mu_node.specs.Growing.{Growth, HasRoomForRow, StandsInTurn};
-ghost use Rattle.mu_node.specs.Node.{LivesForNode};
+ghost use Rattle.mu_node.specs.Node.{StandsForNode};
 ghost use Rattle.lone_words.specs.Memory.{Own};
 ghost use Rattle.lone_replica.specs.declared.appending.Refusal.{Refusal as SomeRefusal};
 ghost use Rattle.lone_replica.specs.declared.appending.Refusal.TheVariants.{NoMemory};
@@ -177,8 +177,8 @@ impl Replica {
         requires possible { IsPossible growth.config growth.replica growth.mine }
         requires stands { StandsInTurn growth.config growth.replica growth.mine self.old.node }
         requires room { HasRoomForRow growth.config self.old.node }
-        ensures lives { LivesForNode growth.config growth.replica growth.mine self.old.node
-            → LivesForNode copies.own growth.replica growth.mine self.new.node }
+        ensures lives { StandsForNode growth.config growth.replica growth.mine self.old.node
+            → StandsForNode copies.own growth.replica growth.mine self.new.node }
         ensures decided { (decision : Decision)
             → HasDecided growth.mine self.old.node decision
             → HasDecided growth.mine self.new.node decision }

@@ -107,6 +107,7 @@ impl Replica {
     }
 
     /// Decides what it does next, which is an access.
+    #[inline(always)]
     fn decide(&mut self) -> Access
         ghost at: { SomeConfig × Own }
         requires stands { StandsForReplica at.0 self.old.id at.1 self.old }
@@ -162,6 +163,7 @@ impl Replica {
     }
 
     /// What becomes of the word.
+    #[inline(always)]
     fn judged(&self, word: u64) -> Result<(), Untaken>
         ghost at: { SomeConfig × Own }
         requires { StandsForReplica at.0 self.now.id at.1 self.now }
@@ -181,6 +183,7 @@ impl Replica {
     }
 
     /// Takes a word that was judged to be right.
+    #[inline(always)]
     fn take_judged(&mut self, word: u64)
         ghost at: { SomeConfig × Own }
         requires stands { StandsForReplica at.0 self.old.id at.1 self.old }
@@ -199,6 +202,7 @@ impl Replica {
     }
 
     /// The same of this access.
+    #[inline(always)]
     fn settle(&mut self, due: Due, word: u64)
         ghost at: { SomeConfig × Own }
         requires parts { HoldsParts at.0 self.old.id at.1 self.old }

@@ -65,7 +65,7 @@ impl Replica {
             → StandsForReplica c self.now.id own self.now → self.now.due ≡ None
             → TellsEnd c script self.now.id own.0 result }
     {
-        self.node.live_end()
+        self.node.end()
     }
 
     /// The entries that it has handed on to its store so far, in order.

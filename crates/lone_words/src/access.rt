@@ -51,6 +51,7 @@ impl Shape {
     }
 
     /// The place at which the rows begin.
+    #[inline(always)]
     fn first_row(&self) -> u32
         ensures place { result ≡ first_row self.now }
         ensures few { result < 70000 }
@@ -66,6 +67,7 @@ impl Shape {
     }
 
     /// Where the word of this name stands.
+    #[inline(always)]
     pub fn spot_of(&self, name: Name) -> Spot
         requires { IsName (layout_of self.now) name }
         ensures { result ≡ spot_of self.now name }

@@ -12,7 +12,7 @@ ghost use Rattle.lone_words.specs.Right.{may_be_told as may_be_told_of};
 use crate::access::{Access, Shape};
 use crate::strays::may_be_told;
 use mu_model::{Answer, Config, NoMemory, Verb};
-use mu_words::{Found, Layout};
+use mu_words::{Found, Layout, with_each_verb};
 use std::alloc::Global;
 
 /// What one replica keeps to make its accesses.
@@ -58,6 +58,16 @@ impl Accesses {
         requires { MayAccess at.0 at.1 self.now verb.now }
         ensures { IsAccessOf at.0 self.now.id at.1 self.now.shape verb.now result }
     {
+        with_each_verb!(*verb, named => self.access_for(&named))
+    }
+
+    /// The same, inlined where the verb is named: so the compiler settles its word and its move.
+    #[inline(always)]
+    fn access_for(&self, verb: &Verb) -> Access
+        ghost at: { SomeConfig × Own }
+        requires { MayAccess at.0 at.1 self.now verb.now }
+        ensures { IsAccessOf at.0 self.now.id at.1 self.now.shape verb.now result }
+    {
         let target = self.found.close_target();
         let name = self.layout.name_of(self.id, target, verb);
         let expected = self.found.expected_word(self.id, verb);
@@ -69,6 +79,7 @@ impl Accesses {
 
     /// Whether the access of a step may find the word, as far as the word and what the replica knows
     /// tell: all that a legal list leaves there, and little else.
+    #[inline(always)]
     pub fn may_find(&self, config: &Config, verb: &Verb, word: u64) -> bool
         ghost at: { SomeConfig × Own }
         requires config { config.now ≡ at.0 }
@@ -82,6 +93,7 @@ impl Accesses {
     }
 
     /// Takes the word that the access of a step found: its answer. Takes no memory.
+    #[inline(always)]
     pub fn take(&mut self, verb: &Verb, word: u64) -> Answer
         ghost at: { SomeConfig × Own }
         requires { MayAccess at.0 at.1 self.old verb.now }

@@ -105,6 +105,7 @@ fn is_offset(config: &Config, word: u64) -> bool
 }
 
 /// Word `k` of row `j`, or 0 if there is none.
+#[inline(always)]
 fn word_of_row(config: &Config, j: u16, k: u8) -> u64
     ensures { result ≡ config_word config.now j k }
 {
@@ -118,6 +119,7 @@ fn word_of_row(config: &Config, j: u16, k: u8) -> u64
 }
 
 /// Whether the word may be word `k` of row `j`.
+#[inline(always)]
 fn is_row_word(config: &Config, j: u16, k: u8, word: u64) -> bool
     ensures { result ≡ is_row_word config.now j k word }
 {
@@ -125,6 +127,7 @@ fn is_row_word(config: &Config, j: u16, k: u8, word: u64) -> bool
 }
 
 /// Whether the word may stand under the name.
+#[inline(always)]
 fn may_stand(config: &Config, name: Name, word: u64) -> bool
     requires { row_count config.now ≤ 1500 }
     ensures { result ≡ may_stand config.now name word }
@@ -140,6 +143,7 @@ fn may_stand(config: &Config, name: Name, word: u64) -> bool
 }
 
 /// Whether a step may find the word under its name.
+#[inline(always)]
 pub(crate) fn may_be_told(config: &Config, verb: &Verb, name: Name, word: u64) -> bool
     requires { row_count config.now ≤ 1500 }
     ensures { result ≡ may_be_told config.now verb.now name word }

@@ -17,7 +17,7 @@ use Rattle.mu_model.proofs.Parts.{history-part}
 use Rattle.mu_node.specs.declared.zeal.Zeal.{Zeal}
 use Rattle.mu_node.specs.declared.node.Node.{Node}
 use Rattle.mu_node.specs.declared.turn.Turn.{Turn}
-use Rattle.mu_node.specs.Node.{StandsForNode}
+use Rattle.mu_node.specs.Following.{FollowsTurns}
 use Rattle.mu_node.specs.Turns.{IsTurn}
 use Rattle.shared_fabric.specs.Gathering.{AreOfOneList, Collected, IsSamePort, PortValue}
 use Rattle.mu_cluster.specs.Branches.{Drives, NodeGoesOn, HasEnd, IsFreshPort}
@@ -43,12 +43,12 @@ moved : (p q : PortValue) (P : Config → ℕ → Type 0) → IsSamePort p q →
 moved p q P same held = subst (λ k. P k q.id) (sym same.config) (subst (λ i. P p.config i) (sym same.id) held)
 
 -- a branch after a turn
-pub turned_on : (script : Script) (p q : PortValue) (old new : Node) (turn : Turn) → Drives script old p → IsSamePort p q → StandsForNode q.config q.id q.part new → new.stops ≡ old.stops → new.zeal ≡ old.zeal
+pub turned_on : (script : Script) (p q : PortValue) (old new : Node) (turn : Turn) → Drives script old p → IsSamePort p q → FollowsTurns q.config q.id q.part new → new.stops ≡ old.stops → new.zeal ≡ old.zeal
     → IsTurn p.config script p.id p.part q.part None None turn → Drives script new q
-turned_on script p q old new turn was same stands stops zeal told = record {
+turned_on script p q old new turn was same follows stops zeal told = record {
   config = moved p q (λ k i. IsConfig k) same was.config;
   goes = record {
-    stands = stands;
+    follows = follows;
     stops = ap (λ v. v.items) stops ∙ was.goes.stops;
     zeal = zeal ∙ was.goes.zeal;
     before = moved p q (λ k i. EndsNowhereBefore k script i q.part) same (before_after p.config script p.id p.part q.part None None turn was.goes.before told);
@@ -63,11 +63,11 @@ pub same_same : (p q s : PortValue) → IsSamePort p q → IsSamePort q s → Is
 same_same p q s a b = record { table = b.table ∙ a.table; config = b.config ∙ a.config; id = b.id ∙ a.id }
 
 -- a branch before any step
-pub first_drives : (c : Config) (script : Script) (r : ℕ) (p : PortValue) (node : Node) → IsConfig c → IsFreshPort c r p → StandsForNode c p.id [] node → node.stops.items ≡ script.stops → node.zeal ≡ Zeal.Eager → Drives script node p
-first_drives c script r p node good fresh stands stops zeal = record {
+pub first_drives : (c : Config) (script : Script) (r : ℕ) (p : PortValue) (node : Node) → IsConfig c → IsFreshPort c r p → FollowsTurns c p.id [] node → node.stops.items ≡ script.stops → node.zeal ≡ Zeal.Eager → Drives script node p
+first_drives c script r p node good fresh follows stops zeal = record {
   config = subst (λ k. IsConfig k) (sym fresh.config) good;
   goes = subst (λ k. NodeGoesOn k script p.id p.part node) (sym fresh.config)
-      (subst (λ l. NodeGoesOn c script p.id l node) (sym fresh.empty) (record { stands = stands; stops = stops; zeal = zeal; before = none_before c script p.id }));
+      (subst (λ l. NodeGoesOn c script p.id l node) (sym fresh.empty) (record { follows = follows; stops = stops; zeal = zeal; before = none_before c script p.id }));
 }
 
 -- a part in true order is the part of its list

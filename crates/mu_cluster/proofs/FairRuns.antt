@@ -20,7 +20,7 @@ use Rattle.mu_model.proofs.Basics.{same_some}
 use Rattle.mu_model.proofs.Parts.{filter-append, history-part}
 use Rattle.mu_node.specs.declared.node.Node.{Node}
 use Rattle.mu_node.specs.declared.zeal.Zeal.{Zeal}
-use Rattle.mu_node.specs.Node.{StandsForNode}
+use Rattle.mu_node.specs.Following.{FollowsTurns}
 use Rattle.mu_model.proofs.Parts.{part_is_possible}
 use Rattle.mu_lively.proofs.Listed.{listed_is_paced}
 use Rattle.mu_lively.proofs.Order.{in_order}
@@ -47,25 +47,25 @@ use Rattle.mu_node.specs.Journal.{IsListed}
 use Rattle.mu_outcome.proofs.Journals.{journal_is}
 
 -- an eager node stands for the part of each replica, in any list that has the parts
-left_node : (c : Config) (script : Script) (parts : List (List Event)) (nodes : List Node) (events : List Event) → AreLeft c script parts nodes → HasParts c events parts → (r : ℕ) → r < c.replicas → (node : Node) × StandsForNode c r (part_of r events) node × (node.zeal ≡ Zeal.Eager)
+left_node : (c : Config) (script : Script) (parts : List (List Event)) (nodes : List Node) (events : List Event) → AreLeft c script parts nodes → HasParts c events parts → (r : ℕ) → r < c.replicas → (node : Node) × FollowsTurns c r (part_of r events) node × (node.zeal ≡ Zeal.Eager)
 left_node c script parts nodes events left has r low =
     let count = left.count in
     let found = some_at nodes r (omega (arith, low, count)) in
     let l = left.each r found.0 found.1 in
-    (found.0, subst (λ m. StandsForNode c r m found.0) (mine_part c events parts r l.0 low has l.1) l.2.stands, l.2.zeal)
+    (found.0, subst (λ m. FollowsTurns c r m found.0) (mine_part c events parts r l.0 low has l.1) l.2.follows, l.2.zeal)
 
 -- so in each turn it did what is due to one
 pub eager_left : (o : Outcome) (events : List Event) (nodes : List Node) → HasParts o.job.config events (journals_of o) → AreLeft o.job.config o.job.script (journals_of o) nodes → AreEager o
 eager_left o events nodes has left r low =
     let node = left_node o.job.config o.job.script (journals_of o) nodes events left has r low in
-    subst (λ h. AtEachStep (IsListed Zeal.Eager o.job.config r) h) (sym (journal_is o events has r low)) (subst (λ z. AtEachStep (IsListed z o.job.config r) (part_of r events)) node.2 (node.1.listed refl))
+    subst (λ h. AtEachStep (IsListed Zeal.Eager o.job.config r) h) (sym (journal_is o events has r low)) (subst (λ z. AtEachStep (IsListed z o.job.config r) (part_of r events)) node.2 node.1.listed)
 
 left_nodes : (c : Config) (script : Script) (parts : List (List Event)) (nodes : List Node) (events : List Event) → AreLeft c script parts nodes → IsLegal c events → HasParts c events parts → ((r : ℕ) → r < c.replicas → IsDiligentBy true c r (part_of r events)) → AreRunNodes true c events
 left_nodes c script parts nodes events left legal has diligent = record {
   legal = legal;
-  made = λ r low. (left_node c script parts nodes events left has r low).1.made refl;
-  order = λ r low. in_order c r (part_of r events) ((left_node c script parts nodes events left has r low).1.made refl);
-  led = λ r low. let node = left_node c script parts nodes events left has r low in (listed_is_paced Zeal.Eager c r (part_of r events) (subst IsConfig node.1.lead.config node.1.lead.stands.config) low (part_is_possible c r (history events) legal) (node.1.made refl) (subst (λ z. AtEachStep (IsListed z c r) (part_of r events)) node.2 (node.1.listed refl))).led;
+  made = λ r low. (left_node c script parts nodes events left has r low).1.made;
+  order = λ r low. in_order c r (part_of r events) ((left_node c script parts nodes events left has r low).1.made);
+  led = λ r low. let node = left_node c script parts nodes events left has r low in (listed_is_paced Zeal.Eager c r (part_of r events) (subst IsConfig node.1.stands.lead.config node.1.stands.lead.stands.config) low (part_is_possible c r (history events) legal) node.1.made (subst (λ z. AtEachStep (IsListed z c r) (part_of r events)) node.2 node.1.listed)).led;
   diligent = diligent;
 }
 

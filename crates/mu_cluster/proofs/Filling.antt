@@ -36,7 +36,7 @@ use Rattle.mu_model.specs.Diligence.{IsDiligentBy}
 use Rattle.mu_node.specs.Due.{is_eager}
 use Rattle.mu_node.specs.Turns.{IsLeft, TellsEnd}
 use Rattle.mu_node.specs.declared.node.Node.{Node}
-use Rattle.mu_node.specs.Node.{StandsForNode}
+use Rattle.mu_node.specs.Following.{FollowsTurns}
 use Rattle.mu_model.specs.Parts.{IsPossible}
 use Rattle.mu_lively.proofs.Diligent.{listed_is_diligent}
 use Rattle.mu_cluster.specs.declared.lists.Lists.{Lists}
@@ -91,10 +91,10 @@ pub record IsResult (again : Bool) (c : Config) (r : ℕ) (mine : List Event) (r
   pub left : IsLeft c r mine result
   pub diligent : IsDiligentBy again c r mine
 
-pub result_of : (kind : Zeal) (c : Config) (r : ℕ) (mine : List Event) (node : Node) (result : NodeResult) → IsConfig c → IsPossible c r mine → StandsForNode c r mine node → node.zeal ≡ kind → IsLeft c r mine result → IsResult (is_eager kind) c r mine result
-result_of kind c r mine node result good possible stands zeal left = record {
+pub result_of : (kind : Zeal) (c : Config) (r : ℕ) (mine : List Event) (node : Node) (result : NodeResult) → IsConfig c → IsPossible c r mine → FollowsTurns c r mine node → node.zeal ≡ kind → IsLeft c r mine result → IsResult (is_eager kind) c r mine result
+result_of kind c r mine node result good possible follows zeal left = record {
   left = left;
-  diligent = listed_is_diligent kind c r mine good stands.beside.follow.inside possible (stands.made refl) (subst (λ z. AtEachStep (IsListed z c r) mine) zeal (stands.listed refl));
+  diligent = listed_is_diligent kind c r mine good follows.stands.beside.follow.inside possible follows.made (subst (λ z. AtEachStep (IsListed z c r) mine) zeal follows.listed);
 }
 
 -- one more replica
@@ -191,7 +191,7 @@ kinds_of {kind} o order seats rounds parts played r low =
     let count = played.count in
     let found = item_below seats r (omega (arith, low, count)) in
     let sits = played.waits r found.0 found.1 (omega arith) in
-    subst (λ h. AtEachStep (IsListed kind c r) h) (sym (journal_is o order.events parts r low)) (subst (λ z. AtEachStep (IsListed z c r) (part_of r order.events)) sits.zeal (sits.stands.listed refl))
+    subst (λ h. AtEachStep (IsListed kind c r) h) (sym (journal_is o order.events parts r low)) (subst (λ z. AtEachStep (IsListed z c r) (part_of r order.events)) sits.zeal sits.follows.listed)
 
 -- what a replay leaves is a run of its job
 pub run_of : {kind : Zeal} (again : Bool) (o : Outcome) (order : Record) (lists : Lists) (seats : List Seat) (rounds : ℕ) → o.order ≡ Some order → IsLegal o.job.config order.events → o.logs ≡ lists.logs.items

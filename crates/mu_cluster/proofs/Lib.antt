@@ -24,7 +24,6 @@ mod Raised
 mod Rounding
 pub mod RowsMade
 mod Seats
-mod Silent
 mod Taken
 mod Trusting
 mod Turned

@@ -195,13 +195,13 @@ unpaused_of {kind} o order seats rounds run given played unpaused = record {
         let count = played.count in
         let found = item_below seats r (omega (arith, low, count)) in
         let sits = played.waits r found.0 found.1 (omega arith) in
-        subst (λ (x : Record). AtEachStep (IsListed kind o.job.config r) (part_of r x.events)) (same_some order run.order (sym given ∙ run.given)) (subst (λ z. AtEachStep (IsListed z o.job.config r) (part_of r order.events)) sits.zeal (sits.stands.listed refl))
+        subst (λ (x : Record). AtEachStep (IsListed kind o.job.config r) (part_of r x.events)) (same_some order run.order (sym given ∙ run.given)) (subst (λ z. AtEachStep (IsListed z o.job.config r) (part_of r order.events)) sits.zeal sits.follows.listed)
 
     made : (r : ℕ) → r < o.job.config.replicas → AtEachStep (WasMade o.job.config r) (part_of r run.order.events)
     made r low =
         let count = played.count in
         let found = item_below seats r (omega (arith, low, count)) in
-        subst (λ (x : Record). AtEachStep (WasMade o.job.config r) (part_of r x.events)) (same_some order run.order (sym given ∙ run.given)) ((played.waits r found.0 found.1 (omega arith)).stands.made refl)
+        subst (λ (x : Record). AtEachStep (WasMade o.job.config r) (part_of r x.events)) (same_some order run.order (sym given ∙ run.given)) ((played.waits r found.0 found.1 (omega arith)).follows.made)
 
 pub named_of : {kind : Zeal} (o : Outcome) (order : Record) (seats : List Seat) (rounds : ℕ) → IsRun o → o.order ≡ Some order → PlayedBy kind o.job.config o.job.script order.events seats rounds 0 → NamesFirstUnpaused o
 named_of o order seats rounds run given played unpaused other also =

@@ -292,13 +292,13 @@ nodes_of o order seats rounds run given played diligent = record {
     here p low = let count = played.count in let found = item_below seats p (omega (arith, low, count)) in (found.0, played.waits p found.0 found.1 (omega arith))
 
     good : (p : ℕ) → p < c.replicas → IsConfig c
-    good p low = let lead = (here p low).1.stands.lead in subst IsConfig lead.config lead.stands.config
+    good p low = let lead = (here p low).1.follows.stands.lead in subst IsConfig lead.config lead.stands.config
 
     made : (p : ℕ) → p < c.replicas → AtEachStep (WasMade c p) (part_of p run.order.events)
-    made p low = subst (λ (x : Record). AtEachStep (WasMade c p) (part_of p x.events)) same ((here p low).1.stands.made refl)
+    made p low = subst (λ (x : Record). AtEachStep (WasMade c p) (part_of p x.events)) same ((here p low).1.follows.made)
 
     listed : (p : ℕ) → p < c.replicas → AtEachStep (IsListed Zeal.Plain c p) (part_of p run.order.events)
-    listed p low = let sits = (here p low).1 in subst (λ (x : Record). AtEachStep (IsListed Zeal.Plain c p) (part_of p x.events)) same (subst (λ z. AtEachStep (IsListed z c p) (part_of p order.events)) sits.zeal (sits.stands.listed refl))
+    listed p low = let sits = (here p low).1 in subst (λ (x : Record). AtEachStep (IsListed Zeal.Plain c p) (part_of p x.events)) same (subst (λ z. AtEachStep (IsListed z c p) (part_of p order.events)) sits.zeal sits.follows.listed)
 
 -- in what a replay leaves
 pub leads_of : (o : Outcome) (order : Record) (seats : List Seat) (rounds : ℕ) → IsConfig o.job.config → (run : IsRun o) → o.order ≡ Some order → Played o.job.config o.job.script order.events seats rounds 0 → AreDiligent o → LeadOnUnpaused o

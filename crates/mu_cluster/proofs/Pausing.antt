@@ -268,7 +268,7 @@ paused_run o order seats rounds run given played = record {
     made r low =
         let count = played.count in
         let found = item_below seats r (omega (arith, low, count)) in
-        subst (λ (x : Record). AtEachStep (WasMade o.job.config r) (part_of r x.events)) (same_some order run.order (sym given ∙ run.given)) ((played.waits r found.0 found.1 (omega arith)).stands.made refl)
+        subst (λ (x : Record). AtEachStep (WasMade o.job.config r) (part_of r x.events)) (same_some order run.order (sym given ∙ run.given)) ((played.waits r found.0 found.1 (omega arith)).follows.made)
 
 pub none_outrun_in_large : (o : Outcome) (order : Record) (seats : List Seat) (rounds : ℕ) → IsConfig o.job.config → (run : IsRun o) → o.order ≡ Some order → Played o.job.config o.job.script order.events seats rounds 0 → NoneOutrunInLargeRing o
 none_outrun_in_large o order seats rounds good run given played large r p i low is =

@@ -8,14 +8,19 @@ use Rattle.mu_model.specs.Parts.{IsPossible}
 use Rattle.mu_port.specs.Keeping.{Held}
 use Rattle.mu_node.specs.declared.node.Node.{Node}
 use Rattle.mu_node.specs.declared.turn.Turn.{Turn}
-use Rattle.mu_node.specs.Node.{StandsForNode}
+use Rattle.mu_node.specs.Following.{FollowsTurns}
 use Rattle.mu_node.specs.Turns.{IsTurn}
 
 -- a turn of r from one list of events to another
 pub record Turned (k0 k1 : Config) (r0 r1 : ℕ) (e0 e1 : List Event) (script : Script) (turn : Turn) (node : Node) : Type 0 where
-  pub stands : StandsForNode k1 r1 (part r1 (history e1)) node
+  pub follows : FollowsTurns k1 r1 (part r1 (history e1)) node
   pub possible : IsPossible k1 r1 (part r1 (history e1))
   pub did : IsTurn k0 script r0 (part r0 (history e0)) (part r1 (history e1)) (Some e0) (Some e1) turn
+
+-- what holds of the events of r holds of those of the port that the memory is passed to
+pub at_port : (F : Config → ℕ → List Event → Type 0) (c : Config) (old : List Event) (p : Held) (r id : ℕ) → p.replica ≡ id → id ≡ r → p.config ≡ c → p.events ≡ old → F c r (part r (history old)) → F p.config p.replica (part p.replica (history p.events))
+at_port F c old p r id at_id is_id config events held =
+    subst (λ k. F k p.replica (part p.replica (history p.events))) (sym config) (subst (λ n. F c n (part n (history p.events))) (sym (at_id ∙ is_id)) (subst (λ x. F c r (part r (history x))) (sym events) held))
 
 -- the same of the memory that the port holds
 pub turned : (c : Config) (old new : List Event) (p q : Held) (r id : ℕ) (script : Script) (turn : Turn) (node : Node)

@@ -115,7 +115,7 @@ left_set (x ∷ xs) (suc k) old new at = let rest = left_set xs k old new at in 
 -- a replica sits at its own id
 pub sits_own : {kind : Zeal} (f k : Config) (script : Script) (r rounds : ℕ) (events : List Event) (seat : Seat) → k ≡ f → Sits kind f script r (part_of r events) seat rounds → Sits kind k script seat.node.id (part_of seat.node.id events) seat rounds
 sits_own {kind} f k script r rounds events seat same sits =
-    subst (λ c. Sits kind c script seat.node.id (part_of seat.node.id events) seat rounds) (sym same) (subst (λ i. Sits kind f script i (part_of i events) seat rounds) (sym sits.stands.beside.id) sits)
+    subst (λ c. Sits kind c script seat.node.id (part_of seat.node.id events) seat rounds) (sym same) (subst (λ i. Sits kind f script i (part_of i events) seat rounds) (sym sits.follows.stands.beside.id) sits)
 
 -- and plays there
 pub plays_there : {kind : Zeal} (f k : Config) (script : Script) (r id rounds : ℕ) (old new : List Event) (before after : Seat) → k ≡ f → id ≡ r → Plays kind k script id old new before after rounds → Plays kind f script r old new before after rounds

@@ -10,6 +10,7 @@ use Rattle.mu_model.specs.declared.script.Script.{Script}
 use Rattle.mu_model.specs.Ends.{EndsBy}
 use Rattle.mu_node.specs.declared.zeal.Zeal.{Zeal}
 use Rattle.mu_node.specs.declared.node.Node.{Node}
+use Rattle.mu_node.specs.Following.{FollowsTurns}
 use Rattle.mu_node.specs.Node.{StandsForNode}
 use Rattle.mu_node.specs.Turns.{HasNoEnd}
 use Rattle.mu_cluster.specs.declared.rounds.Seat.{Seat}
@@ -31,10 +32,10 @@ no_end b is other = true≢false (sym other ∙ is)
 -- the turn in which a replica finds its end
 pub ends_here : {kind : Zeal} (c : Config) (script : Script) (r : ℕ) (events : List Event) (before after : Seat) (rounds : ℕ) (end : End)
     → Sits kind c script r (part_of r events) before rounds → before.ended ≡ false → after.ended ≡ true → after.waited ≡ before.waited → after.next ≡ before.next
-    → StandsForNode c r (part_of r events) after.node → after.node.stops.items ≡ script.stops → after.node.zeal ≡ kind → EndsBy c script r (part_of r events) end
+    → FollowsTurns c r (part_of r events) after.node → after.node.stops.items ≡ script.stops → after.node.zeal ≡ kind → EndsBy c script r (part_of r events) end
     → Plays kind c script r events events before after rounds
-ends_here c script r events before after rounds end sits going ended waited same stands stops zeal ends = record {
-  sits = record { stands = stands; stops = stops; zeal = zeal; next = subst (IsNextPause script.pauses r (length (part_of r events))) (sym same) sits.next; keeps = keeps; ended = λ _. (end, ends); before = sits.before };
+ends_here c script r events before after rounds end sits going ended waited same follows stops zeal ends = record {
+  sits = record { follows = follows; stops = stops; zeal = zeal; next = subst (IsNextPause script.pauses r (length (part_of r events))) (sym same) sits.next; keeps = keeps; ended = λ _. (end, ends); before = sits.before };
   grows = inl refl;
   stays = λ is. absurd (no_end before.ended going is);
   ids = λ all low is. let at = sits.keeps all low (λ was. absurd (no_end before.ended going was)) in rw (spent script.pauses r all (pace script.pauses r all rounds) (at.0 ∙ sym (is ended))) (sym (append-nil (map id_of events)));
@@ -58,12 +59,12 @@ next_before c script r e mine none before (x ∷ y ∷ newer) older end same som
 -- the turn in which a replica takes a step
 pub steps_here : {kind : Zeal} (c : Config) (script : Script) (r : ℕ) (old new : List Event) (e : Event) (before after : Seat) (rounds : ℕ)
     → Sits kind c script r (part_of r old) before rounds → before.ended ≡ false → rounds_paused script.pauses r (length (part_of r old)) ≤ before.waited
-    → after.ended ≡ false → after.waited ≡ 0 → IsNextPause script.pauses r (length (part_of r new)) after.next → StandsForNode c r (part_of r new) after.node → after.node.stops.items ≡ script.stops → after.node.zeal ≡ kind
+    → after.ended ≡ false → after.waited ≡ 0 → IsNextPause script.pauses r (length (part_of r new)) after.next → FollowsTurns c r (part_of r new) after.node → after.node.stops.items ≡ script.stops → after.node.zeal ≡ kind
     → HasNoEnd c script r (part_of r old) → new ≡ old ++ e ∷ [] → e.by ≡ r → part_of r new ≡ e ∷ part_of r old
     → Plays kind c script r old new before after rounds
-steps_here c script r old new e before after rounds sits going long on zeroed next stands stops zeal none list by is = record {
+steps_here c script r old new e before after rounds sits going long on zeroed next follows stops zeal none list by is = record {
   sits = record {
-    stands = stands;
+    follows = follows;
     stops = stops;
     zeal = zeal;
     next = next;
@@ -98,9 +99,9 @@ fewer_left c r old new before after held now more within going on short =
     rw (going, on) (omega (arith, a, b, s, t, more, within, short))
 
 -- a replica before any step
-pub sits_first : {kind : Zeal} (c : Config) (script : Script) (r : ℕ) (node : Node) (seat : Seat) → StandsForNode c r [] node → node.stops.items ≡ script.stops → node.zeal ≡ kind → seat.node ≡ node → seat.ended ≡ false → seat.waited ≡ 0 → IsNextPause script.pauses r 0 seat.next → Sits kind c script r [] seat 0
-sits_first c script r node seat stands stops zeal same going waited next = record {
-  stands = subst (λ n. StandsForNode c r [] n) (sym same) stands;
+pub sits_first : {kind : Zeal} (c : Config) (script : Script) (r : ℕ) (node : Node) (seat : Seat) → FollowsTurns c r [] node → node.stops.items ≡ script.stops → node.zeal ≡ kind → seat.node ≡ node → seat.ended ≡ false → seat.waited ≡ 0 → IsNextPause script.pauses r 0 seat.next → Sits kind c script r [] seat 0
+sits_first c script r node seat follows stops zeal same going waited next = record {
+  follows = subst (λ n. FollowsTurns c r [] n) (sym same) follows;
   stops = ap (λ (n : Node). n.stops.items) same ∙ stops;
   zeal = ap (λ (n : Node). n.zeal) same ∙ zeal;
   next = next;

@@ -10,15 +10,15 @@ use Rattle.mu_model.specs.Contents.{IsConfig}
 use Rattle.mu_model.specs.Ends.{EndsBy}
 use Rattle.mu_node.specs.declared.zeal.Zeal.{Zeal}
 use Rattle.mu_node.specs.declared.node.Node.{Node}
-use Rattle.mu_node.specs.Node.{StandsForNode}
+use Rattle.mu_node.specs.Following.{FollowsTurns}
 use Rattle.shared_fabric.specs.Gathering.{IsSamePort, PortValue}
 use Rattle.mu_cluster.specs.declared.branch.Branch.{Branch}
 use Rattle.mu_cluster.specs.Rounds.{EndsNowhereBefore}
 
--- the node stands for these events of r, whose end is nowhere before
+-- the node made these events of r by its turns, and their end is nowhere before
 pub record NodeGoesOn (c : Config) (script : Script) (r : ℕ) (mine : List Event)
     (node : Node) : Type 0 where
-  pub stands : StandsForNode c r mine node
+  pub follows : FollowsTurns c r mine node
   pub stops : node.stops.items ≡ script.stops
   pub zeal : node.zeal ≡ Zeal.Eager
   pub before : EndsNowhereBefore c script r mine

@@ -2,7 +2,6 @@ pub mod Branches
 pub mod Committing
 pub mod Fair
 pub mod Finishing
-pub mod Idling
 pub mod Lists
 pub mod Leading
 pub mod Living
@@ -13,4 +12,4 @@ pub mod Pauses
 pub mod Pausing
 pub mod Resting
 pub mod Rounds
-pub mod Silences
+pub mod Signs

@@ -1,29 +1,38 @@
--- rests: how often a thread yields for a silence of another, and for how many nanoseconds it sleeps
--- for one and after idle cycles.
-use Rattle.std.specs.Prelude.{if◌then◌else◌, ℕ, ◌*◌, ◌-◌, ◌<◌, ◌==◌, ◌^◌, ◌≡◌, ◌≤◌}
+-- rests: how a thread lets the others on before a turn.
+use Rattle.std.specs.Prelude.{List, MatchBool, if◌then◌else◌, nat_lt, ℕ, ◌≡◌}
+use Rattle.mu_model.specs.declared.event.Event.{Event}
+use Rattle.mu_rest.specs.declared.naps.Rest.{Rest}
+use Rattle.mu_rest.specs.declared.rests.Rests.{Rests}
+use Rattle.mu_rest.specs.Rests.{HasSettings, IsNone, StandsForRests, Tells, may_rest}
+use Rattle.mu_cluster.specs.declared.resting.Crowd.{Crowd}
+use Rattle.mu_cluster.specs.Signs.{signs_of}
 
--- the first read without a new beat may only have come early: one yield
-abbrev pub yields_for : ℕ → ℕ
-yields_for silence = if silence == 1 then 1 else 0
+-- the rests stand for these own events of a replica of such a crowd; none of them has a fixed length,
+-- and there is no haste, since nobody tells of a thread that it has ended
+pub record StandForEvents (crowd : Crowd) (mine : List Event) (rests : Rests) : Type 0 where
+  pub signs : StandsForRests (signs_of mine) rests
+  pub settings : HasSettings 0 (nat_lt crowd.processors crowd.replicas) rests
+  pub haste : rests.haste ≡ 0
 
--- so many nanoseconds are a sleep for a silence: from the second read without a new beat on one
--- microsecond, and four times as many with each, up to 512, and none once the other is held to be
--- failed
-pub record IsSilenceNap (silence nanoseconds : ℕ) : Type 0 where
-  pub early : silence < 2 → nanoseconds ≡ 0
-  pub grows : 2 ≤ silence → silence ≤ 6 → nanoseconds ≡ 1_000 * 4 ^ (silence - 2)
-  pub steady : 7 ≤ silence → silence ≤ 14 → nanoseconds ≡ 512_000
-  pub failed : 14 < silence → nanoseconds ≡ 0
+-- this rest is told at some moment; it is none if none may be due
+abbrev pub IsDue : Rests → Rest → Type 0
+IsDue rests rest =
+    MatchBool (may_rest rests) ((moment : ℕ) × (after : Rests) × Tells moment rests after rest)
+    (IsNone rest)
 
--- so many nanoseconds are a sleep after idle cycles: from the fourth on 16 microseconds, and four
--- times as many with each, up to 1,024; from the eighth on 2,048
-pub record IsIdleNap (cycles nanoseconds : ℕ) : Type 0 where
-  pub early : cycles < 4 → nanoseconds ≡ 0
-  pub grows : 4 ≤ cycles → cycles ≤ 7 → nanoseconds ≡ 16_000 * 4 ^ (cycles - 4)
-  pub steady : 8 ≤ cycles → nanoseconds ≡ 2_048_000
+-- so many nanoseconds asleep and so many awake are this rest
+pub record IsMadeOf (rest : Rest) (asleep awake : ℕ) : Type 0 where
+  pub sleeps : asleep ≡ (if rest.awake then 0 else rest.nanoseconds)
+  pub waits : awake ≡ (if rest.awake then rest.nanoseconds else 0)
 
--- so many nanoseconds are a sleep after a step that shows a silence and ends idle cycles: for the
--- silence if it ends none. No step shows both.
-pub record IsNap (silence cycles nanoseconds : ℕ) : Type 0 where
-  pub silent : cycles ≡ 0 → IsSilenceNap silence nanoseconds
-  pub idle : 0 < cycles → IsIdleNap cycles nanoseconds
+-- they are the rest that is due by what these rests have come to
+pub record RestsBy (rests : Rests) (asleep awake : ℕ) : Type 0 where
+  pub rest : Rest
+  pub due : IsDue rests rest
+  pub made : IsMadeOf rest asleep awake
+
+-- and after these own events
+pub record RestsAfter (crowd : Crowd) (mine : List Event) (asleep awake : ℕ) : Type 0 where
+  pub rests : Rests
+  pub stand : StandForEvents crowd mine rests
+  pub rest : RestsBy rests asleep awake

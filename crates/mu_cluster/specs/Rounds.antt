@@ -9,7 +9,7 @@ use Rattle.mu_model.specs.declared.script.Script.{Script}
 use Rattle.mu_model.specs.Ends.{EndsBy}
 use Rattle.mu_model.specs.Histories.{has, history, part}
 use Rattle.mu_node.specs.declared.zeal.Zeal.{Zeal}
-use Rattle.mu_node.specs.Node.{StandsForNode}
+use Rattle.mu_node.specs.Following.{FollowsTurns}
 use Rattle.mu_cluster.specs.declared.rounds.Seat.{Seat}
 use Rattle.mu_outcome.specs.Turns.{ids_after, ids_in_round, is_due, pace}
 use Rattle.mu_cluster.specs.Pauses.{IsNextPause}
@@ -38,7 +38,7 @@ EndsNowhereBefore c script r mine =
 -- replica r, whose node is of this kind, is at this point after this many rounds
 pub record Sits (kind : Zeal) (c : Config) (script : Script) (r : ℕ) (mine : List Event)
     (seat : Seat) (rounds : ℕ) : Type 0 where
-  pub stands : StandsForNode c r mine seat.node
+  pub follows : FollowsTurns c r mine seat.node
   pub stops : seat.node.stops.items ≡ script.stops
   pub zeal : seat.node.zeal ≡ kind
   pub next : IsNextPause script.pauses r (length mine) seat.next

@@ -1,24 +1,19 @@
 //! Replicas in threads of their own: each takes its turns over a port of its own.
-ghost use Rattle.std.specs.Prelude.{All, IfOk, None, Some, [], length, map, slice_index_or, vec_capacity, vec_len, ℕ, ◌+◌, ◌<◌, ◌≡◌};
+ghost use Rattle.std.specs.Prelude.{All, IfOk, None, Some, [], length, map, slice_index_or, vec_capacity, vec_len, ℕ, ◌<◌, ◌≡◌};
 ghost use Rattle.std.specs.Duration.{as_nanos};
 ghost use Rattle.std.specs.List.{slice_get};
 ghost use Rattle.mu_model.specs.Contents.{IsConfig};
-ghost use Rattle.mu_model.specs.Parts.{IsPossible};
 ghost use Rattle.mu_model.specs.declared.script.Script.{Script as SomeScript};
-ghost use Rattle.mu_node.specs.Node.{StandsForNode};
+ghost use Rattle.mu_node.specs.Following.{FollowsTurns};
 ghost use Rattle.mu_node.specs.Turns.{IsTurn};
 ghost use Rattle.mu_outcome.specs.Turns.{rounds_paused as rounds_paused_of};
 ghost use Rattle.shared_fabric.specs.Gathering.{IsSamePort, PortValue};
 ghost use Rattle.mu_cluster.specs.declared.branch.Branch.{Branch as SomeBranch};
 ghost use Rattle.mu_cluster.specs.Branches.{IsDriven, IsFreshPort, Starts};
-ghost use Rattle.mu_cluster.specs.Idling.{idle_ended};
-ghost use Rattle.mu_cluster.specs.Resting.{IsNap, yields_for};
-ghost use Rattle.mu_cluster.specs.Silences.{silence as silence_of};
+ghost use Rattle.mu_cluster.specs.Resting.{RestsAfter};
 
-use crate::idling::Idling;
 use crate::pauses::{go_on, next_pause, rounds_at};
-use crate::resting::{Rested, rest};
-use crate::silences::Silences;
+use crate::resting::{Crowd, Rested, first_rests, rest, take};
 use mu_gate::{Gate, Passed, change_at_once};
 use mu_input::Job;
 use mu_model::{NoMemory, Script};
@@ -27,7 +22,7 @@ use mu_port::Port;
 use shared_fabric::SharedPort;
 use std::alloc::Global;
 use std::sync::Wait;
-use std::thread::Threads;
+use std::thread::{Threads, available_parallelism};
 use std::time::Clock;
 
 /// Two cache lines, which stand between two replicas in their list.
@@ -48,23 +43,22 @@ fn turn_rested(
     node: &mut Node,
     port: &mut SharedPort,
     script: &Script,
+    crowd: Crowd,
     rested: Rested,
     passed: Passed,
 ) -> Turn
     requires config { IsConfig port.old.config }
     requires thread { passed.thread ≡ port.old.id }
     requires step { passed.step ≡ length port.old.part }
-    requires stands { StandsForNode port.old.config port.old.id port.old.part node.old }
+    requires follows { FollowsTurns port.old.config port.old.id port.old.part node.old }
     requires yields { rested.yields.count
-        ≡ rounds_paused_of script.now.pauses port.old.id (length port.old.part)
-        + yields_for (silence_of port.old.part) }
-    requires slept { IsNap (silence_of port.old.part) (idle_ended port.old.id port.old.part)
-        (as_nanos rested.slept.nap) }
-    ensures stands { StandsForNode port.new.config port.new.id port.new.part node.new }
+        ≡ rounds_paused_of script.now.pauses port.old.id (length port.old.part) }
+    requires rest { RestsAfter crowd port.old.part (as_nanos rested.slept.nap)
+        rested.waited.nanoseconds }
+    ensures follows { FollowsTurns port.new.config port.new.id port.new.part node.new }
     ensures same { IsSamePort port.old port.new }
     ensures stops { node.new.stops ≡ node.old.stops }
     ensures zeal { node.new.zeal ≡ node.old.zeal }
-    ensures possible { IsPossible port.new.config port.new.id port.new.part }
     ensures turn { (script : SomeScript) → script.stops ≡ node.old.stops.items
         → IsTurn port.old.config script port.old.id port.old.part port.new.part None None result }
 {
@@ -74,7 +68,13 @@ fn turn_rested(
 /// Turns of one replica until its journal has an end. It lets the others on at a pause, after a
 /// read of beats that finds no new one and after cycles in which it got nothing done; nothing here
 /// waits for another replica.
-fn drive<R: Wait + Clock, G: Gate>(rt: &R, branch: &mut Branch, script: &Script, gate: &G)
+fn drive<R: Wait + Clock, G: Gate>(
+    rt: &R,
+    branch: &mut Branch,
+    script: &Script,
+    crowd: Crowd,
+    gate: &G,
+)
     requires { Starts script.now branch.old }
     ensures { IsDriven script.now branch.old branch.new }
 {
@@ -83,20 +83,17 @@ fn drive<R: Wait + Clock, G: Gate>(rt: &R, branch: &mut Branch, script: &Script,
         port,
         between: _,
     } = branch;
-    let mut silences = Silences::new();
-    let mut idling = Idling::new();
+    let mut rests = first_rests(rt, crowd);
     let pauses = script.pauses.as_slice();
     let mut next = next_pause(pauses, node.id(), 0);
     for _ in rt.forever() {
         let steps = node.steps();
         let paused = rounds_at(next, steps);
-        let rested = rest(rt, paused, silences.shown(), idling.ended());
+        let rested = rest(rt, paused, &mut rests);
         let passed = Passed::through(gate, node.id(), steps);
-        match turn_rested(node, port, script, rested, passed) {
+        match turn_rested(node, port, script, crowd, rested, passed) {
             Turn::Took(_) => {
-                let newest = port.newest();
-                silences.take(newest);
-                idling.take(newest);
+                take(&mut rests, port.newest());
                 go_on(&mut next, pauses, node.id(), node.steps());
             }
             Turn::Ended(_) => break,
@@ -109,6 +106,7 @@ fn drive_all<R: Threads + Wait + Clock + Sync, G: Gate + Sync>(
     rt: &R,
     branches: &mut [Branch],
     script: &Script,
+    crowd: Crowd,
     gate: &G,
 )
     requires { All (Starts script.now) branches.old }
@@ -118,8 +116,20 @@ fn drive_all<R: Threads + Wait + Clock + Sync, G: Gate + Sync>(
     change_at_once(
         rt,
         branches,
-        &|_, branch| { drive(rt, branch, script, gate) },
+        &|_, branch| { drive(rt, branch, script, crowd, gate) },
     );
+}
+
+/// So many replicas, on the processors that there are: one, if nobody knows.
+fn crowd_of<R: Threads>(rt: &R, replicas: usize) -> Crowd {
+    let processors = match available_parallelism(rt) {
+        Ok(count) => count.get(),
+        Err(_) => 1,
+    };
+    Crowd {
+        replicas: u32::try_from(replicas).unwrap_or(u32::MAX),
+        processors: u32::try_from(processors).unwrap_or(u32::MAX),
+    }
 }
 
 /// The replicas after all their turns.
@@ -135,7 +145,8 @@ pub(crate) fn driven<R: Threads + Wait + Clock + Sync, G: Gate + Sync>(
         → IsDriven script.now (slice_index_or branches.items i d)
         (slice_index_or result.items i d) }
 {
-    drive_all(rt, branches.as_mut_slice(), script, gate);
+    let crowd = crowd_of(rt, branches.len());
+    drive_all(rt, branches.as_mut_slice(), script, crowd, gate);
     branches
 }
 

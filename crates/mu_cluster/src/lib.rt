@@ -2,7 +2,6 @@
 #![tactic(auto)]
 
 mod branch;
-mod idling;
 mod leaving;
 mod lists;
 mod naps;
@@ -11,7 +10,7 @@ mod playing;
 mod resting;
 mod rounds;
 mod running;
-mod silences;
+mod signs;
 mod spelling;
 
 pub use mu_gate::{Gate, OpenGate};

@@ -18,6 +18,13 @@ pub(crate) struct Slept {
     nap: Duration,
 }
 
+/// Time that was spent awake.
+#[derive(Drop)]
+pub(crate) struct Waited {
+    /// How many nanoseconds.
+    nanoseconds: u64,
+}
+
 impl Yields {
     /// None yet.
     fn none() -> Yields
@@ -57,4 +64,31 @@ pub(crate) fn nap_taken<C: Clock>(clock: &C, nap: Duration) -> Slept
         thread::sleep(clock, nap);
     }
     Slept { nap }
+}
+
+/// The time by a clock, in nanoseconds; 0 if it can't be read.
+#[inline(always)]
+pub(crate) fn moment<C: Clock>(clock: &C) -> u64 {
+    match clock.monotonic() {
+        Ok(time) => u64::try_from(time.as_nanos()).unwrap_or(u64::MAX),
+        Err(_) => 0,
+    }
+}
+
+/// So many nanoseconds awake, in which it yields: whoever else wants this processor has it. If the
+/// clock stands still, as many yields.
+#[inline(always)]
+pub(crate) fn wait_made<C: Clock>(clock: &C, nanoseconds: u64) -> Waited
+    ensures { result.nanoseconds ≡ nanoseconds }
+{
+    if 0 < nanoseconds {
+        let began = moment(clock);
+        for _ in 0..nanoseconds {
+            thread::yield_now();
+            if nanoseconds <= moment(clock).saturating_sub(began) {
+                break;
+            }
+        }
+    }
+    Waited { nanoseconds }
 }

@@ -6,7 +6,6 @@ use Rattle.mu_model.specs.Contents.{IsConfig}
 use Rattle.mu_node.specs.declared.node.Node.{Node}
 use Rattle.mu_node.specs.declared.zeal.Zeal.{Zeal}
 use Rattle.mu_node.specs.Node.{StandsForNode}
-use Rattle.mu_node.proofs.Moving.{as_far}
 use Rattle.mu_engine.specs.declared.hold.Hold.{Hold}
 use Rattle.mu_engine.specs.declared.shape.Shape.{Shape}
 use Rattle.mu_engine.specs.Seats.{Sits}
@@ -35,7 +34,7 @@ none_spelled shape = record { count = refl; each = λ j command at. cc }
 
 -- a node before any event sits at its place
 pub sits_first : (c : Config) (r : ℕ) (node : Node) (hold : Hold) → StandsForNode c r [] node → node.stops.items ≡ [] → node.zeal ≡ Zeal.Eager → Sits c r [] (record { node = node; hold = hold })
-sits_first c r node hold stands stops zeal = record { lives = as_far true c r [] node stands; stops = stops; zeal = zeal }
+sits_first c r node hold stands stops zeal = record { lives = stands; stops = stops; zeal = zeal }
 
 -- one copy more at the end
 pub copies_push : {A : Type 0} (n : ℕ) (x : A) → replicate n x ++ x ∷ [] ≡ replicate (suc n) x

@@ -6,7 +6,7 @@ use Rattle.mu_model.specs.declared.config.Config.{Config}
 use Rattle.mu_model.specs.declared.event.Event.{Event}
 use Rattle.mu_model.specs.Histories.{part}
 use Rattle.mu_model.proofs.Lists.{set_get}
-use Rattle.mu_node.specs.Node.{LivesForNode}
+use Rattle.mu_node.specs.Node.{StandsForNode}
 use Rattle.mu_engine.specs.declared.hold.Hold.{Hold}
 use Rattle.mu_engine.specs.declared.seat.Seat.{Seat}
 use Rattle.mu_engine.specs.Seats.{AreSeated, Plays, Sits, part_of}
@@ -26,7 +26,7 @@ seated_on c old new seats k hold after plays sits was = record {
     | inl here ↦ subst (λ i. Sits c i new seat) (sym here.0) (subst (λ s. Sits c k new s) here.1 sits)
     | inr other ↦
         let sat = was.each r seat other.1 in
-        record { lives = subst (λ l. LivesForNode c r l seat.node) (sym (others_kept c k r hold old new plays other.0)) sat.lives; stops = sat.stops; zeal = sat.zeal }
+        record { lives = subst (λ l. StandsForNode c r l seat.node) (sym (others_kept c k r hold old new plays other.0)) sat.lives; stops = sat.stops; zeal = sat.zeal }
   ];
 }
 

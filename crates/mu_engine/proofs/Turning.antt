@@ -7,7 +7,7 @@ use Rattle.mu_model.proofs.Basics.{same_some}
 use Rattle.mu_port.specs.Keeping.{Held}
 use Rattle.mu_node.specs.declared.node.Node.{Node}
 use Rattle.mu_node.specs.declared.turn.Turn.{Turn}
-use Rattle.mu_node.specs.Node.{LivesForNode}
+use Rattle.mu_node.specs.Node.{StandsForNode}
 use Rattle.mu_node.specs.Turns.{IsTurnOn}
 use Rattle.mu_engine.specs.declared.hold.Hold.{Hold}
 use Rattle.mu_engine.specs.Live.{is_free}
@@ -16,7 +16,7 @@ use Rattle.mu_engine.specs.Shapes.{no_script}
 
 -- a turn of r from one list of events to another
 pub record Turned (k0 k1 : Config) (r0 r1 : ℕ) (e0 e1 : List Event) (turn : Turn) (node : Node) : Type 0 where
-  pub lives : LivesForNode k1 r1 (part r1 (history e1)) node
+  pub lives : StandsForNode k1 r1 (part r1 (history e1)) node
   pub did : IsTurnOn k0 no_script r0 (part r0 (history e0)) (part r1 (history e1)) (Some e0) (Some e1) turn
 
 -- the same of the memory that the port holds

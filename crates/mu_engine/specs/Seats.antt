@@ -4,7 +4,7 @@ use Rattle.std.specs.List.{slice_get}
 use Rattle.mu_model.specs.declared.config.Config.{Config}
 use Rattle.mu_model.specs.declared.event.Event.{Event}
 use Rattle.mu_model.specs.Histories.{history, part}
-use Rattle.mu_node.specs.Node.{LivesForNode}
+use Rattle.mu_node.specs.Node.{StandsForNode}
 use Rattle.mu_node.specs.declared.zeal.Zeal.{Zeal}
 use Rattle.mu_engine.specs.declared.hold.Hold.{Hold}
 use Rattle.mu_engine.specs.declared.seat.Seat.{Seat}
@@ -20,7 +20,7 @@ hold_of seat = seat.hold
 
 -- the node lives for the events of r, is eager, and no script stops it
 pub record Sits (c : Config) (r : ℕ) (events : List Event) (seat : Seat) : Type 0 where
-  pub lives : LivesForNode c r (part_of r events) seat.node
+  pub lives : StandsForNode c r (part_of r events) seat.node
   pub stops : seat.node.stops.items ≡ []
   pub zeal : seat.node.zeal ≡ Zeal.Eager
 

@@ -4,7 +4,7 @@ ghost use Rattle.mu_model.specs.Contents.{IsConfig};
 ghost use Rattle.mu_model.specs.Growing.{with_more};
 ghost use Rattle.mu_model.specs.Parts.{IsPossible};
 ghost use Rattle.mu_node.specs.Growing.{Growth, HasRoomForRow};
-ghost use Rattle.mu_node.specs.Node.{LivesForNode};
+ghost use Rattle.mu_node.specs.Node.{StandsForNode};
 ghost use Rattle.mu_engine.specs.Growing.{growth_of};
 ghost use Rattle.mu_engine.specs.Live.{after_round as hold_after, free};
 ghost use Rattle.mu_engine.specs.Seats.{AreSeated, Plays, Sits, hold_of};
@@ -56,9 +56,9 @@ impl Seat {
         requires copy { copy ≡ config }
         requires grown { config ≡ with_more growth.config (growth.row ∷ []) }
         requires possible { IsPossible growth.config growth.replica growth.mine }
-        requires lives { LivesForNode growth.config growth.replica growth.mine self.old.node }
+        requires lives { StandsForNode growth.config growth.replica growth.mine self.old.node }
         requires room { HasRoomForRow growth.config self.old.node }
-        ensures lives { LivesForNode config growth.replica growth.mine self.new.node }
+        ensures lives { StandsForNode config growth.replica growth.mine self.new.node }
         ensures stops { self.new.node.stops ≡ self.old.node.stops }
         ensures zeal { self.new.node.zeal ≡ self.old.node.zeal }
         ensures hold { self.new.hold ≡ self.old.hold }

@@ -33,6 +33,7 @@ use Rattle.mu_top.specs.declared.asking.TheConstants.{INPUT_LIMIT}
 use Rattle.mu_words.specs.declared.verbs.Move.{Move}
 use Rattle.lone_replica.specs.Appending.{with_next}
 use Rattle.lone_replica.specs.Standing.{MayTake, StandsForReplica, TakesWord, judged_for}
+use Rattle.lone_replica.specs.Telling.{entries_by}
 use Rattle.lone_replica.specs.declared.due.Due.{Due}
 use Rattle.lone_replica.specs.declared.replica.Replica.{Replica}
 use Rattle.lone_replica.specs.declared.replica.Untaken.{Untaken}
@@ -88,8 +89,8 @@ abbrev pub IsMadeAt : Job → ℕ → Option Held → Type 0
 IsMadeAt job id (Some held) = IsMade job id held
 IsMadeAt job id None = ⊥
 
--- a new replica of a job is there, or a number is out of its limits, or there was no memory, and the
--- handle is as it was
+-- a new replica of a job is there, or a number is out of its limits, or there was no memory, and
+-- the handle is as it was
 abbrev pub OpensOf : Job → ℕ → ℕ → Option Held → Option Held → ℕ → Type 0
 OpensOf job id rows old new status =
     ((status ≡ 0) × (id < job.config.replicas) × (rows ≤ MOST_COMMANDS) × IsMadeAt job id new)
@@ -245,7 +246,13 @@ pub record Five : Type 0 where
 -- those of a call
 abbrev pub five_of : Numbers → Five
 five_of n =
-    record { first = n.first; second = n.second; third = n.third; fourth = n.fourth; fifth = n.fifth }
+    record {
+      first = n.first;
+      second = n.second;
+      third = n.third;
+      fourth = n.fourth;
+      fifth = n.fifth;
+    }
 
 -- the first three of them, the others being 0
 abbrev pub three : ℕ → ℕ → ℕ → Five
@@ -280,18 +287,28 @@ AtRest replica holds =
     (c : Config) → (own : Own) → StandsForReplica c replica.id own replica → replica.due ≡ None
     → holds c own
 
+-- this holds of what a replica has come to, also while an access is under way
+abbrev pub AtAnyMoment : Replica → (Config → Own → Type 0) → Type 0
+AtAnyMoment replica holds =
+    (c : Config) → (own : Own) → StandsForReplica c replica.id own replica → holds c own
+
 -- a count is told, if it has 32 bits
 abbrev pub IsCount : ℕ → ℕ → Type 0
 IsCount count told = count < 2 ^ 32 → told ≡ count
 
--- where it stands is told: its steps, whom its scores name leader, whether it leads, how many entries
--- it handed on, and how many it committed itself
+-- where it stands is told: its steps, whom its scores name leader, whether it leads, how many
+-- entries it handed on, and how many it committed itself
 pub record ShowsState (replica : Replica) (each : Five) (status : ℕ) : Type 0 where
   pub done : status ≡ 0
+  pub steps : AtAnyMoment replica (λ c own. each.first ≡ length own.0)
+  pub leader : AtAnyMoment replica (λ c own. each.second ≡ leader c replica.id own.0)
   pub leads : each.third ≡ one_if (leads_at replica.node.lead.place)
-  pub leader : AtRest replica (λ c own. each.second ≡ leader c replica.id own.0)
-  pub applied : AtRest replica (λ c own. IsCount (length (handed_on c replica.id own.0)) each.fourth)
-  pub commits : AtRest replica (λ c own. IsCount (length (commits_of c replica.id own.0)) each.fifth)
+  pub applied :
+      AtAnyMoment replica (λ c own.
+      IsCount (length (entries_by c replica.id own replica.due)) each.fourth)
+  pub commits :
+      AtAnyMoment replica (λ c own.
+      IsCount (length (commits_of c replica.id own.0)) each.fifth)
 
 -- its end is told, if it has one
 abbrev pub ShowsEnd : Replica → Five → ℕ → Type 0
@@ -303,13 +320,14 @@ ShowsEnd replica each status =
 -- an entry that it handed on is told, if there is one at this place
 abbrev pub ShowsApplied : ℕ → Replica → Five → ℕ → Type 0
 ShowsApplied at replica each status =
-    AtRest replica (λ c own. TellsNumbers (code_of Status.Usage)
-    (option_map (λ v. three v 0 0) (slice_get (handed_on c replica.id own.0) at)) each status)
+    AtAnyMoment replica (λ c own. TellsNumbers (code_of Status.Usage)
+    (option_map (λ v. three v 0 0) (slice_get (entries_by c replica.id own replica.due) at)) each
+    status)
 
 -- what it committed is told, if there is something at this place
 abbrev pub ShowsCommit : ℕ → Replica → Five → ℕ → Type 0
 ShowsCommit at replica each status =
-    AtRest replica (λ c own. TellsNumbers (code_of Status.Usage)
+    AtAnyMoment replica (λ c own. TellsNumbers (code_of Status.Usage)
     (option_map (λ p. three p.0 p.1 0) (slice_get (commits_of c replica.id own.0) at)) each
     status)
 
@@ -325,8 +343,8 @@ Shows (Show.Commit at) each replica status = ShowsCommit at replica each status
 abbrev pub AsksReplica : (Replica → ℕ → Type 0) → Replica → Replica → ℕ → Type 0
 AsksReplica Tells old new status = (new ≡ old) × Tells old status
 
--- the reply of its store to the command of a row is put, once an entry with that row is handed on, if
--- there is such a row
+-- the reply of its store to the command of a row is put, once an entry with that row is handed on,
+-- if there is such a row
 abbrev pub RepliesTo : ℕ → ℕ → List ℕ → List ℕ → ℕ → Replica → ℕ → Type 0
 RepliesTo row number before after taken replica status =
     ((row < row_count replica.config) × (row < MOST_COMMANDS)

@@ -28,7 +28,7 @@ use std::alloc::Global;
 #[derive(Clone, Copy, Debug)]
 pub struct Submitted {
     /// 0 if it was taken; 1 if there is no such client, 2 if the line is no operation, 9 if there
-    /// may be no more, 14 if an access is under way, 6 for want of memory.
+    /// may be no more, 6 for want of memory.
     pub status: u8,
     /// Its row, or 0 if it wasn't taken.
     pub row: u16,

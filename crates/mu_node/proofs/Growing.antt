@@ -1,5 +1,5 @@
 -- What a node stands for, with one row more.
-use Rattle.std.proofs.Common.{◌≡◌, ◌∙◌, ◌%◌, ◌+◌, ◌<◌, ◌≤◌, ◌∷◌, List, [], ap, arith, false, length, refl, subst, sym, take, true≢false, ℕ, inl}
+use Rattle.std.proofs.Common.{◌≡◌, ◌∙◌, ◌%◌, ◌+◌, ◌<◌, ◌≤◌, ◌∷◌, List, [], ap, arith, length, refl, subst, sym, take, ℕ, inl}
 use Rattle.std.specs.Prelude.{if◌then◌else◌, vec_capacity}
 use Rattle.std.specs.List.{slice_get}
 use Rattle.kv_store.specs.Commands.{Request}
@@ -32,7 +32,7 @@ use Rattle.mu_node.specs.Answering.{Answering}
 use Rattle.mu_node.specs.Answers.{HoldsAnswers}
 use Rattle.mu_node.specs.Cycle.{handed_before, hands_on}
 use Rattle.mu_node.specs.Growing.{HasRoomForRow, StandsInTurn}
-use Rattle.mu_node.specs.Node.{HoldsNode, LivesForNode, StandsForLead}
+use Rattle.mu_node.specs.Node.{HoldsNode, StandsForLead, StandsForNode}
 use Rattle.mu_node.specs.Reads.{IsNext, IsReadNext, ReadsNext}
 
 -- how far it has handed on
@@ -104,21 +104,18 @@ answers_kept c row r n mine a good grown possible room held commands are = recor
     told : a.replies ≡ replies (groups_of c2 commands now)
     told = was.replies ∙ ap replies (sym same)
 
--- what holds with this many entries handed on, wherever the leader is, if no more is said of it
-pub with_count : {There Where : Lead → Type 0} (c : Config) (r m n : ℕ) (mine : List Event) (node : Node) → m ≡ n → HoldsNode false There c r mine m node → HoldsNode false Where c r mine n node
+-- what holds with this many entries handed on
+pub with_count : (c : Config) (r m n : ℕ) (mine : List Event) (node : Node) → m ≡ n → HoldsNode c r mine m node → HoldsNode c r mine n node
 with_count c r m n mine node same held = record {
   beside = held.beside;
   lead = held.lead;
   handed = held.handed ∙ same;
   answers = λ commands are. subst (λ (k : ℕ). HoldsAnswers c commands (take k (applied c r mine)) node.answers) same (held.answers commands are);
   reads = held.reads;
-  made = λ on. absurd (true≢false (sym on));
-  listed = λ on. absurd (true≢false (sym on));
-  placed = λ on. absurd (true≢false (sym on));
 }
 
--- one that lives stands in its turn
-pub in_turn : (c : Config) (r : ℕ) (mine : List Event) (node : Node) → LivesForNode c r mine node → StandsInTurn c r mine node
+-- one that stands for events stands for them in its turn
+pub in_turn : (c : Config) (r : ℕ) (mine : List Event) (node : Node) → StandsForNode c r mine node → StandsInTurn c r mine node
 in_turn c r mine node held = with_count c r (handed_before c r mine) node.follow.progress.handed mine node (sym held.handed) held
 
 -- the node stands for the same events with one row more if its replayer and its leader do
@@ -150,15 +147,12 @@ node_more c row r mine old new good grown possible held room follow handed lead 
       handed = refl;
       answers = λ commands are. subst (λ (k : ℕ). HoldsAnswers c2 commands (take k (applied c2 r mine)) new.answers) (sym handed) (told commands are);
       reads = reads_kept c (row ∷ []) r mine good grown possible held.reads;
-      made = λ on. absurd (true≢false (sym on));
-      listed = λ on. absurd (true≢false (sym on));
-      placed = λ on. absurd (true≢false (sym on));
     }
 
 -- and for the same rows with other room in its parts
-pub node_same : {There Where : Lead → Type 0} (c : Config) (r n : ℕ) (mine : List Event) (old new : Node) → HoldsNode false There c r mine n old → StandsForFollow c r mine new.follow → new.follow.progress.handed ≡ old.follow.progress.handed → StandsForLead c r mine new.lead
+pub node_same : (c : Config) (r n : ℕ) (mine : List Event) (old new : Node) → HoldsNode c r mine n old → StandsForFollow c r mine new.follow → new.follow.progress.handed ≡ old.follow.progress.handed → StandsForLead c r mine new.lead
     → new.id ≡ old.id → new.replicas ≡ old.replicas → new.budget ≡ old.budget → new.grants ≡ old.grants → new.watch ≡ old.watch → new.log.items ≡ old.log.items → vec_capacity old.log ≤ vec_capacity new.log
-    → new.commits.items ≡ old.commits.items → vec_capacity old.commits ≤ vec_capacity new.commits → new.answers.table ≡ old.answers.table → new.answers.replies ≡ old.answers.replies → old.answers.left ≤ new.answers.left → HoldsNode false Where c r mine n new
+    → new.commits.items ≡ old.commits.items → vec_capacity old.commits ≤ vec_capacity new.commits → new.answers.table ≡ old.answers.table → new.answers.replies ≡ old.answers.replies → old.answers.left ≤ new.answers.left → HoldsNode c r mine n new
 node_same c r n mine old new held follow handed lead id replicas budget grants watch log log_grows commits commits_grow table told left =
     let logs = held.beside.log_room in
     let list = held.beside.commit_room in
@@ -179,9 +173,6 @@ node_same c r n mine old new held follow handed lead id replicas budget grants w
       handed = handed ∙ held.handed;
       answers = λ commands are. (let was = held.answers commands are in let room = was.left in record { replies = told ∙ was.replies; table = table ∙ was.table; left = omega (arith, room, left) });
       reads = held.reads;
-      made = λ on. absurd (true≢false (sym on));
-      listed = λ on. absurd (true≢false (sym on));
-      placed = λ on. absurd (true≢false (sym on));
     }
 
 -- what makes room in its replayer and its leader, whatever its configuration is called

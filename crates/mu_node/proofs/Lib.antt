@@ -10,6 +10,7 @@ pub mod CatchingUp
 pub mod Cycled
 pub mod Failing
 pub mod FewRows
+pub mod Following
 pub mod Growing
 pub mod Leading
 pub mod Left

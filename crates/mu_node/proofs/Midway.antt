@@ -34,10 +34,10 @@ use Rattle.mu_node.specs.Cycle.{handed, handed_before, hands_on}
 use Rattle.mu_node.specs.Deciding.{AsksAnew, GoesOnByPlan, HasDecided}
 use Rattle.mu_node.specs.Due.{FitsLead, WritesAhead, is_eager, lead_due, verb_or_beat}
 use Rattle.mu_node.specs.Growing.{StandsInTurn, StandsOn}
-use Rattle.mu_node.specs.Node.{HasPlanned, HoldsNode, IsGone}
+use Rattle.mu_node.specs.Node.{HasPlanned, HoldsNode, StandsForNode}
 use Rattle.mu_node.specs.Plans.{due_of}
 use Rattle.mu_node.specs.Reads.{IsReadNext}
-use Rattle.mu_node.proofs.Growing.{follow_roomy, handed_kept, lead_roomy, node_same, read_kept, with_count}
+use Rattle.mu_node.proofs.Growing.{follow_roomy, handed_kept, in_turn, lead_roomy, node_same, read_kept, with_count}
 
 -- what holds of a configuration and a replica holds of those of a node that has them, and back
 owned : {k own : Config} {n id : ℕ} (F : Config → ℕ → Type 0) → own ≡ k → id ≡ n → F k n → F own id
@@ -158,12 +158,12 @@ pub record IsOver (c : Config) (row : Row) (r : ℕ) (mine : List Event) (old ne
 asks_over : (c : Config) (row : Row) (r : ℕ) (mine : List Event) (old new : Node) (d : Decision) → IsOver c row r mine old new → AsksAnew mine old d → AsksAnew mine new d
 asks_over c row r mine old new d over it =
     let c2 = with_more c (row ∷ []) in
-    let gone = ported (λ k i. IsGone false k i mine old) over.was over.own it.gone in
-    let count = over.handed ∙ (gone.handed ∙ sym (handed_kept c (row ∷ []) r mine over.good over.grown over.possible)) in
+    let stands = ported (λ k i. StandsForNode k i mine old) over.was over.own it.stands in
+    let count = over.handed ∙ (stands.handed ∙ sym (handed_kept c (row ∷ []) r mine over.good over.grown over.possible)) in
     let id = over.id ∙ over.own in
     record {
       verb = it.verb;
-      gone = owned (λ k i. IsGone false k i mine new) over.config id (with_count c2 r new.follow.progress.handed (handed_before c2 r mine) mine new count over.stands);
+      stands = owned (λ k i. StandsForNode k i mine new) over.config id (with_count c2 r new.follow.progress.handed (handed_before c2 r mine) mine new count over.stands);
       begins = over.lead.stays (ap rests it.begins) ∙ it.begins;
       heeded = heeded_over row mine old.lead new.lead over.lead it.heeded;
       odd = it.odd;
@@ -175,7 +175,7 @@ asks_over c row r mine old new d over it =
 plans_over : (c : Config) (row : Row) (r : ℕ) (mine : List Event) (old new : Node) (d : Decision) → IsOver c row r mine old new → GoesOnByPlan mine old d → GoesOnByPlan mine new d
 plans_over c row r mine old new d over it =
     let c2 = with_more c (row ∷ []) in
-    let planned = ported (λ k i. HasPlanned false k i mine old) over.was over.own it.planned in
+    let planned = ported (λ k i. HasPlanned k i mine old) over.was over.own it.planned in
     let count = over.handed ∙ (planned.handed ∙ sym (now_handed_kept c (row ∷ []) r mine over.good over.grown over.possible)) in
     let id = over.id ∙ over.own in
     let due = due_of d.plan in
@@ -184,7 +184,7 @@ plans_over c row r mine old new d over it =
     record {
       fits = owned (λ k i. FitsLead k i mine new.lead d.plan.leads due) over.config id (fits_over c row r mine old.lead new.lead d.plan.leads due over.lead it.some fits);
       turn = it.turn;
-      planned = owned (λ k i. HasPlanned false k i mine new) over.config id (with_count c2 r new.follow.progress.handed (handed c2 r mine) mine new count over.stands);
+      planned = owned (λ k i. HasPlanned k i mine new) over.config id (with_count c2 r new.follow.progress.handed (handed c2 r mine) mine new count over.stands);
       made = it.made;
       some = it.some;
       reads = owned (λ k i. IsReadNext k i mine (verb_or_beat due)) over.config id (read_kept c (row ∷ []) r mine (verb_or_beat due) over.good over.grown over.possible reads);
@@ -211,7 +211,7 @@ decided_in_turn mine node d it = go d.again refl
     k = node.follow.config
 
     go : (t : Bool) → d.again ≡ t → StandsInTurn k node.id mine node
-    go true on = let gone = (it.asks on).gone in with_count k node.id (handed_before k node.id mine) node.follow.progress.handed mine node (sym gone.handed) gone
+    go true on = in_turn k node.id mine node (it.asks on).stands
     go false off = let planned = (it.plans off).planned in with_count k node.id (handed k node.id mine) node.follow.progress.handed mine node (sym planned.handed) planned
 
 -- a node with other room in its parts
@@ -236,7 +236,7 @@ record IsRoomier (old new : Node) : Type 0 where
   pub told : new.answers.replies ≡ old.answers.replies
   pub left : old.answers.left ≤ new.answers.left
 
-roomier_holds : {There Where : Lead → Type 0} (c : Config) (r n : ℕ) (mine : List Event) (old new : Node) → IsRoomier old new → HoldsNode false There c r mine n old → HoldsNode false Where c r mine n new
+roomier_holds : (c : Config) (r n : ℕ) (mine : List Event) (old new : Node) → IsRoomier old new → HoldsNode c r mine n old → HoldsNode c r mine n new
 roomier_holds c r n mine old new is held =
     let follow = follow_roomy c r mine old.follow new.follow held.beside.follow (is.follow r mine) in
     let lead = lead_roomy c r mine old.lead new.lead held.lead (ap (λ (l : Lead). l.config) is.others) (ap (λ (l : Lead). l.id) is.others) (is.lead mine) in
@@ -275,7 +275,7 @@ roomier_asks mine old new d is it =
     let k = old.follow.config in
     record {
       verb = it.verb;
-      gone = owned (λ k i. IsGone false k i mine new) is.config is.id (roomier_holds k old.id (handed_before k old.id mine) mine old new is it.gone);
+      stands = owned (λ k i. StandsForNode k i mine new) is.config is.id (roomier_holds k old.id (handed_before k old.id mine) mine old new is it.stands);
       begins = ap (λ (l : Lead). l.place) is.others ∙ it.begins;
       heeded = subst (λ (l : Lead). HasHeeded mine l) (sym is.others) it.heeded;
       odd = it.odd;
@@ -291,7 +291,7 @@ roomier_plans mine old new d is it =
     record {
       fits = owned (λ k i. FitsLead k i mine new.lead d.plan.leads due) is.config is.id (fits_roomy k old.id mine old.lead new.lead d.plan.leads due is.others is.written it.fits);
       turn = it.turn;
-      planned = owned (λ k i. HasPlanned false k i mine new) is.config is.id (roomier_holds k old.id (handed k old.id mine) mine old new is it.planned);
+      planned = owned (λ k i. HasPlanned k i mine new) is.config is.id (roomier_holds k old.id (handed k old.id mine) mine old new is it.planned);
       made = it.made;
       some = it.some;
       reads = owned (λ k i. IsReadNext k i mine (verb_or_beat due)) is.config is.id it.reads;
@@ -303,7 +303,7 @@ pub stands_on : (old new : Node) → ((r : ℕ) (mine : List Event) → StandsFo
     → new.id ≡ old.id → new.replicas ≡ old.replicas → new.zeal ≡ old.zeal → new.budget ≡ old.budget → new.grants ≡ old.grants → new.watch ≡ old.watch → new.log.items ≡ old.log.items → vec_capacity old.log ≤ vec_capacity new.log
     → new.commits.items ≡ old.commits.items → vec_capacity old.commits ≤ vec_capacity new.commits → new.answers.table ≡ old.answers.table → new.answers.replies ≡ old.answers.replies → old.answers.left ≤ new.answers.left → StandsOn old new
 stands_on old new follow config same others items lead id replicas zeal budget grants watch log log_grows commits commits_grow table told left = record {
-  lives = λ c r mine held. roomier_holds c r (handed_before c r mine) mine old new is held;
+  stands = λ c r mine held. roomier_holds c r (handed_before c r mine) mine old new is held;
   decided = λ mine d it. record {
     config = subst IsConfig (sym config) it.config;
     allowed = owned (λ k i. Allowed k i mine d.plan.verb) config id it.allowed;

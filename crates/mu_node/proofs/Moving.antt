@@ -1,20 +1,11 @@
--- A node that took the event of a step stands for the part that the port has after it.
-use Rattle.std.proofs.Common.{◌≡◌, ℕ, Bool, List, ◌∷◌, ◌∙◌, ap, sym, subst, true, true≢false}
+-- What holds of a node that took the event of a step holds of the part that the port has after it.
+use Rattle.std.proofs.Common.{◌≡◌, ℕ, List, ◌∷◌, ◌∙◌, ap, sym, subst}
 use Rattle.mu_model.specs.declared.config.Config.{Config}
 use Rattle.mu_model.specs.declared.event.Answer.{Answer}
 use Rattle.mu_model.specs.declared.event.Event.{Event}
 use Rattle.mu_model.specs.declared.event.Verb.{Verb}
 use Rattle.mu_model.specs.Parts.{IsPossible}
-use Rattle.std.specs.Prelude.{take}
-use Rattle.kv_store.specs.Commands.{Request}
-use Rattle.mu_model.specs.Knowledge.{applied}
 use Rattle.mu_model.specs.Histories.{event_by}
-use Rattle.mu_follow.specs.Groups.{AreSpelled}
-use Rattle.mu_node.specs.Answers.{HoldsAnswers}
-use Rattle.mu_node.specs.Cycle.{handed_before}
-use Rattle.mu_node.specs.Reads.{ReadsNext}
-use Rattle.mu_node.specs.declared.node.Node.{Node}
-use Rattle.mu_node.specs.Node.{HoldsBeside, LivesForNode, StandsAs, StandsForLead}
 
 -- what holds of the configuration, the number and the part of the port holds of those of the node
 pub to_own : {k own : Config} {n id : ℕ} {part mine : List Event} (F : Config → ℕ → List Event → Type 0) → own ≡ k → id ≡ n → part ≡ mine → F k n part → F own id mine
@@ -33,34 +24,11 @@ possible_own k0 k1 own n0 n1 id part mine now verb made answer same_k same_n sam
     to_own IsPossible (same_own ∙ sym same_k) (same_id ∙ sym same_n) whole possible
 
 -- what a node promises of its own configuration and id holds of those of the port
-pub moved : (k0 k1 own : Config) (n0 n1 id : ℕ) (part mine now : List Event) (verb made : Verb) (answer : Answer) (new : Node) (full : Bool)
+pub moved : (F : Config → ℕ → List Event → Type 0) (k0 k1 own : Config) (n0 n1 id : ℕ) (part mine now : List Event) (verb made : Verb) (answer : Answer)
     → k1 ≡ k0 → n1 ≡ n0 → own ≡ k0 → id ≡ n0 → part ≡ mine → verb ≡ made → now ≡ event_by n0 verb answer ∷ part → IsPossible k1 n1 now
-    → (IsPossible own id (event_by id made answer ∷ mine) → StandsAs full own id (event_by id made answer ∷ mine) new)
-    → StandsAs full k1 n1 now new
-moved k0 k1 own n0 n1 id part mine now verb made answer new full same_k same_n same_own same_id same_part same_verb is possible step =
+    → (IsPossible own id (event_by id made answer ∷ mine) → F own id (event_by id made answer ∷ mine)) → F k1 n1 now
+moved F k0 k1 own n0 n1 id part mine now verb made answer same_k same_n same_own same_id same_part same_verb is possible step =
     let whole : now ≡ event_by id made answer ∷ mine =
     is ∙ (ap (λ v. event_by n0 v answer ∷ part) same_verb ∙ (ap (λ i. event_by i made answer ∷ part) (sym same_id) ∙ ap (λ l. event_by id made answer ∷ l) same_part)) in
-    to_port (λ c r l. StandsAs full c r l new) (same_own ∙ sym same_k) (same_id ∙ sym same_n) whole
+    to_port F (same_own ∙ sym same_k) (same_id ∙ sym same_n) whole
     (step (possible_own k0 k1 own n0 n1 id part mine now verb made answer same_k same_n same_own same_id same_part same_verb is possible))
-
--- a node lives if this is so: nothing is said of how the events were made
-pub lives : (c : Config) (r : ℕ) (mine : List Event) (node : Node) → HoldsBeside c r mine node → StandsForLead c r mine node.lead → node.follow.progress.handed ≡ handed_before c r mine
-    → ((commands : List Request) → AreSpelled c commands → HoldsAnswers c commands (take (handed_before c r mine) (applied c r mine)) node.answers) → ReadsNext c r mine → LivesForNode c r mine node
-lives c r mine node beside lead handed answers reads = record {
-  beside = beside;
-  lead = lead;
-  handed = handed;
-  answers = answers;
-  reads = reads;
-  made = λ on. absurd (true≢false (sym on));
-  listed = λ on. absurd (true≢false (sym on));
-  placed = λ on. absurd (true≢false (sym on));
-}
-
--- what stands in full stands as far as that
-pub as_far : (full : Bool) (c : Config) (r : ℕ) (mine : List Event) (node : Node) → StandsAs full c r mine node → LivesForNode c r mine node
-as_far full c r mine node held = lives c r mine node held.beside held.lead held.handed held.answers held.reads
-
--- and what is fully so is so in full
-pub in_full : (full : Bool) (c : Config) (r : ℕ) (mine : List Event) (node : Node) → full ≡ true → StandsAs full c r mine node → StandsAs true c r mine node
-in_full full c r mine node on held = subst (λ t. StandsAs t c r mine node) on held

@@ -23,25 +23,22 @@ use Rattle.mu_node.specs.declared.zeal.Zeal.{Zeal}
 use Rattle.mu_node.specs.Due.{asks_out_of_turn, idle_due, lead_due, verb_or_beat}
 use Rattle.mu_follow.specs.CatchingUp.{or_else}
 use Rattle.std.proofs.Math.Bool.{and-false}
-use Rattle.mu_node.specs.Node.{HasHeard, HasPlanned, StandsForLead}
+use Rattle.mu_node.specs.Node.{HasPlanned, StandsForLead, StandsForNode}
 use Rattle.mu_node.specs.Notes.{HasTold, MovesGoing, SaysTook, TellsNote, TellsTook, heed_note, note_before, note_at}
 use Rattle.mu_node.proofs.Leads.{due_named, due_unresigned}
-use Rattle.mu_node.proofs.Where.{where_odd, due_listed}
+use Rattle.mu_node.proofs.Where.{due_listed}
 use Rattle.mu_lead.specs.Journal.{IsWhere, due_after, place_after}
 use Rattle.mu_lead.specs.Lasting.{tables_of}
 use Rattle.mu_lead.specs.Listing.{Tables}
 
 -- in a turn of the leader nothing is handed on
-pub odd_planned : (full : Bool) (c : Config) (r : ℕ) (mine : List Event) (node : Node) → is_odd (length mine) ≡ true → HasHeard full c r mine node → HasPlanned full c r mine node
-odd_planned full c r mine node odd held = record {
+pub odd_planned : (c : Config) (r : ℕ) (mine : List Event) (node : Node) → is_odd (length mine) ≡ true → StandsForNode c r mine node → HasPlanned c r mine node
+odd_planned c r mine node odd held = record {
   beside = held.beside;
   lead = held.lead;
   handed = held.handed ∙ sym (ap (λ t. if (not t && (place_now c mine == 2 * c.replicas + 20)) then length (applied c r mine) else handed_before c r mine) odd);
   answers = λ commands are. subst (λ n. HoldsAnswers c commands (take n (applied c r mine)) node.answers) (sym (ap (λ t. if (not t && (place_now c mine == 2 * c.replicas + 20)) then length (applied c r mine) else handed_before c r mine) odd)) (held.answers commands are);
   reads = held.reads;
-  made = held.made;
-  listed = held.listed;
-  placed = λ on. where_odd c r mine node.lead odd (held.placed on);
 }
 
 -- nor in a background turn at another place

@@ -1,6 +1,6 @@
 -- decided, settled: what a replica decided to do may be done, and the replica is ready to take what
 -- it finds; how it decided, and how it took the answer.
-use Rattle.std.specs.Prelude.{Bool, List, false, is_some, length, true, ◌&&◌, ◌∷◌, ◌≡◌}
+use Rattle.std.specs.Prelude.{List, false, is_some, length, true, ◌&&◌, ◌∷◌, ◌≡◌}
 use Rattle.mu_model.specs.declared.event.Answer.{Answer}
 use Rattle.mu_model.specs.declared.event.Event.{Event}
 use Rattle.mu_model.specs.declared.event.Verb.{Verb}
@@ -15,21 +15,22 @@ use Rattle.mu_follow.specs.CatchingUp.{or_else}
 use Rattle.mu_lead.specs.declared.note.Note.{Note}
 use Rattle.mu_lead.specs.declared.place.Place.{Place}
 use Rattle.mu_lead.specs.Again.{TellsAstray}
+use Rattle.mu_lead.specs.Journal.{HasLeft, IsWhere}
 use Rattle.mu_lead.specs.Standing.{HasHeeded}
 use Rattle.mu_node.specs.declared.deciding.Decision.{Decision}
 use Rattle.mu_node.specs.declared.node.Node.{Node}
 use Rattle.mu_node.specs.declared.planning.Plan.{Plan}
 use Rattle.mu_node.specs.Due.{FitsLead, IsIdle, asks_out_of_turn, idle_due, is_eager, lead_due, verb_or_beat}
-use Rattle.mu_node.specs.Journal.{FollowsTurn}
-use Rattle.mu_node.specs.Node.{HasPlanned, IsGone, LivesForNode, StandsAs, StandsForNode}
+use Rattle.mu_node.specs.Node.{HasPlanned, StandsForNode}
 use Rattle.mu_node.specs.Notes.{HasTold, SaysTook, TellsTook, note_before}
+use Rattle.mu_node.specs.Placed.{IsWherePlanned}
 use Rattle.mu_node.specs.Plans.{due_of}
 use Rattle.mu_node.specs.Reads.{IsReadNext}
 
 -- it is the first ask of a replica that asks again, whose leader has left its leadership
 pub record AsksAnew (mine : List Event) (node : Node) (decision : Decision) : Type 0 where
   pub verb : decision.plan.verb ≡ Verb.Ask 0
-  pub gone : IsGone false node.follow.config node.id mine node
+  pub stands : StandsForNode node.follow.config node.id mine node
   pub begins : node.lead.place ≡ Place.Ask 0
   pub heeded : HasHeeded mine node.lead
   pub odd : is_odd (length mine) ≡ true
@@ -42,7 +43,7 @@ pub record GoesOnByPlan (mine : List Event) (node : Node) (decision : Decision) 
   pub fits :
       FitsLead node.follow.config node.id mine node.lead decision.plan.leads (due_of decision.plan)
   pub turn : decision.plan.leads ≡ true → is_odd (length mine) ≡ true
-  pub planned : HasPlanned false node.follow.config node.id mine node
+  pub planned : HasPlanned node.follow.config node.id mine node
   pub made : decision.plan.verb ≡ verb_or_beat (due_of decision.plan)
   pub some : decision.plan.leads ≡ true → is_some (due_of decision.plan) ≡ true
   pub reads : IsReadNext node.follow.config node.id mine (verb_or_beat (due_of decision.plan))
@@ -54,36 +55,33 @@ pub record HasDecided (mine : List Event) (node : Node) (decision : Decision) : 
   pub asks : decision.again ≡ true → AsksAnew mine node decision
   pub plans : decision.again ≡ false → GoesOnByPlan mine node decision
 
--- the node lives once it took the answer, if that is possible
-abbrev pub LivesAfter : List Event → Node → Decision → Answer → Node → Type 0
-LivesAfter mine before decision answer after =
-    IsPossible before.follow.config before.id
-    (event_by before.id decision.plan.verb answer ∷ mine)
-    → LivesForNode before.follow.config before.id
-    (event_by before.id decision.plan.verb answer ∷ mine) after
-
--- ready to take the answer it stands for these events, in full or as far as nothing is said of how
--- they were made; in full, a step of a turn of the leader that isn't the leader's is a beat, or the
--- replica catches up
-pub record IsReady (full : Bool) (mine : List Event) (node : Node)
-    (decision : Decision) : Type 0 where
-  pub gone : decision.again ≡ true → IsGone full node.follow.config node.id mine node
-  pub planned : decision.again ≡ false → HasPlanned full node.follow.config node.id mine node
-  pub idles :
-      full ≡ true → decision.again ≡ false → decision.plan.leads ≡ false
-      → IsIdle node.follow.config node.id mine node.lead (verb_or_beat (due_of decision.plan))
-
--- it stands then as it did, in full if the event was made as it was due
+-- the node stands for these events with that of the answer once it took it, if that is possible
 abbrev pub StandsAfter : List Event → Node → Decision → Answer → Node → Type 0
 StandsAfter mine before decision answer after =
-    (full : Bool) → IsReady full mine before decision
-    → (full ≡ true
-    → FollowsTurn before.zeal before.follow.config before.id mine
-    (event_by before.id decision.plan.verb answer))
+    IsPossible before.follow.config before.id
+    (event_by before.id decision.plan.verb answer ∷ mine)
+    → StandsForNode before.follow.config before.id
+    (event_by before.id decision.plan.verb answer ∷ mine) after
+
+-- before the answer its leader is where these events have it: it has left its leadership to ask
+-- again, or a step is planned; if that of a turn of the leader isn't the leader's, it is a beat, or
+-- the replica catches up
+pub record IsReady (mine : List Event) (node : Node) (decision : Decision) : Type 0 where
+  pub left : decision.again ≡ true → HasLeft node.follow.config node.id mine node.lead
+  pub planned :
+      decision.again ≡ false → IsWherePlanned node.follow.config node.id mine node.lead
+  pub idles :
+      decision.again ≡ false → decision.plan.leads ≡ false
+      → IsIdle node.follow.config node.id mine node.lead (verb_or_beat (due_of decision.plan))
+
+-- and it is after it
+abbrev pub IsPlacedAfter : List Event → Node → Decision → Answer → Node → Type 0
+IsPlacedAfter mine before decision answer after =
+    IsReady mine before decision
     → IsPossible before.follow.config before.id
     (event_by before.id decision.plan.verb answer ∷ mine)
-    → StandsAs full before.follow.config before.id
-    (event_by before.id decision.plan.verb answer ∷ mine) after
+    → IsWhere before.follow.config before.id
+    (event_by before.id decision.plan.verb answer ∷ mine) after.lead
 
 -- so it decided since a region has gone astray, which its note names
 pub record LeavesToAsk (mine : List Event) (before : Node) (note : Note) : Type 0 where
@@ -102,7 +100,7 @@ pub record PlansByTurn (mine : List Event) (before after : Node) (plan : Plan) :
       ≡ (is_odd (length mine)
       && is_some (lead_due before.follow.config before.id mine before.lead))
   pub led :
-      StandsForNode before.follow.config before.id mine before → is_odd (length mine) ≡ true
+      IsWhere before.follow.config before.id mine before.lead → is_odd (length mine) ≡ true
       → due_of plan
       ≡ or_else (lead_due before.follow.config before.id mine before.lead)
       (idle_due before.zeal before.follow.config before.id mine)

@@ -3,6 +3,7 @@ pub mod Answers
 pub mod Cycle
 pub mod Deciding
 pub mod Due
+pub mod Following
 pub mod Growing
 pub mod Journal
 pub mod Keeping

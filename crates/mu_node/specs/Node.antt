@@ -1,27 +1,22 @@
 -- stands for (node): the state of a node stands for the events of replica r.
-use Rattle.std.specs.Prelude.{Bool, List, [], false, not, take, true, vec_capacity, ℕ, ◌+◌, ◌<◌, ◌∷◌, ◌≡◌}
+use Rattle.std.specs.Prelude.{List, [], take, vec_capacity, ℕ, ◌+◌, ◌<◌, ◌∷◌, ◌≡◌}
 use Rattle.kv_store.specs.Commands.{Request}
 use Rattle.mu_model.specs.declared.config.Config.{Config}
 use Rattle.mu_model.specs.declared.event.Event.{Event}
 use Rattle.mu_model.specs.Contents.{row_count}
 use Rattle.mu_model.specs.Knowledge.{applied}
 use Rattle.mu_model.specs.Room.{reserve}
-use Rattle.mu_model.specs.Steps.{is_named}
 use Rattle.mu_grant.specs.Stands.{StandsFor as HostStandsFor}
 use Rattle.mu_follow.specs.declared.follow.Follow.{Follow}
 use Rattle.mu_follow.specs.Follow.{AwaitsEntry, StandsForFollow}
 use Rattle.mu_follow.specs.Groups.{AreSpelled}
 use Rattle.mu_lead.specs.declared.lead.Lead.{Lead}
-use Rattle.mu_lead.specs.Journal.{HasLeft, IsWhere}
 use Rattle.mu_lead.specs.Standing.{StandsFor as LeadStandsFor}
 use Rattle.mu_node.specs.declared.node.Node.{Node}
 use Rattle.mu_node.specs.Answers.{HoldsAnswers}
 use Rattle.mu_node.specs.Cycle.{handed, handed_before}
-use Rattle.mu_node.specs.Journal.{IsListed, WasMade}
-use Rattle.mu_node.specs.Placed.{IsWherePlanned, IsWhereTold}
 use Rattle.mu_node.specs.Reads.{ReadsNext}
 use Rattle.mu_node.specs.Watch.{StandsForWatch}
-use Rattle.mu_agree.specs.Moments.{AtEachStep}
 
 -- its parts but the leader stand for these events, with what is said of the replayer, and there is
 -- room for its log and for what it committed
@@ -53,10 +48,9 @@ pub record StandsForLead (c : Config) (r : ℕ) (mine : List Event) (lead : Lead
   pub stands : LeadStandsFor mine lead
 
 -- the node stands for the events, with its leader; it has handed on `count` entries, answered to
--- their commands, and read only rows of known batches. If all is said of it (`full`), it also made
--- each event as it was due for such a node, and its leader is where its journal has it
-pub record HoldsNode (full : Bool) (IsThere : Lead → Type 0) (c : Config) (r : ℕ)
-    (mine : List Event) (count : ℕ) (node : Node) : Type 0 where
+-- their commands, and read only rows of known batches
+pub record HoldsNode (c : Config) (r : ℕ) (mine : List Event) (count : ℕ)
+    (node : Node) : Type 0 where
   pub beside : HoldsBeside c r mine node
   pub lead : StandsForLead c r mine node.lead
   pub handed : node.follow.progress.handed ≡ count
@@ -64,35 +58,11 @@ pub record HoldsNode (full : Bool) (IsThere : Lead → Type 0) (c : Config) (r :
       (commands : List Request) → AreSpelled c commands
       → HoldsAnswers c commands (take count (applied c r mine)) node.answers
   pub reads : ReadsNext c r mine
-  pub made : full ≡ true → AtEachStep (WasMade c r) mine
-  pub listed : full ≡ true → AtEachStep (IsListed node.zeal c r) mine
-  pub placed : full ≡ true → IsThere node.lead
-
--- the node stands for the events, in full or as far as nothing is said of how they were made
-abbrev pub StandsAs : Bool → Config → ℕ → List Event → Node → Type 0
-StandsAs full c r mine node =
-    HoldsNode full (IsWhere c r mine) c r mine (handed_before c r mine) node
 
 -- the node stands for the events
 abbrev pub StandsForNode : Config → ℕ → List Event → Node → Type 0
-StandsForNode c r mine node = StandsAs true c r mine node
-
--- the same if the configuration may have grown meanwhile: nothing is said of how they were made
-abbrev pub LivesForNode : Config → ℕ → List Event → Node → Type 0
-LivesForNode c r mine node = StandsAs false c r mine node
-
--- the same once its leader was told which leader the scores name
-abbrev pub HasHeard : Bool → Config → ℕ → List Event → Node → Type 0
-HasHeard full c r mine node =
-    HoldsNode full (IsWhereTold (not (is_named c r mine)) c r mine) c r mine
-    (handed_before c r mine) node
+StandsForNode c r mine node = HoldsNode c r mine (handed_before c r mine) node
 
 -- the same once the next step is planned, before which what is there is handed on
-abbrev pub HasPlanned : Bool → Config → ℕ → List Event → Node → Type 0
-HasPlanned full c r mine node =
-    HoldsNode full (IsWherePlanned c r mine) c r mine (handed c r mine) node
-
--- the same once its leader left its leadership, to ask again
-abbrev pub IsGone : Bool → Config → ℕ → List Event → Node → Type 0
-IsGone full c r mine node =
-    HoldsNode full (HasLeft c r mine) c r mine (handed_before c r mine) node
+abbrev pub HasPlanned : Config → ℕ → List Event → Node → Type 0
+HasPlanned c r mine node = HoldsNode c r mine (handed c r mine) node

@@ -26,8 +26,8 @@ use Rattle.mu_lead.specs.Saying.{Says}
 use Rattle.mu_lead.specs.Standing.{known_told}
 use Rattle.mu_node.specs.declared.turn.Turn.{Turn}
 use Rattle.mu_node.specs.declared.zeal.Zeal.{Zeal}
-use Rattle.mu_node.specs.Cycle.{IsMade}
 use Rattle.mu_node.specs.Due.{asks_out_of_turn, lead_due}
+use Rattle.mu_node.specs.Journal.{FollowsTurn}
 
 -- what the leader notes of the verb, answered so, at this place and with these tables
 abbrev pub note_at : Config → ℕ → List Event → Tables → Place → Verb → Answer → Note
@@ -120,14 +120,14 @@ pub record TellsNote (zeal : Zeal) (c : Config) (r : ℕ) (mine : List Event) (l
       asks_out_of_turn zeal c r mine ≡ true → is_odd (length mine) ≡ true
       → TellsAstray c r mine note
 
--- a step of r, plain or eager: its event comes to the part, it is the verb that was due or a beat,
--- and the note tells of it
+-- a step of r, plain or eager: its event comes to the part, it was made as it was due, and the note
+-- tells of it
 pub record HasMade (zeal : Zeal) (c : Config) (r : ℕ) (mine now : List Event) (lead : Lead)
     (note : Note) : Type 0 where
   pub verb : Verb
   pub answer : Answer
   pub part : now ≡ event_by r verb answer ∷ mine
-  pub made : IsMade zeal c r mine verb
+  pub made : FollowsTurn zeal c r mine (event_by r verb answer)
   pub tells : TellsNote zeal c r mine lead answer note
 
 -- the same of a turn that made a step

@@ -12,6 +12,10 @@ abbrev pub IsWhereTold : Bool → Config → ℕ → List Event → Lead → Typ
 IsWhereTold true c r mine lead = HasLeft c r mine lead
 IsWhereTold false c r mine lead = IsWhere c r mine lead
 
+-- the leader was told which leader the scores name
+abbrev pub IsWhereHeard : Config → ℕ → List Event → Lead → Type 0
+IsWhereHeard c r mine lead = IsWhereTold (not (is_named c r mine)) c r mine lead
+
 -- the same once the turn is planned: in one of the leader it was told which leader the scores name
 abbrev pub IsWherePlanned : Config → ℕ → List Event → Lead → Type 0
 IsWherePlanned c r mine lead =

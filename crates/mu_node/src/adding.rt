@@ -9,7 +9,7 @@ ghost use Rattle.mu_model.specs.Room.{reserve};
 ghost use Rattle.mu_node.specs.declared.deciding.Decision.{Decision};
 ghost use Rattle.mu_node.specs.Deciding.{HasDecided};
 ghost use Rattle.mu_node.specs.Growing.{Growth, HasRoomForRow, StandsInTurn, StandsOn};
-ghost use Rattle.mu_node.specs.Node.{LivesForNode};
+ghost use Rattle.mu_node.specs.Node.{StandsForNode};
 
 use crate::node::Node;
 use mu_knowledge::Commit;
@@ -75,8 +75,8 @@ impl Node {
         requires stands { StandsInTurn growth.config growth.replica growth.mine self.old }
         requires room { HasRoomForRow growth.config self.old }
         ensures stands { StandsInTurn config growth.replica growth.mine self.new }
-        ensures lives { LivesForNode growth.config growth.replica growth.mine self.old
-            → LivesForNode config growth.replica growth.mine self.new }
+        ensures between { StandsForNode growth.config growth.replica growth.mine self.old
+            → StandsForNode config growth.replica growth.mine self.new }
         ensures decided { (decision : Decision) → HasDecided growth.mine self.old decision
             → HasDecided growth.mine self.new decision }
         ensures config { self.new.follow.config ≡ config }

@@ -1,5 +1,5 @@
 //! A replica that asks again, since a region has gone astray.
-ghost use Rattle.std.specs.Prelude.{Bool, List, false, length, true, ◌&&◌, ◌==◌, ◌∷◌, ◌≡◌};
+ghost use Rattle.std.specs.Prelude.{List, false, length, true, ◌&&◌, ◌==◌, ◌∷◌, ◌≡◌};
 ghost use Rattle.mu_model.specs.declared.event.Event.{Event as SomeEvent};
 ghost use Rattle.mu_model.specs.declared.event.Verb.{Verb as SomeVerb};
 ghost use Rattle.mu_model.specs.Again.{asks_again};
@@ -10,11 +10,11 @@ ghost use Rattle.mu_model.specs.Steps.{is_named};
 ghost use Rattle.mu_model.specs.Stretches.{is_odd};
 ghost use Rattle.mu_lead.specs.declared.place.Place.{Place};
 ghost use Rattle.mu_lead.specs.Again.{TellsAstray};
+ghost use Rattle.mu_lead.specs.Journal.{HasLeft, IsWhere};
 ghost use Rattle.mu_lead.specs.Standing.{HasHeeded};
 ghost use Rattle.mu_node.specs.Due.{asks_out_of_turn, is_eager};
-ghost use Rattle.mu_node.specs.Journal.{FollowsTurn};
-ghost use Rattle.mu_node.specs.Keeping.{Becomes, KeepsSelf};
-ghost use Rattle.mu_node.specs.Node.{IsGone, LivesForNode, StandsAs};
+ghost use Rattle.mu_node.specs.Keeping.{Becomes, KeepsSelf, MovesLead};
+ghost use Rattle.mu_node.specs.Node.{StandsForNode};
 
 use crate::node::Node;
 use crate::planning::is_turn_of_leader;
@@ -26,7 +26,7 @@ impl Node {
     /// Whether an eager replica that is named asks again in this turn.
     pub(crate) fn asks_out_of_turn(&self) -> bool
         ghost mine: { List SomeEvent }
-        requires stands { LivesForNode self.now.follow.config self.now.id mine self.now }
+        requires stands { StandsForNode self.now.follow.config self.now.id mine self.now }
         ensures { result
             ≡ (asks_out_of_turn self.now.zeal self.now.follow.config self.now.id mine
             && is_odd (length mine)) }
@@ -40,7 +40,7 @@ impl Node {
     /// Whether the scores name the replica, and a region of its leadership has gone astray.
     fn is_astray(&self) -> bool
         ghost mine: { List SomeEvent }
-        requires stands { LivesForNode self.now.follow.config self.now.id mine self.now }
+        requires stands { StandsForNode self.now.follow.config self.now.id mine self.now }
         ensures { result
             ≡ (is_named self.now.follow.config self.now.id mine
             && asks_again self.now.follow.config self.now.id mine) }
@@ -53,10 +53,11 @@ impl Node {
     /// leadership. Its note names the region that has gone astray.
     pub(crate) fn leave_leadership(&mut self) -> Note
         ghost mine: { List SomeEvent }
-        requires stands { LivesForNode self.old.follow.config self.old.id mine self.old }
+        requires stands { StandsForNode self.old.follow.config self.old.id mine self.old }
         requires named { is_named self.old.follow.config self.old.id mine ≡ true }
         requires asks { asks_again self.old.follow.config self.old.id mine ≡ true }
-        ensures gone { Becomes IsGone mine self.old self.new }
+        ensures stands { Becomes StandsForNode mine self.old self.new }
+        ensures left { MovesLead HasLeft mine self.old self.new }
         ensures begins { self.new.lead.place ≡ Place.Ask 0 }
         ensures follow { self.new.follow ≡ self.old.follow }
         ensures keeps { KeepsSelf self.old self.new }
@@ -72,21 +73,21 @@ impl Node {
         ghost mine: { List SomeEvent }
         requires id { id ≡ self.old.id }
         requires config { IsConfig self.old.follow.config }
-        requires gone { IsGone false self.old.follow.config self.old.id mine self.old }
+        requires stands { StandsForNode self.old.follow.config self.old.id mine self.old }
         requires begins { self.old.lead.place ≡ Place.Ask 0 }
         requires heeded { HasHeeded mine self.old.lead }
         requires odd { is_odd (length mine) ≡ true }
         requires named { is_named self.old.follow.config self.old.id mine ≡ true }
         requires asks { asks_again self.old.follow.config self.old.id mine ≡ true }
         requires eager { is_eager self.old.zeal ≡ true }
-        ensures stands { (full : Bool)
-            → IsGone full self.old.follow.config self.old.id mine self.old
-            → (full ≡ true
-            → FollowsTurn self.old.zeal self.old.follow.config id mine
-            (event_by id (SomeVerb.Ask 0) answer))
-            → IsPossible self.old.follow.config id (event_by id (SomeVerb.Ask 0) answer ∷ mine)
-            → StandsAs full self.old.follow.config id
+        ensures stands { IsPossible self.old.follow.config id
+            (event_by id (SomeVerb.Ask 0) answer ∷ mine)
+            → StandsForNode self.old.follow.config id
             (event_by id (SomeVerb.Ask 0) answer ∷ mine) self.new }
+        ensures placed { HasLeft self.old.follow.config self.old.id mine self.old.lead
+            → IsPossible self.old.follow.config id (event_by id (SomeVerb.Ask 0) answer ∷ mine)
+            → IsWhere self.old.follow.config id (event_by id (SomeVerb.Ask 0) answer ∷ mine)
+            self.new.lead }
         ensures zeal { self.new.zeal ≡ self.old.zeal }
         ensures stops { self.new.stops ≡ self.old.stops }
         ensures going { IsPossible self.old.follow.config id

@@ -1,5 +1,5 @@
 //! The background turns of a replica: what is due at each place of the cycle.
-ghost use Rattle.std.specs.Prelude.{Bool, IfSome, List, false, length, ◌%◌, ◌-◌, ◌<◌, ◌≡◌, ℕ};
+ghost use Rattle.std.specs.Prelude.{IfSome, List, false, length, ◌%◌, ◌-◌, ◌<◌, ◌≡◌, ℕ};
 ghost use Rattle.mu_model.specs.declared.config.Config.{Config};
 ghost use Rattle.mu_model.specs.declared.event.Event.{Event as SomeEvent};
 ghost use Rattle.mu_model.specs.Contents.{IsConfig};
@@ -9,7 +9,7 @@ ghost use Rattle.mu_lead.specs.Beside.{leads_at};
 ghost use Rattle.mu_node.specs.Cycle.{IsBackgroundDue, IsDueAt, other_at, place_now, read_at};
 ghost use Rattle.mu_node.specs.Due.{MayBeside};
 ghost use Rattle.mu_node.specs.Keeping.{InBackground, KeepsSelf, OncePlanned};
-ghost use Rattle.mu_node.specs.Node.{HasPlanned, LivesForNode, StandsAs};
+ghost use Rattle.mu_node.specs.Node.{HasPlanned, StandsForNode};
 
 use crate::answers::apply_ready;
 use crate::node::Node;
@@ -49,9 +49,9 @@ impl Node {
     #[inline(always)]
     pub(crate) fn background(&mut self) -> Option<Verb>
         requires config { IsConfig self.old.follow.config }
-        ensures stands { (full : Bool) → (c : Config) → (r : ℕ) → (mine : List SomeEvent)
+        ensures stands { (c : Config) → (r : ℕ) → (mine : List SomeEvent)
             → is_odd (length mine) ≡ false → IsPossible c r mine
-            → StandsAs full c r mine self.old → HasPlanned full c r mine self.new }
+            → StandsForNode c r mine self.old → HasPlanned c r mine self.new }
         ensures lead { self.new.lead ≡ self.old.lead }
         ensures keeps { KeepsSelf self.old self.new }
         ensures due { InBackground self.old
@@ -67,7 +67,7 @@ impl Node {
     /// The place of the cycle of a background turn.
     fn place(&self) -> u8
         requires config { IsConfig self.now.follow.config }
-        ensures { (c : Config) → (r : ℕ) → (mine : List SomeEvent) → LivesForNode c r mine self.now
+        ensures { (c : Config) → (r : ℕ) → (mine : List SomeEvent) → StandsForNode c r mine self.now
             → result ≡ place_now c mine }
     {
         let cycle = u32::from(self.replicas) * 2 + PLACES;
@@ -78,10 +78,10 @@ impl Node {
     /// raised.
     fn hand_on(&mut self, place: u8)
         requires config { IsConfig self.old.follow.config }
-        ensures stands { (full : Bool) → (c : Config) → (r : ℕ) → (mine : List SomeEvent)
+        ensures stands { (c : Config) → (r : ℕ) → (mine : List SomeEvent)
             → is_odd (length mine) ≡ false → IsPossible c r mine
-            → place ≡ place_now c mine → StandsAs full c r mine self.old
-            → HasPlanned full c r mine self.new }
+            → place ≡ place_now c mine → StandsForNode c r mine self.old
+            → HasPlanned c r mine self.new }
         ensures lead { self.new.lead ≡ self.old.lead }
         ensures keeps { KeepsSelf self.old self.new }
     {

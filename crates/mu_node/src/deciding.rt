@@ -1,10 +1,10 @@
 //! A step in two halves: what the replica decides to do, and how it takes what that found.
-ghost use Rattle.std.specs.Prelude.{Bool, List, false, true, ◌≡◌};
+ghost use Rattle.std.specs.Prelude.{List, false, true, ◌≡◌};
 ghost use Rattle.mu_model.specs.declared.event.Event.{Event as SomeEvent};
+ghost use Rattle.mu_lead.specs.Journal.{IsWhere};
 ghost use Rattle.mu_node.specs.Cycle.{IsMade};
-ghost use Rattle.mu_node.specs.Deciding.{HasDecided, IsReady, LeavesToAsk, LivesAfter, PlansByTurn, SettlesAsk, SettlesPlan, StandsAfter};
+ghost use Rattle.mu_node.specs.Deciding.{HasDecided, IsPlacedAfter, IsReady, LeavesToAsk, PlansByTurn, SettlesAsk, SettlesPlan, StandsAfter};
 ghost use Rattle.mu_node.specs.Keeping.{KeepsSelf, MayStep};
-ghost use Rattle.mu_node.specs.Node.{StandsAs, StandsForNode};
 
 use crate::node::Node;
 use crate::planning::Plan;
@@ -39,11 +39,10 @@ impl Node {
         requires { MayStep mine self.old }
         ensures decided { HasDecided mine self.new result }
         ensures keeps { KeepsSelf self.old self.new }
-        ensures made { StandsForNode self.old.follow.config self.old.id mine self.old
+        ensures made { IsWhere self.old.follow.config self.old.id mine self.old.lead
             → IsMade self.old.zeal self.old.follow.config self.old.id mine result.plan.verb }
-        ensures stands { (full : Bool)
-            → StandsAs full self.old.follow.config self.old.id mine self.old
-            → IsReady full mine self.new result }
+        ensures placed { IsWhere self.old.follow.config self.old.id mine self.old.lead
+            → IsReady mine self.new result }
         ensures asks { result.again ≡ true → LeavesToAsk mine self.old result.plan.heeded }
         ensures plans { result.again ≡ false → PlansByTurn mine self.old self.new result.plan }
     {
@@ -71,8 +70,8 @@ impl Node {
     pub fn settle(&mut self, decision: Decision, answer: Answer) -> Note
         ghost mine: { List SomeEvent }
         requires { HasDecided mine self.old decision }
-        ensures lives { LivesAfter mine self.old decision answer self.new }
         ensures stands { StandsAfter mine self.old decision answer self.new }
+        ensures placed { IsPlacedAfter mine self.old decision answer self.new }
         ensures zeal { self.new.zeal ≡ self.old.zeal }
         ensures stops { self.new.stops ≡ self.old.stops }
         ensures asked { decision.again ≡ true

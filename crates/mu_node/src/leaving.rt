@@ -1,6 +1,5 @@
 //! What a replica leaves at its end.
 ghost use Rattle.mu_node.specs.Keeping.{Ends, HasEvents, Leaves};
-ghost use Rattle.mu_node.specs.Node.{LivesForNode};
 ghost use Rattle.mu_node.specs.Turns.{IsLeft, TellsEnd};
 
 use crate::answers::apply_ready;
@@ -11,10 +10,11 @@ use mu_knowledge::first_values;
 use mu_model::{End, Sequence};
 
 impl Node {
-    /// The end of its events, if they have one, also if its configuration has grown.
+    /// The end of its events, if they have one: by the script, by the budget, because it was
+    /// outrun, or because all is applied.
     #[inline(always)]
-    pub fn live_end(&self) -> Option<End>
-        ensures { Ends LivesForNode TellsEnd self.now result }
+    pub fn end(&self) -> Option<End>
+        ensures { Ends TellsEnd self.now result }
     {
         let steps = self.follow.steps();
         if is_stop(self.stops.as_slice(), self.id, steps) {
@@ -26,13 +26,13 @@ impl Node {
         }
     }
 
-    /// What a replica leaves whose configuration may have grown. Takes no memory.
-    pub fn into_live_result(self) -> NodeResult
-        requires lives { HasEvents LivesForNode self }
-        ensures left { Leaves LivesForNode self (λ c r mine. IsLeft c r mine result) }
-        ensures end { Ends LivesForNode TellsEnd self result.end }
+    /// What the replica leaves. Takes no memory.
+    pub fn into_result(self) -> NodeResult
+        requires stands { HasEvents self }
+        ensures left { Leaves self (λ c r mine. IsLeft c r mine result) }
+        ensures end { Ends TellsEnd self result.end }
     {
-        let end = self.live_end();
+        let end = self.end();
         let Node {
             id: _,
             replicas: _,

@@ -1,21 +1,19 @@
 //! One replica and its turns.
-ghost use Rattle.std.specs.Prelude.{Bool, IfOk, List, None, Some, [], false, length, vec_capacity, ◌+◌, ◌<◌, ◌≡◌};
+ghost use Rattle.std.specs.Prelude.{IfOk, List, None, Some, [], false, length, vec_capacity, ◌+◌, ◌<◌, ◌≡◌};
 ghost use Rattle.mu_model.specs.declared.event.Event.{Event as SomeEvent};
 ghost use Rattle.mu_model.specs.declared.script.Script.{Script};
 ghost use Rattle.mu_model.specs.Contents.{IsConfig, row_count};
 ghost use Rattle.mu_model.specs.Ends.{outrun};
 ghost use Rattle.mu_model.specs.Parts.{IsPossible};
 ghost use Rattle.mu_model.specs.Room.{reserve};
-ghost use Rattle.mu_node.specs.Journal.{IsListed, WasMade};
-ghost use Rattle.mu_node.specs.Keeping.{Ends, HasEvents, Leaves};
-ghost use Rattle.mu_node.specs.Node.{LivesForNode, StandsAs, StandsForNode};
+ghost use Rattle.mu_lead.specs.Journal.{IsWhere};
+ghost use Rattle.mu_node.specs.Keeping.{Ends};
+ghost use Rattle.mu_node.specs.Node.{StandsForNode};
 ghost use Rattle.mu_node.specs.Notes.{HasMade, MovesGoing, MovesTurn, TellsTurn};
-ghost use Rattle.mu_node.specs.Turns.{IsLeft, IsOneStep, IsTurn, IsTurnOn, TellsEnd, TellsHalt};
-ghost use Rattle.mu_agree.specs.Moments.{AtEachStep};
+ghost use Rattle.mu_node.specs.Turns.{IsOneStep, IsTurn, IsTurnOn, TellsHalt};
 
 use crate::answers::Answers;
 use crate::ending::{end_of_outrun, is_stop};
-use crate::result::NodeResult;
 use crate::turn::Turn;
 use crate::watch::Watch;
 use crate::zeal::Zeal;
@@ -64,6 +62,7 @@ impl Node {
         requires config { IsConfig job.now.config }
         requires inside { id < job.now.config.replicas }
         ensures stands { IfOk result (λ node. StandsForNode job.now.config id [] node) }
+        ensures placed { IfOk result (λ node. IsWhere job.now.config id [] node.lead) }
         ensures zeal { IfOk result (λ node. node.zeal ≡ zeal) }
         ensures stops { IfOk result (λ node. node.stops.items ≡ job.now.script.stops) }
         ensures idle { IfOk result (λ node. node.lead.under_way ≡ false) }
@@ -97,20 +96,11 @@ impl Node {
         self.id
     }
 
-    /// The end of its events, if they have one: by the script, by the budget, because it was
-    /// outrun, or because all is applied.
-    #[inline(always)]
-    pub fn end(&self) -> Option<End>
-        ensures { Ends StandsForNode TellsEnd self.now result }
-    {
-        self.live_end()
-    }
-
     /// What halts it, if anything does: the script, the budget, or that it was outrun. It goes on
     /// though all is applied.
     #[inline(always)]
     pub fn halt(&self) -> Option<End>
-        ensures { Ends LivesForNode TellsHalt self.now result }
+        ensures { Ends TellsHalt self.now result }
     {
         let steps = self.follow.steps();
         if is_stop(self.stops.as_slice(), self.id, steps) {
@@ -126,9 +116,9 @@ impl Node {
     /// one step through the port, or none if something halts it. Takes no memory.
     pub fn turn_on<P: Port>(&mut self, port: &mut P) -> Turn
         requires config { IsConfig (P.config port.old) }
-        requires lives { LivesForNode (P.config port.old) (P.number port.old)
+        requires stands { StandsForNode (P.config port.old) (P.number port.old)
             (P.part port.old) self.old }
-        ensures lives { LivesForNode (P.config port.new) (P.number port.new)
+        ensures stands { StandsForNode (P.config port.new) (P.number port.new)
             (P.part port.new) self.new }
         ensures same { P.same port.old port.new }
         ensures zeal { self.new.zeal ≡ self.old.zeal }
@@ -160,14 +150,15 @@ impl Node {
         ensures turn { (script : Script) → script.stops ≡ self.old.stops.items
             → IsTurn (P.config port.old) script (P.number port.old) (P.part port.old)
             (P.part port.new) (P.whole port.old) (P.whole port.new) result }
-        ensures made { TellsTurn self.old.zeal (P.config port.old) (P.number port.old)
+        ensures placed { IsWhere (P.config port.old) (P.number port.old) (P.part port.old)
+            self.old.lead → IsWhere (P.config port.new) (P.number port.new) (P.part port.new)
+            self.new.lead }
+        ensures made { IsWhere (P.config port.old) (P.number port.old) (P.part port.old)
+            self.old.lead → TellsTurn self.old.zeal (P.config port.old) (P.number port.old)
             (P.part port.old) (P.part port.new) self.old.lead result }
-        ensures going { MovesTurn (P.config port.old) (P.number port.old) (P.part port.old)
+        ensures going { IsWhere (P.config port.old) (P.number port.old) (P.part port.old)
+            self.old.lead → MovesTurn (P.config port.old) (P.number port.old) (P.part port.old)
             self.old.lead self.new.lead result }
-        ensures listed { AtEachStep (IsListed self.new.zeal (P.config port.new)
-            (P.number port.new)) (P.part port.new) }
-        ensures was_made { AtEachStep (WasMade (P.config port.new) (P.number port.new))
-            (P.part port.new) }
     {
         let id = port.id();
         prove!(id == self.id);
@@ -187,12 +178,11 @@ impl Node {
         requires config { IsConfig (P.config port.old) }
         requires possible { IsPossible (P.config port.old) (P.number port.old) (P.part port.old) }
         requires left { length (P.part port.old) < (P.config port.old).budget }
-        requires stands { LivesForNode (P.config port.old) (P.number port.old)
+        requires stands { StandsForNode (P.config port.old) (P.number port.old)
             (P.part port.old) self.old }
         requires going { outrun (P.config port.old) (P.number port.old) (P.part port.old) ≡ None }
-        ensures stands { (full : Bool)
-            → StandsAs full (P.config port.old) (P.number port.old) (P.part port.old) self.old
-            → StandsAs full (P.config port.new) (P.number port.new) (P.part port.new) self.new }
+        ensures stands { StandsForNode (P.config port.new) (P.number port.new)
+            (P.part port.new) self.new }
         ensures same { P.same port.old port.new }
         ensures zeal { self.new.zeal ≡ self.old.zeal }
         ensures stops { self.new.stops ≡ self.old.stops }
@@ -200,11 +190,14 @@ impl Node {
         ensures step { IsOneStep (P.config port.old) (P.number port.old) (P.part port.old)
             (P.part port.new)
             (P.whole port.old) (P.whole port.new) }
-        ensures made { StandsForNode (P.config port.old) (P.number port.old) (P.part port.old)
-            self.old → HasMade self.old.zeal (P.config port.old) (P.number port.old)
+        ensures placed { IsWhere (P.config port.old) (P.number port.old) (P.part port.old)
+            self.old.lead → IsWhere (P.config port.new) (P.number port.new) (P.part port.new)
+            self.new.lead }
+        ensures made { IsWhere (P.config port.old) (P.number port.old) (P.part port.old)
+            self.old.lead → HasMade self.old.zeal (P.config port.old) (P.number port.old)
             (P.part port.old) (P.part port.new) self.old.lead result }
-        ensures going { StandsForNode (P.config port.old) (P.number port.old) (P.part port.old)
-            self.old → MovesGoing (P.config port.old) (P.number port.old) (P.part port.old)
+        ensures going { IsWhere (P.config port.old) (P.number port.old) (P.part port.old)
+            self.old.lead → MovesGoing (P.config port.old) (P.number port.old) (P.part port.old)
             self.old.lead self.new.lead result }
     {
         let decision = self.decide();
@@ -215,14 +208,5 @@ impl Node {
             let answer = port.step(decision.verb());
             self.settle(decision, answer)
         }
-    }
-
-    /// What the replica leaves. Takes no memory.
-    pub fn into_result(self) -> NodeResult
-        requires stands { HasEvents StandsForNode self }
-        ensures left { Leaves StandsForNode self (λ c r mine. IsLeft c r mine result) }
-        ensures end { Ends StandsForNode TellsEnd self result.end }
-    {
-        self.into_live_result()
     }
 }

@@ -13,14 +13,15 @@ ghost use Rattle.mu_follow.specs.Due.{IsReplay};
 ghost use Rattle.mu_follow.specs.Follow.{StandsForFollow};
 ghost use Rattle.mu_lead.specs.declared.note.Note.{Note as SomeNote};
 ghost use Rattle.mu_lead.specs.Beside.{leads_at};
-ghost use Rattle.mu_lead.specs.Journal.{place_after};
+ghost use Rattle.mu_lead.specs.Journal.{IsWhere, place_after};
 ghost use Rattle.mu_lead.specs.Standing.{HasHeeded};
 ghost use Rattle.mu_node.specs.Cycle.{IsCycleDue};
-ghost use Rattle.mu_node.specs.Keeping.{Becomes, IdlesBy, IsPlan, KeepsSelf, MayStep};
+ghost use Rattle.mu_node.specs.Keeping.{Becomes, IdlesBy, IsPlan, KeepsSelf, MayStep, MovesLead};
 ghost use Rattle.mu_node.specs.Plans.{due_of};
 ghost use Rattle.mu_node.specs.Due.{ReadsOn, held_write_due, idle_due, lead_due, verb_or_beat};
-ghost use Rattle.mu_node.specs.Node.{HasHeard, HasPlanned, LivesForNode, StandsForNode};
+ghost use Rattle.mu_node.specs.Node.{HasPlanned, StandsForNode};
 ghost use Rattle.mu_node.specs.Notes.{HasTold, heed_note, note_before};
+ghost use Rattle.mu_node.specs.Placed.{IsWhereHeard, IsWherePlanned};
 
 use crate::node::Node;
 use crate::zeal::Zeal;
@@ -84,17 +85,18 @@ impl Node {
         ghost mine: { List SomeEvent }
         requires { MayStep mine self.old }
         ensures planned { Becomes HasPlanned mine self.old self.new }
+        ensures placed { MovesLead IsWherePlanned mine self.old self.new }
         ensures keeps { KeepsSelf self.old self.new }
         ensures is { IsPlan self.old.follow.config self.old.id mine self.new.lead result }
         ensures leads { result.leads ≡ (is_odd (length mine)
             && is_some (lead_due self.old.follow.config self.old.id mine self.old.lead)) }
         ensures idles { IdlesBy mine self.old self.new result }
-        ensures led { StandsForNode self.old.follow.config self.old.id mine self.old
+        ensures led { IsWhere self.old.follow.config self.old.id mine self.old.lead
             → is_odd (length mine) ≡ true
             → due_of result
             ≡ or_else (lead_due self.old.follow.config self.old.id mine self.old.lead)
             (idle_due self.old.zeal self.old.follow.config self.old.id mine) }
-        ensures cycle { StandsForNode self.old.follow.config self.old.id mine self.old
+        ensures cycle { IsWhere self.old.follow.config self.old.id mine self.old.lead
             → is_odd (length mine) ≡ false
             → IsCycleDue self.old.zeal self.old.follow.config self.old.id mine
             (leads_at self.old.lead.place) (due_of result) }
@@ -116,7 +118,8 @@ impl Node {
     fn plan_led(&mut self) -> Plan
         ghost mine: { List SomeEvent }
         requires { MayStep mine self.old }
-        ensures stands { Becomes HasHeard mine self.old self.new }
+        ensures stands { Becomes StandsForNode mine self.old self.new }
+        ensures placed { MovesLead IsWhereHeard mine self.old self.new }
         ensures keeps { KeepsSelf self.old self.new }
         ensures is { IsPlan self.old.follow.config self.old.id mine self.new.lead result }
         ensures leads { result.leads
@@ -124,7 +127,7 @@ impl Node {
         ensures named { leads_at self.new.lead.place ≡ true
             → is_named self.old.follow.config self.old.id mine ≡ true }
         ensures idles { IdlesBy mine self.old self.new result }
-        ensures led { StandsForNode self.old.follow.config self.old.id mine self.old
+        ensures led { IsWhere self.old.follow.config self.old.id mine self.old.lead
             → due_of result
             ≡ or_else (lead_due self.old.follow.config self.old.id mine self.old.lead)
             (idle_due self.old.zeal self.old.follow.config self.old.id mine) }
@@ -184,7 +187,7 @@ impl Node {
         ensures keeps { KeepsSelf self.old self.new }
         ensures is { IsPlan self.old.follow.config self.old.id mine self.new.lead result }
         ensures leads { result.leads ≡ false }
-        ensures cycle { StandsForNode self.old.follow.config self.old.id mine self.old
+        ensures cycle { IsWhere self.old.follow.config self.old.id mine self.old.lead
             → IsCycleDue self.old.zeal self.old.follow.config self.old.id mine
             (leads_at self.old.lead.place) (due_of result) }
         ensures heeded { result.heeded ≡ SomeNote.Working }
@@ -198,7 +201,7 @@ impl Node {
     #[inline(always)]
     fn or_ahead(&self, due: Option<Verb>) -> Option<Verb>
         ensures { (c : Config) → (r : ℕ) → (mine : List SomeEvent) → IsConfig c
-            → IsPossible c r mine → HasPlanned false c r mine self.now
+            → IsPossible c r mine → HasPlanned c r mine self.now
             → result ≡ or_else due (held_write_due self.now.zeal c r mine self.now.lead) }
     {
         match due {
@@ -213,9 +216,9 @@ impl Node {
     /// Tells the leader which leader the scores name, before a step of its own.
     pub(crate) fn heed(&mut self) -> Note
         ghost mine: { List SomeEvent }
-        requires stands { LivesForNode self.old.follow.config self.old.id mine self.old }
-        ensures heard { HasHeard false self.old.follow.config self.old.id mine self.new }
-        ensures stands { Becomes HasHeard mine self.old self.new }
+        requires stands { StandsForNode self.old.follow.config self.old.id mine self.old }
+        ensures stands { Becomes StandsForNode mine self.old self.new }
+        ensures placed { MovesLead IsWhereHeard mine self.old self.new }
         ensures follow { self.new.follow ≡ self.old.follow }
         ensures keeps { KeepsSelf self.old self.new }
         ensures named { self.new.lead.named

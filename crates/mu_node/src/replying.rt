@@ -12,7 +12,7 @@ ghost use Rattle.mu_follow.specs.Groups.{AreSpelled, groups_of};
 ghost use Rattle.mu_node.specs.Cycle.{handed_before};
 ghost use Rattle.mu_knowledge.specs.Telling.{Tells};
 ghost use Rattle.mu_node.specs.Growing.{StandsInTurn};
-ghost use Rattle.mu_node.specs.Node.{HoldsBeside, LivesForNode};
+ghost use Rattle.mu_node.specs.Node.{HoldsBeside, StandsForNode};
 ghost use Rattle.mu_node.specs.Telling.{TellsPlace};
 
 use crate::node::Node;
@@ -45,7 +45,7 @@ impl Node {
     pub fn reply_to(&self, row: u16) -> Option<Reply>
         ensures { (c : Config) → (r : ℕ) → (mine : List SomeEvent) → (commands : List Request)
             → IsConfig c → IsPossible c r mine → AreSpelled c commands
-            → LivesForNode c r mine self.now
+            → StandsForNode c r mine self.now
             → result
             ≡ beside row (rows_in c (take (handed_before c r mine) (applied c r mine)))
             (replies (groups_of c commands (take (handed_before c r mine) (applied c r mine)))) }

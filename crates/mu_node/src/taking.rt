@@ -1,5 +1,5 @@
 //! How a replica's parts take the event that its step is.
-ghost use Rattle.std.specs.Prelude.{Bool, List, None, Some, false, is_some, length, true, ℕ, ◌<◌, ◌∷◌, ◌≡◌};
+ghost use Rattle.std.specs.Prelude.{List, None, Some, false, is_some, length, true, ℕ, ◌<◌, ◌∷◌, ◌≡◌};
 ghost use Rattle.mu_model.specs.declared.config.Config.{Config};
 ghost use Rattle.mu_model.specs.declared.event.Event.{Event as SomeEvent};
 ghost use Rattle.mu_model.specs.Contents.{IsConfig};
@@ -8,13 +8,14 @@ ghost use Rattle.mu_model.specs.Stretches.{is_odd};
 ghost use Rattle.mu_model.specs.Histories.{event_by};
 ghost use Rattle.mu_follow.specs.Follow.{commit_of};
 ghost use Rattle.mu_lead.specs.Beside.{is_beside, leads_at};
+ghost use Rattle.mu_lead.specs.Journal.{IsWhere};
 ghost use Rattle.mu_lead.specs.Notes.{value_committed};
 ghost use Rattle.mu_node.specs.Plans.{due_of};
 ghost use Rattle.mu_node.specs.Due.{FitsLead, IsIdle, WritesAhead, verb_or_beat, written_row};
-ghost use Rattle.mu_node.specs.Journal.{FollowsTurn};
 ghost use Rattle.mu_node.specs.Keeping.{AwaitsTold, IsToTake, KeepsOthers, TakesBeside, TakesLed};
-ghost use Rattle.mu_node.specs.Node.{AwaitsBeside, HasPlanned, HoldsBeside, StandsAs};
+ghost use Rattle.mu_node.specs.Node.{AwaitsBeside, HasPlanned, HoldsBeside, StandsForNode};
 ghost use Rattle.mu_node.specs.Notes.{SaysTook, TellsTook};
+ghost use Rattle.mu_node.specs.Placed.{IsWherePlanned};
 ghost use Rattle.mu_node.specs.Reads.{IsReadNext};
 
 use crate::ending::as_head;
@@ -116,20 +117,21 @@ impl Node {
         requires fits { FitsLead self.old.follow.config self.old.id mine self.old.lead plan.leads
             (due_of plan) }
         requires turn { plan.leads ≡ true → is_odd (length mine) ≡ true }
-        requires planned { HasPlanned false self.old.follow.config self.old.id mine self.old }
+        requires planned { HasPlanned self.old.follow.config self.old.id mine self.old }
         requires made { plan.verb ≡ verb_or_beat (due_of plan) }
         requires some { plan.leads ≡ true → is_some (due_of plan) ≡ true }
-        ensures stands { (full : Bool)
-            → HasPlanned full self.old.follow.config self.old.id mine self.old
-            → (full ≡ true → plan.leads ≡ false
-            → IsIdle self.old.follow.config id mine self.old.lead (verb_or_beat (due_of plan)))
-            → (full ≡ true → FollowsTurn self.old.zeal self.old.follow.config id mine
-            (event_by id (verb_or_beat (due_of plan)) answer))
-            → IsReadNext self.old.follow.config id mine (verb_or_beat (due_of plan))
+        ensures stands { IsReadNext self.old.follow.config id mine (verb_or_beat (due_of plan))
             → IsPossible self.old.follow.config id
             (event_by id (verb_or_beat (due_of plan)) answer ∷ mine)
-            → StandsAs full self.old.follow.config id
+            → StandsForNode self.old.follow.config id
             (event_by id (verb_or_beat (due_of plan)) answer ∷ mine) self.new }
+        ensures placed { IsWherePlanned self.old.follow.config id mine self.old.lead
+            → (plan.leads ≡ false
+            → IsIdle self.old.follow.config id mine self.old.lead (verb_or_beat (due_of plan)))
+            → IsPossible self.old.follow.config id
+            (event_by id (verb_or_beat (due_of plan)) answer ∷ mine)
+            → IsWhere self.old.follow.config id
+            (event_by id (verb_or_beat (due_of plan)) answer ∷ mine) self.new.lead }
         ensures zeal { self.new.zeal ≡ self.old.zeal }
         ensures stops { self.new.stops ≡ self.old.stops }
         ensures note { TellsTook self.old.follow.config id mine plan.leads (due_of plan)
@@ -149,16 +151,18 @@ impl Node {
     #[inline(always)]
     fn note_other(&mut self, by: u8, verb: Verb, answer: Answer)
         requires config { IsConfig self.old.follow.config }
-        ensures stands { (full : Bool) → (mine : List SomeEvent)
+        ensures stands { (mine : List SomeEvent)
             → is_beside (leads_at self.old.lead.place) verb ≡ true
             → WritesAhead self.old.lead verb
-            → (full ≡ true → IsIdle self.old.follow.config by mine self.old.lead verb)
-            → (full ≡ true → FollowsTurn self.old.zeal self.old.follow.config by mine
-            (event_by by verb answer))
             → IsReadNext self.old.follow.config by mine verb
             → IsPossible self.old.follow.config by (event_by by verb answer ∷ mine)
-            → HasPlanned full self.old.follow.config by mine self.old
-            → StandsAs full self.old.follow.config by (event_by by verb answer ∷ mine) self.new }
+            → HasPlanned self.old.follow.config by mine self.old
+            → StandsForNode self.old.follow.config by (event_by by verb answer ∷ mine) self.new }
+        ensures placed { (mine : List SomeEvent)
+            → WritesAhead self.old.lead verb
+            → IsIdle self.old.follow.config by mine self.old.lead verb
+            → IsWherePlanned self.old.follow.config by mine self.old.lead
+            → IsWhere self.old.follow.config by (event_by by verb answer ∷ mine) self.new.lead }
         ensures zeal { self.new.zeal ≡ self.old.zeal }
         ensures stops { self.new.stops ≡ self.old.stops }
         ensures going { self.new.lead.under_way ≡ self.old.lead.under_way }

@@ -4,6 +4,7 @@ mod Lists
 mod LiveLines
 mod Prints
 mod Pushes
+mod RepliesBack
 mod Sentences
 mod Sizes
 mod Summaries

@@ -29,3 +29,4 @@ pub use responses::{Response, print_responses};
 pub use said::{Said, print, print_counted};
 pub use statuses::status_for;
 pub use trace::write_trace;
+pub use words::replies_are_read_back;

@@ -1,7 +1,7 @@
 //! Commands, replies and ends, as words of a line.
 ghost use Rattle.std.specs.Prelude.{◌≡◌, ◌+◌, ◌≤◌, ◌++◌, length};
 ghost use Rattle.mu_report.specs.declared.line.TheConstants.{LINE_BYTES};
-ghost use Rattle.mu_report.specs.Words.{name_of, reply_words, end_words};
+ghost use Rattle.mu_report.specs.Words.{ReadsReplies, name_of, reply_words, end_words};
 
 use crate::line::Line;
 use kv_store::{Command, Reply};
@@ -37,6 +37,11 @@ pub fn push_reply(line: &mut Line, reply: &Reply)
         }
     }
 }
+
+/// What is printed of a reply, `attest` reads as that reply.
+pub fn replies_are_read_back()
+    ensures { ReadsReplies }
+{}
 
 /// Adds how a replica ended, and nothing if that is not told: at most 16 bytes.
 pub fn push_end(line: &mut Line, end: Option<End>)

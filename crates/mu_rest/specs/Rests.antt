@@ -1,5 +1,5 @@
 -- rests: what a replica's steps and the times of its cycles have come to.
-use Rattle.std.specs.Prelude.{Bool, List, MatchBool, nat_lt, ℕ, ◌||◌, ◌≡◌}
+use Rattle.std.specs.Prelude.{Bool, List, MatchBool, false, if◌then◌else◌, nat_lt, ℕ, ◌-◌, ◌||◌, ◌≡◌}
 use Rattle.mu_rest.specs.Cycles.{CountsRest, EndsCycle, late}
 use Rattle.mu_rest.specs.Naps.{IsRest}
 use Rattle.mu_rest.specs.Progress.{StandsForProgress}
@@ -32,17 +32,31 @@ may_rest rests = nat_lt 0 rests.silences.shown || rests.progress.ended
 abbrev pub TimesCycle : Bool → ℕ → Cycles → Cycles → Type 0
 TimesCycle ended moment old new = MatchBool ended (EndsCycle moment old new) (new ≡ old)
 
+-- in haste there is no rest
+abbrev pub IsNone : Rest → Type 0
+IsNone rest = rest ≡ record { nanoseconds = 0; awake = false }
+
+-- for how many more cycles there is haste, after a step
+abbrev pub haste_after : Bool → ℕ → ℕ
+haste_after ended haste = if ended then haste - 1 else haste
+
+-- there is haste: another is known to have ended, and counts as failed the sooner the less is rested
+abbrev pub Hastens : Rests → Rests → Type 0
+Hastens old new = new ≡ record old { haste = 80 }
+
 -- what doesn't change: the longest rest, if it is fixed, and whether not each replica has a
 -- processor
 pub record HasSettings (longest : ℕ) (is_crowded : Bool) (rests : Rests) : Type 0 where
   pub fixed : rests.fixed ≡ longest
   pub crowded : rests.crowded ≡ is_crowded
 
--- a rest is told, and counted in the cycle under way
+-- a rest is told, none in haste, and counted in the cycle under way
 pub record Tells (moment : ℕ) (old new : Rests) (rest : Rest) : Type 0 where
   pub silences : new.silences ≡ old.silences
   pub progress : new.progress ≡ old.progress
   pub settings : HasSettings old.fixed old.crowded new
+  pub haste : new.haste ≡ haste_after old.progress.ended old.haste
   pub times : (cycles : Cycles) × TimesCycle old.progress.ended moment old.cycles cycles
-      × IsRest old.fixed old.crowded (late cycles moment) (shown_by old) rest
+      × MatchBool (nat_lt 0 old.haste) (IsNone rest)
+      (IsRest old.fixed old.crowded (late cycles moment) (shown_by old) rest)
       × CountsRest rest.nanoseconds cycles new.cycles

@@ -33,6 +33,14 @@ pub struct Rest {
     pub awake: bool,
 }
 
+impl Rest {
+    /// No rest.
+    pub const NONE: Rest = Rest {
+        nanoseconds: 0,
+        awake: false,
+    };
+}
+
 /// What the steps of a replica show.
 #[derive(Clone, Copy)]
 pub(crate) struct Shown {

@@ -2,7 +2,7 @@
 ghost use Rattle.std.specs.Prelude.{List, [], nat_lt, ◌∷◌, ◌≡◌};
 ghost use Rattle.mu_rest.specs.Cycles.{BeginsAmong, BeginsCycle};
 ghost use Rattle.mu_rest.specs.declared.sign.Sign.{Sign as SomeSign};
-ghost use Rattle.mu_rest.specs.Rests.{HasSettings, StandsForRests, Tells, may_rest, shown_by};
+ghost use Rattle.mu_rest.specs.Rests.{HasSettings, Hastens, StandsForRests, Tells, may_rest, shown_by};
 ghost use Rattle.mu_rest.specs.Signs.{IsOfSeven};
 
 use crate::cycles::Cycles;
@@ -10,6 +10,10 @@ use crate::naps::{Rest, Shown, rest_after};
 use crate::progress::Progress;
 use crate::sign::Sign;
 use crate::silences::Silences;
+
+/// For so many cycles there is no rest if another is known to have ended: some fifteen until it counts
+/// as failed, and those in which the next leader begins.
+const HASTE: u8 = 80;
 
 /// What the steps of a replica and the times of its cycles have come to. Moments and times are in
 /// nanoseconds; whoever calls has a clock.
@@ -23,6 +27,8 @@ pub struct Rests {
     fixed: u64,
     /// Whether there are fewer processors than replicas.
     crowded: bool,
+    /// For how many more cycles there is no rest.
+    haste: u8,
 }
 
 impl Rests {
@@ -32,6 +38,7 @@ impl Rests {
         ensures stands { StandsForRests [] result }
         ensures cycles { BeginsAmong moment running processors result.cycles }
         ensures settings { HasSettings fixed (nat_lt processors replicas) result }
+        ensures haste { result.haste ≡ 0 }
     {
         Rests {
             silences: Silences::new(),
@@ -39,6 +46,7 @@ impl Rests {
             cycles: Cycles::new(moment, running, processors),
             fixed,
             crowded: processors < replicas,
+            haste: 0,
         }
     }
 
@@ -50,6 +58,7 @@ impl Rests {
             → StandsForRests (sign ∷ signs) self.new }
         ensures cycles { self.new.cycles ≡ self.old.cycles }
         ensures settings { HasSettings self.old.fixed self.old.crowded self.new }
+        ensures haste { self.new.haste ≡ self.old.haste }
     {
         self.silences.take(sign);
         self.progress.take(sign);
@@ -83,13 +92,26 @@ impl Rests {
     pub fn rest(&mut self, moment: u64) -> Rest
         ensures { Tells moment self.old self.new result }
     {
-        if self.progress.has_ended_cycle() {
+        let ended = self.progress.has_ended_cycle();
+        if ended {
             self.cycles.end(moment);
         }
         let late = self.cycles.late(moment);
-        let rest = rest_after(self.fixed, self.crowded, late, &self.shown());
+        let rest = if 0 < self.haste {
+            Rest::NONE
+        } else {
+            rest_after(self.fixed, self.crowded, late, &self.shown())
+        };
         self.cycles.count(rest.nanoseconds);
+        self.haste = self.haste.saturating_sub(u8::from(ended));
         rest
+    }
+
+    /// Another is known to have ended: it counts as failed the sooner the less is rested.
+    pub fn hasten(&mut self)
+        ensures { Hastens self.old self.new }
+    {
+        self.haste = HASTE;
     }
 
     /// A cycle begins after a sleep that was no rest: there is something to do.
@@ -98,6 +120,7 @@ impl Rests {
             → StandsForRests (SomeSign.Work ∷ signs) self.new }
         ensures cycles { BeginsCycle moment self.old.cycles self.new.cycles }
         ensures settings { HasSettings self.old.fixed self.old.crowded self.new }
+        ensures haste { self.new.haste ≡ self.old.haste }
     {
         self.take(Sign::Work);
         self.cycles.begin(moment);

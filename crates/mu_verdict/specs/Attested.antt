@@ -1,7 +1,7 @@
 -- attests of: the answer on a trace with lines of what clients see.
 use Rattle.std.specs.Prelude.{ℕ, ◌≡◌, List, ⊤}
-use Rattle.mu_attest.specs.Attests.{IsRight, IsWrong}
-use Rattle.mu_attest.specs.Traces.{attested_trace}
+use Rattle.mu_verdict.specs.Attests.{IsRight, IsWrong}
+use Rattle.mu_verdict.specs.Traces.{attested_trace}
 use Rattle.mu_input.specs.Readings.{Leaves}
 use Rattle.mu_report.specs.declared.said.Said.{Said}
 

@@ -1,7 +1,10 @@
 pub mod Attested
+pub mod Attestors
+pub mod Attests
 pub mod Explained
 pub mod Judged
 pub mod LineJudges
 pub mod Noted
 pub mod Shown
 pub mod Told
+pub mod Traces

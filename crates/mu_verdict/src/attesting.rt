@@ -4,7 +4,7 @@ ghost use Rattle.mu_input.specs.declared.TheConstants.{TRACE_LIMIT};
 ghost use Rattle.mu_verdict.specs.Attested.{AttestsOf};
 ghost use Rattle.mu_report.specs.Said.{IsShort};
 
-use mu_attest::{Found, finding_of};
+use crate::finding::{Found, finding_of};
 use mu_report::Said;
 use std::alloc::Global;
 

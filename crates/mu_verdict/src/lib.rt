@@ -1,10 +1,16 @@
-//! From the bytes of a trace to what is said of it, of a whole trace or line by line.
+//! From the bytes of a trace to what is said of it, of a whole trace or line by line, also of one with
+//! lines of what clients see.
 #![tactic(auto)]
 
 mod attesting;
+mod attestor;
 mod explaining;
+mod finding;
 mod judging;
 mod line_judge;
+mod reading;
+mod replying;
+mod rows;
 mod showing;
 mod telling;
 

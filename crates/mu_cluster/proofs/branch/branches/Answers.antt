@@ -1,7 +1,8 @@
 use Rattle.std.proofs.Common.{◌≡◌, ◌∙◌, ap, sym, ◌++◌, [], ◌∷◌, Some, arith, length, map, append_assoc, length-append, subst}
 use Rattle.std.specs.List.{slice_get}
 use Rattle.std.specs.Vec.Iter.{into_iter_items}
-use Rattle.mu_node.specs.Node.{StandsForNode}
+use Rattle.mu_node.specs.Following.{FollowsTurns}
+use Rattle.mu_node.proofs.Following.{follows_first}
 use Rattle.shared_fabric.proofs.Gathers.{get_middle, map_snoc}
 use Rattle.mu_cluster.specs.declared.branch.Branch.{Branch}
 use Rattle.mu_cluster.specs.declared.branch.TheConstants.{BETWEEN}
@@ -23,7 +24,7 @@ loop-port-preserved c =
     let its : slice_get c.args.ports.items (length at.yielded) ≡ Some x = ap (λ l. slice_get l (length at.yielded)) whole ∙ get_middle at.yielded (into_iter_items c.next.new.self) x in
     let fresh = c.requires.fresh (length at.yielded) x its in
     let b : Branch = record { node = c.in_ok-node.node; port = x; between = BETWEEN } in
-    let drives = first_drives job.config job.script (length at.yielded) x c.in_ok-node.node c.requires.good fresh (subst (λ i. StandsForNode job.config i [] c.in_ok-node.node) c.id.ensures.number c.in_ok-node.ensures.stands) c.in_ok-node.ensures.stops c.in_ok-node.ensures.zeal in
+    let drives = first_drives job.config job.script (length at.yielded) x c.in_ok-node.node c.requires.good fresh (subst (λ i. FollowsTurns job.config i [] c.in_ok-node.node) c.id.ensures.number (follows_first job.config c.id.result c.in_ok-node.node c.in_ok-node.ensures.stands c.in_ok-node.ensures.placed)) c.in_ok-node.ensures.stops c.in_ok-node.ensures.zeal in
     let ready : Starts job.script b = record { drives = drives; empty = fresh.empty } in (
       tt,
       tt,

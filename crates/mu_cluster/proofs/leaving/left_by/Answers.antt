@@ -31,7 +31,7 @@ into_result-requires c =
     let left = c.requires.left.each n node found in
     let mine = mine_part k events parts n left.0 (omega (arith, within, many)) list.1.1 left.1 in
     let goes = subst (λ l. NodeGoesOn k script n l node) mine left.2 in
-    record { stands = (k, n, part_of n events, c.requires.good, part_is_possible k n (history events) list.1.0, goes.stands) }
+    record { stands = (k, n, part_of n events, c.requires.good, part_is_possible k n (history events) list.1.0, goes.follows.stands) }
 
 pub add-requires : goal.add-requires
 add-requires c =
@@ -67,8 +67,8 @@ loop-node-preserved c =
           let goes = subst (λ l. NodeGoesOn k script n l node) mine left.2 in
           let ends = subst (λ l. HasEnd k script n l) mine left.3 in
           let possible = part_is_possible k n (history events) legal in
-          let is = result_of Zeal.Eager k n (part_of n events) node c.into_result.result c.requires.good possible goes.stands goes.zeal (c.into_result.ensures.left k n (part_of n events) c.requires.good possible goes.stands) in
-          let told = c.into_result.ensures.end k script n (part_of n events) (sym goes.stops) c.requires.good possible goes.stands in
+          let is = result_of Zeal.Eager k n (part_of n events) node c.into_result.result c.requires.good possible goes.follows goes.zeal (c.into_result.ensures.left k n (part_of n events) c.requires.good possible goes.follows.stands) in
+          let told = c.into_result.ensures.end k script n (part_of n events) (sym goes.stops) c.requires.good possible goes.follows.stands in
           subst (λ m. HoldsLists true k script events m c.add.new.self) (sym long)
           (held_left true k script events n c.loop-node.lists c.add.new.self c.into_result.result (inv.holds events legal has) c.add.ensures goes.before ends is told);
     }

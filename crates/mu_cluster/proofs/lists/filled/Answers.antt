@@ -21,7 +21,7 @@ into_result-requires c =
     let zero : n + 0 ≡ n = omega arith in
     let found : slice_get all n ≡ Some seat = ap (slice_get all) (sym zero) ∙ (sym (c.loop-seat.invariant.rest 0) ∙ ap (λ l. slice_get l 0) head) in
     let sits = c.requires.played.1.waits n seat found (omega arith) in
-    record { stands = (k, n, part_of n events, c.requires.good, part_is_possible k n (history events) c.requires.legal, sits.stands) }
+    record { stands = (k, n, part_of n events, c.requires.good, part_is_possible k n (history events) c.requires.legal, sits.follows.stands) }
 
 pub loop-seat-preserved : goal.loop-seat-preserved
 loop-seat-preserved c =
@@ -39,8 +39,8 @@ loop-seat-preserved c =
     let found : slice_get all n ≡ Some seat = ap (slice_get all) (sym zero) ∙ (sym (inv.rest 0) ∙ ap (λ l. slice_get l 0) head) in
     let sits = c.requires.played.1.waits n seat found (omega arith) in
     let possible = part_is_possible k n (history events) c.requires.legal in
-    let is = result_of c.args._kind k n (part_of n events) seat.node c.into_result.result c.requires.good possible sits.stands sits.zeal (c.into_result.ensures.left k n (part_of n events) c.requires.good possible sits.stands) in
-    let told = c.into_result.ensures.end k script n (part_of n events) (sym sits.stops) c.requires.good possible sits.stands in
+    let is = result_of c.args._kind k n (part_of n events) seat.node c.into_result.result c.requires.good possible sits.follows sits.zeal (c.into_result.ensures.left k n (part_of n events) c.requires.good possible sits.follows.stands) in
+    let told = c.into_result.ensures.end k script n (part_of n events) (sym sits.stops) c.requires.good possible sits.follows.stands in
     record {
       rest = λ r. let on : n + suc r ≡ length (c.loop-seat.yielded ++ seat ∷ []) + r = omega (arith, long) in sym (ap (λ l. slice_get l (suc r)) head) ∙ (inv.rest (suc r) ∙ ap (slice_get all) on);
       count = let count = inv.count in omega (arith, long, shorter, count);

@@ -20,7 +20,7 @@ play-requires-clause-inside g c =
     let low : k < length seats = omega (arith, c.loop-k-test.true, c.loop-k.invariant.count) in
     let sits = was.waits k _ (slice_get-get_or seats k c.index-seats-k.result low) (omega arith) in
     let same = ap (λ x. x.replicas) c.loop-k.invariant.config in
-    let id = sits.stands.beside.id in
+    let id = sits.follows.stands.beside.id in
     omega (arith, low, was.count, same, id)
 
 pub play-requires-clause-sits : goal.play-requires-clause-sits
@@ -57,7 +57,7 @@ loop-k-preserved g c =
           let now = c.loop-k.invariant.played kind script rounds same was in
           let sits = now.waits k old at (omega arith) in
           let plays = c.play.ensures.plays kind script rounds same (sits_own f c.loop-k.port.config script k rounds c.loop-k.port.events old c.loop-k.invariant.config sits) in
-          let there = plays_there f c.loop-k.port.config script k old.node.id rounds c.loop-k.port.events c.play.new.port.events old new c.loop-k.invariant.config sits.stands.beside.id plays in
+          let there = plays_there f c.loop-k.port.config script k old.node.id rounds c.loop-k.port.events c.play.new.port.events old new c.loop-k.invariant.config sits.follows.stands.beside.id plays in
           let one : suc k ≡ k + 1 = omega arith in
           subst (λ n. PlayedBy kind f script c.play.new.port.events (set seats k new) rounds n) one (play_on f script c.loop-k.port.events c.play.new.port.events seats k rounds old new (omega (arith, low, now.count)) at there now);
       left = omega (arith, left, total, c.loop-k.invariant.left);

@@ -4,6 +4,7 @@ use Rattle.std.proofs.lemmas.List.{length_push}
 use Rattle.mu_model.proofs.Lists.{each_pushed}
 use Rattle.mu_cluster.specs.declared.rounds.Seat.{Seat}
 use Rattle.mu_cluster.specs.Rounds.{Sits}
+use Rattle.mu_node.proofs.Following.{follows_first}
 use Rattle.mu_cluster.proofs.Seats.{sits_first}
 use Rattle.mu_cluster.proofs.rounds.seats.Goals as goal
 use Rattle.mu_cluster.specs.Pauses.{IsNextPause}
@@ -14,7 +15,7 @@ loop-id-preserved c =
     let kind = c.args.kind in
     let seat = c.new-in-loop-id.result in
     let n = c.loop-id.invariant.count in
-    let sits = sits_first job.config job.script c.loop-id.id c.in_ok-new.field-0 seat c.in_ok-new.ensures.stands c.in_ok-new.ensures.stops c.in_ok-new.ensures.zeal c.new-in-loop-id.ensures.node c.new-in-loop-id.ensures.going c.new-in-loop-id.ensures.waited (subst (IsNextPause job.script.pauses c.loop-id.id 0) (sym c.new-in-loop-id.ensures.next) (subst (λ p. IsNextPause p c.loop-id.id 0 c.next_pause.result) c.as_slice.ensures c.next_pause.ensures)) in
+    let sits = sits_first job.config job.script c.loop-id.id c.in_ok-new.field-0 seat (follows_first job.config c.loop-id.id c.in_ok-new.field-0 c.in_ok-new.ensures.stands c.in_ok-new.ensures.placed) c.in_ok-new.ensures.stops c.in_ok-new.ensures.zeal c.new-in-loop-id.ensures.node c.new-in-loop-id.ensures.going c.new-in-loop-id.ensures.waited (subst (IsNextPause job.script.pauses c.loop-id.id 0) (sym c.new-in-loop-id.ensures.next) (subst (λ p. IsNextPause p c.loop-id.id 0 c.next_pause.result) c.as_slice.ensures c.next_pause.ensures)) in
     record {
       room = omega (arith, c.loop-id.invariant.room, c.push_reserved.ensures.capacity);
       count = ap length c.push_reserved.ensures.items ∙ (length_push c.loop-id.seats.items seat ∙ ap (λ m. m + 1) n);

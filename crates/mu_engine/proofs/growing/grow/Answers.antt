@@ -6,7 +6,7 @@ use Rattle.mu_model.specs.Contents.{IsConfig}
 use Rattle.mu_model.specs.Growing.{with_more}
 use Rattle.mu_model.specs.Histories.{history}
 use Rattle.mu_model.proofs.Parts.{part_is_possible}
-use Rattle.mu_node.specs.Node.{LivesForNode}
+use Rattle.mu_node.specs.Node.{StandsForNode}
 use Rattle.mu_model.proofs.Lists.{get_set_other, set_get}
 use Rattle.mu_engine.specs.Seats.{Sits, part_of}
 use Rattle.mu_engine.proofs.Holds.{held_map}
@@ -37,7 +37,7 @@ grow-requires c =
               pair.first,
               (
                 part_is_possible f old.node.id (history events) c.requires.legal,
-                (subst (λ i. LivesForNode f i (part_of i events) old.node) (sym sits.lives.beside.id) sits.lives, c.requires.room k old was),
+                (subst (λ i. StandsForNode f i (part_of i events) old.node) (sym sits.lives.beside.id) sits.lives, c.requires.room k old was),
               ),
             ),
           ),
@@ -59,7 +59,7 @@ loop-k-preserved c =
     let was : slice_get c.args.seats.now k ≡ Some old = sym (c.loop-k.invariant.ahead k (omega arith)) ∙ at in
     let sits = c.requires.seated.each k old was in
     let pair = popped g c.loop-k.copies.items c.pop.new.self.items c.pop.result c.in-Some.pair c.pop.ensures.items c.in-Some.is c.loop-k.invariant.pairs in
-    let lives = subst (λ i. LivesForNode g i (part_of i events) new.node) sits.lives.beside.id (subst (λ h. LivesForNode h old.node.id (part_of old.node.id events) new.node) pair.first c.grow.ensures.lives) in
+    let lives = subst (λ i. StandsForNode g i (part_of i events) new.node) sits.lives.beside.id (subst (λ h. StandsForNode h old.node.id (part_of old.node.id events) new.node) pair.first c.grow.ensures.lives) in
     let sat : Sits g k events new = record { lives = lives; stops = ap (λ v. v.items) c.grow.ensures.stops ∙ sits.stops; zeal = c.grow.ensures.zeal ∙ sits.zeal } in
     record {
       whole = length-set seats k new ∙ c.loop-k.invariant.whole;

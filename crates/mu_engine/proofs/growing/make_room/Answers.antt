@@ -31,7 +31,7 @@ loop-k-preserved c =
     let low : k < length seats = omega (arith, c.loop-k-test.true, c.loop-k.invariant.count) in
     let at : slice_get seats k ≡ Some old = slice_get-get_or seats k c.index-seats-k.result low in
     let sits = c.loop-k.invariant.seated.each k old at in
-    let kept : Sits f k events new = record { lives = c.make_room.ensures.keeps.lives f k (part_of k events) sits.lives; stops = ap (λ v. v.items) c.make_room.ensures.stops ∙ sits.stops; zeal = c.make_room.ensures.zeal ∙ sits.zeal } in
+    let kept : Sits f k events new = record { lives = c.make_room.ensures.keeps.stands f k (part_of k events) sits.lives; stops = ap (λ v. v.items) c.make_room.ensures.stops ∙ sits.stops; zeal = c.make_room.ensures.zeal ∙ sits.zeal } in
     record {
       count = length-set seats k new ∙ c.loop-k.invariant.count;
       seated = seated_set f events seats k new kept c.loop-k.invariant.seated;
@@ -53,7 +53,7 @@ returns-in_err-make_room-clause-seated c =
     let low : k < length seats = omega (arith, c.loop-k-test.true, c.loop-k.invariant.count) in
     let at : slice_get seats k ≡ Some old = slice_get-get_or seats k c.index-seats-k.result low in
     let sits = c.loop-k.invariant.seated.each k old at in
-    let kept : Sits f k events new = record { lives = c.make_room.ensures.keeps.lives f k (part_of k events) sits.lives; stops = ap (λ v. v.items) c.make_room.ensures.stops ∙ sits.stops; zeal = c.make_room.ensures.zeal ∙ sits.zeal } in
+    let kept : Sits f k events new = record { lives = c.make_room.ensures.keeps.stands f k (part_of k events) sits.lives; stops = ap (λ v. v.items) c.make_room.ensures.stops ∙ sits.stops; zeal = c.make_room.ensures.zeal ∙ sits.zeal } in
     seated_set f events seats k new kept c.loop-k.invariant.seated
 
 pub returns-in_err-make_room-clause-holds : goal.returns-in_err-make_room-clause-holds

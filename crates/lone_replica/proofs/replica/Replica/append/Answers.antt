@@ -8,7 +8,7 @@ use Rattle.mu_model.specs.Parts.{IsPossible}
 use Rattle.lone_words.specs.declared.access.Shape.{Shape}
 use Rattle.lone_words.specs.declared.accesses.Accesses.{Accesses}
 use Rattle.mu_node.specs.Growing.{StandsInTurn}
-use Rattle.mu_node.specs.Node.{LivesForNode}
+use Rattle.mu_node.specs.Node.{StandsForNode}
 use Rattle.lone_replica.specs.Appending.{next_request, row_of}
 use Rattle.lone_replica.specs.Standing.{StandsForReplica}
 use Rattle.lone_replica.proofs.Adding.{in_turn_held, next_is_config, replica_grown}
@@ -75,9 +75,9 @@ returns-clause-appended g c =
     let of : List ℕ → Row = λ ws. record { words = ws } in
     let spelled : row ≡ row_of (next_request g.at.0 c.args.client c.args.op) = ap of c.encode-row.ensures.words ∙ ap row_of told in
     let kept = c.make_room.ensures.id in
-    let lives : LivesForNode g.at.0 old.id g.at.1.0 mid.node → LivesForNode (with_more g.at.0 (row ∷ [])) old.id g.at.1.0 new.node =
-    λ was. subst (λ (k : Config). LivesForNode k old.id g.at.1.0 new.node) own
-    (subst (λ (i : ℕ). LivesForNode c.in_ok-copies.copies.own i g.at.1.0 new.node) kept (c.grow.ensures.lives (subst (λ (i : ℕ). LivesForNode g.at.0 i g.at.1.0 mid.node) (sym kept) was))) in
+    let lives : StandsForNode g.at.0 old.id g.at.1.0 mid.node → StandsForNode (with_more g.at.0 (row ∷ [])) old.id g.at.1.0 new.node =
+    λ was. subst (λ (k : Config). StandsForNode k old.id g.at.1.0 new.node) own
+    (subst (λ (i : ℕ). StandsForNode c.in_ok-copies.copies.own i g.at.1.0 new.node) kept (c.grow.ensures.lives (subst (λ (i : ℕ). StandsForNode g.at.0 i g.at.1.0 mid.node) (sym kept) was))) in
     subst (λ (x : Row). StandsForReplica (with_more g.at.0 (x ∷ [])) old.id g.at.1 new) spelled
     (replica_grown g.at.0 row old.id g.at.1 mid new grown (subst (λ (a : Accesses). row_count g.at.0 < a.shape.rows) (sym c.make_room.ensures.accesses) room) c.make_room.ensures.stands (c.grow.ensures.config ∙ own)
     (c.grow.ensures.follow ∙ own) c.grow.ensures.node lives c.grow.ensures.decided c.grow.ensures.due c.grow.ensures.id c.grow.ensures.last c.grow.ensures.accesses)

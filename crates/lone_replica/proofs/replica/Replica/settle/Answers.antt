@@ -15,4 +15,4 @@ returns-clause-stands g c found =
       due = old.due;
       last = Some (record { by = old.id; verb = c.verb-verb.result; answer = c.take-answer.result });
     } in
-    settled g.at.0 old.id g.at.1 old new c.args.due c.args.word c.verb-verb.result c.take-answer.result c.requires.0 c.requires.1.0 found c.verb-verb.ensures c.take-answer.ensures.answer c.take-answer.ensures.stands c.take-answer.ensures.shape c.settle.ensures.lives refl refl c.requires.1.1 refl
+    settled g.at.0 old.id g.at.1 old new c.args.due c.args.word c.verb-verb.result c.take-answer.result c.requires.0 c.requires.1.0 found c.verb-verb.ensures c.take-answer.ensures.answer c.take-answer.ensures.stands c.take-answer.ensures.shape c.settle.ensures.stands refl refl c.requires.1.1 refl

@@ -22,4 +22,4 @@ add_last-requires g c =
     )
 
 pub returns-clause-lives : goal.returns-clause-lives
-returns-clause-lives g c = c.add_last.ensures.lives c.requires.1.1.1.1.1.1.0
+returns-clause-lives g c = c.add_last.ensures.between c.requires.1.1.1.1.1.1.0

@@ -15,7 +15,7 @@ returns-clause-sits c =
     let new = c.turn_on.new.port.events in
     let r = before.node.id in
     let t = turned k old new c.pass_to.new.self c.turn_on.new.port r c.id.result c.turn_on.result c.turn_on.new.self c.pass_to.ensures.replica c.id.ensures c.pass_to.ensures.config c.pass_to.ensures.events c.turn_on.ensures.same.1 c.turn_on.ensures.same.0 refl
-    (record { lives = c.turn_on.ensures.lives; did = c.turn_on.ensures.turn no_script (sym c.requires.sits.stops) }) in
+    (record { lives = c.turn_on.ensures.stands; did = c.turn_on.ensures.turn no_script (sym c.requires.sits.stops) }) in
     record {
       lives = t.lives;
       stops = ap (λ v. v.items) c.turn_on.ensures.stops ∙ c.requires.sits.stops;
@@ -30,5 +30,5 @@ returns-clause-plays c =
     let new = c.turn_on.new.port.events in
     let r = before.node.id in
     let t = turned k old new c.pass_to.new.self c.turn_on.new.port r c.id.result c.turn_on.result c.turn_on.new.self c.pass_to.ensures.replica c.id.ensures c.pass_to.ensures.config c.pass_to.ensures.events c.turn_on.ensures.same.1 c.turn_on.ensures.same.0 refl
-    (record { lives = c.turn_on.ensures.lives; did = c.turn_on.ensures.turn no_script (sym c.requires.sits.stops) }) in
+    (record { lives = c.turn_on.ensures.stands; did = c.turn_on.ensures.turn no_script (sym c.requires.sits.stops) }) in
     plays_on k r before.hold old new c.turn_on.result c.turn_on.new.self (sym c.is_free-free.ensures ∙ c.if-not-free.false) t

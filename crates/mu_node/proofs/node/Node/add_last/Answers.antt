@@ -50,8 +50,8 @@ returns-clause-stands g c =
     subst (λ z. StandsInTurn z r mine new) (sym c.requires.1.1.1.0)
     (node_more k row r mine old new c.requires.0 (subst IsConfig c.requires.1.1.1.0 c.requires.1.0) c.requires.1.1.1.1.0 held c.requires.1.1.1.1.1.1 follow c.add_last.ensures.handed lead refl refl refl refl refl refl (omega arith) refl (omega arith) refl)
 
-pub returns-clause-lives : goal.returns-clause-lives
-returns-clause-lives g c lived =
+pub returns-clause-between : goal.returns-clause-between
+returns-clause-between g c lived =
     let growth = g.growth in
     let k = growth.config in
     let more = growth.row ∷ [] in

@@ -6,12 +6,11 @@ use Rattle.mu_node.specs.Answers.{HoldsAnswers}
 use Rattle.mu_node.specs.Cycle.{place_now}
 use Rattle.mu_node.proofs.Answering.{take_whole}
 use Rattle.mu_node.proofs.Reading.{all_known}
-use Rattle.mu_node.proofs.Where.{where_even}
 use Rattle.mu_node.proofs.Turning.{handed_elsewhere, handed_here}
 use Rattle.mu_node.proofs.node.Node.hand_on.Goals as goal
 
 pub returns-then-place-saturating_add-clause-stands : goal.returns-then-place-saturating_add-clause-stands
-returns-then-place-saturating_add-clause-stands c full k r mine even possible at held =
+returns-then-place-saturating_add-clause-stands c k r mine even possible at held =
     let good = subst (λ x. IsConfig x) held.beside.follow.config c.requires.config in
     let few = good.replicas.1 in
     let n = held.beside.replicas in
@@ -37,13 +36,10 @@ returns-then-place-saturating_add-clause-stands c full k r mine even possible at
           let now = c.apply_ready.ensures.answers k r mine commands good possible (all_known k r mine held.reads) are b.follow before in
           subst (λ l. HoldsAnswers k commands l c.apply_ready.new.answers) (sym (ap (λ n. take n (applied k r mine)) (handed_here k r mine even here) ∙ take_whole (length (applied k r mine)) (applied k r mine) (omega arith))) now;
       reads = held.reads;
-      made = held.made;
-      listed = held.listed;
-      placed = λ on. where_even k r mine c.args.self.now.lead even (held.placed on);
     }
 
 pub returns-else-place-saturating_add-clause-stands : goal.returns-else-place-saturating_add-clause-stands
-returns-else-place-saturating_add-clause-stands c full k r mine even possible at held =
+returns-else-place-saturating_add-clause-stands c k r mine even possible at held =
     let good = subst (λ x. IsConfig x) held.beside.follow.config c.requires.config in
     let few = good.replicas.1 in
     let n = held.beside.replicas in
@@ -54,7 +50,4 @@ returns-else-place-saturating_add-clause-stands c full k r mine even possible at
       handed = held.handed ∙ sym (handed_elsewhere k r mine other);
       answers = λ commands are. subst (λ n. HoldsAnswers k commands (take n (applied k r mine)) c.args.self.now.answers) (sym (handed_elsewhere k r mine other)) (held.answers commands are);
       reads = held.reads;
-      made = held.made;
-      listed = held.listed;
-      placed = λ on. where_even k r mine c.args.self.now.lead even (held.placed on);
     }

@@ -1,4 +1,4 @@
-use Rattle.std.proofs.Common.{◌≡◌, ◌∙◌, ◌==◌, ◌&&◌, ap, false, refl}
+use Rattle.std.proofs.Common.{◌≡◌, ◌∙◌, ◌==◌, ◌&&◌, ap, refl}
 use Rattle.std.specs.Prelude.{if◌then◌else◌, nat_lt, not}
 use Rattle.mu_model.specs.Scores.{leader}
 use Rattle.mu_follow.specs.Follow.{StandsForFollow}
@@ -13,22 +13,23 @@ use Rattle.mu_node.proofs.Where.{where_told}
 use Rattle.mu_node.proofs.node.Node.heed.Goals as goal
 
 pub returns-clause-stands : goal.returns-clause-stands
-returns-clause-stands g c full held =
+returns-clause-stands g c =
     let node = c.args.self.now in
-    let named = c.leader-leader.ensures node.follow.config node.id g.mine held.beside.watch in
+    let held = c.requires in
     record {
       beside = beside_lead (StandsForFollow node.follow.config node.id g.mine) node.follow.config node.id g.mine node c.heed.new.self held.beside;
       lead = record { config = c.heed.ensures.told.config ∙ held.lead.config; id = c.heed.ensures.told.id ∙ held.lead.id; stands = c.heed.ensures.stands };
       handed = held.handed;
       answers = held.answers;
       reads = held.reads;
-      made = held.made;
-      listed = held.listed;
-      placed = λ on. where_told node.follow.config node.id g.mine node.lead c.heed.new.self c.leader-leader.result held.beside.follow.inside named held.lead.id c.heed.ensures.told c.heed.ensures.going (held.placed on);
     }
 
-pub returns-clause-heard : goal.returns-clause-heard
-returns-clause-heard g c = returns-clause-stands g c false c.requires
+pub returns-clause-placed : goal.returns-clause-placed
+returns-clause-placed g c at =
+    let node = c.args.self.now in
+    let held = c.requires in
+    let named = c.leader-leader.ensures node.follow.config node.id g.mine held.beside.watch in
+    where_told node.follow.config node.id g.mine node.lead c.heed.new.self c.leader-leader.result held.beside.follow.inside named held.lead.id c.heed.ensures.told c.heed.ensures.going at
 
 pub returns-clause-named : goal.returns-clause-named
 returns-clause-named g c =

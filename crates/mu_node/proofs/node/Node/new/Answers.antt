@@ -22,7 +22,7 @@ returns-clause-stands c = record {
   handed = c.in_ok-new-2.ensures.handed;
   answers = λ commands are. first_answers c.args.job.now.config commands c.in_ok-with_room.field-0 c.in_ok-with_room.ensures.table c.in_ok-with_room.ensures.replies (c.in_ok-with_room.ensures.left ∙ c.len.ensures);
   reads = tt;
-  made = λ on. tt;
-  listed = λ on. tt;
-  placed = λ on. of_node (λ k i. IsWhere k i [] c.in_ok-new.field-0) c.args.job.now.config c.args.id c.in_ok-new.field-0 c.in_ok-new.ensures.config c.in_ok-new.ensures.id c.in_ok-new.ensures.placed;
 }
+
+pub returns-clause-placed : goal.returns-clause-placed
+returns-clause-placed c = of_node (λ k i. IsWhere k i [] c.in_ok-new.field-0) c.args.job.now.config c.args.id c.in_ok-new.field-0 c.in_ok-new.ensures.config c.in_ok-new.ensures.id c.in_ok-new.ensures.placed

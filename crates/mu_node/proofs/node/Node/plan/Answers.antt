@@ -1,11 +1,13 @@
-use Rattle.std.proofs.Common.{Bool, ap, false, length, sym, true, ℕ, ◌&&◌, ◌∙◌, ◌≡◌}
+use Rattle.std.proofs.Common.{Bool, ap, false, length, subst, sym, true, ℕ, ◌&&◌, ◌∙◌, ◌≡◌}
 use Rattle.std.specs.Prelude.{if◌then◌else◌, is_some}
 use Rattle.std.proofs.lemmas.Bool.{true≢false}
 use Rattle.mu_model.specs.Stretches.{is_odd}
 use Rattle.mu_lead.specs.declared.note.Note.{Note}
 use Rattle.mu_node.specs.Due.{lead_due}
 use Rattle.mu_node.specs.Notes.{heed_note}
+use Rattle.mu_lead.specs.Journal.{IsWhere}
 use Rattle.mu_node.proofs.Turning.{odd_planned}
+use Rattle.mu_node.proofs.Where.{where_even, where_odd}
 use Rattle.mu_node.proofs.node.Node.plan.Goals as goal
 
 -- whether the turn is the leader's, by the number of steps that were counted
@@ -19,10 +21,22 @@ plan_cycle-requires g c =
     (c.requires, even)
 
 pub returns-then-is_turn_of_leader-clause-planned : goal.returns-then-is_turn_of_leader-clause-planned
-returns-then-is_turn_of_leader-clause-planned g c full stands =
+returns-then-is_turn_of_leader-clause-planned g c =
     let node = c.args.self.now in
     let odd = parity c.steps.result (length g.mine) c.is_turn_of_leader.result true (c.steps.ensures node.follow.config node.id g.mine c.requires.stands.beside.follow) c.is_turn_of_leader.ensures c.if-is_turn_of_leader.true in
-    odd_planned full node.follow.config node.id g.mine c.plan_led.new.self odd (c.plan_led.ensures.stands full stands)
+    odd_planned node.follow.config node.id g.mine c.plan_led.new.self odd c.plan_led.ensures.stands
+
+pub returns-then-is_turn_of_leader-clause-placed : goal.returns-then-is_turn_of_leader-clause-placed
+returns-then-is_turn_of_leader-clause-placed g c at =
+    let node = c.args.self.now in
+    let odd = parity c.steps.result (length g.mine) c.is_turn_of_leader.result true (c.steps.ensures node.follow.config node.id g.mine c.requires.stands.beside.follow) c.is_turn_of_leader.ensures c.if-is_turn_of_leader.true in
+    where_odd node.follow.config node.id g.mine c.plan_led.new.self.lead odd (c.plan_led.ensures.placed at)
+
+pub returns-else-is_turn_of_leader-clause-placed : goal.returns-else-is_turn_of_leader-clause-placed
+returns-else-is_turn_of_leader-clause-placed g c at =
+    let node = c.args.self.now in
+    let even = parity c.steps.result (length g.mine) c.is_turn_of_leader.result false (c.steps.ensures node.follow.config node.id g.mine c.requires.stands.beside.follow) c.is_turn_of_leader.ensures c.if-is_turn_of_leader.false in
+    where_even node.follow.config node.id g.mine c.plan_cycle.new.self.lead even (subst (IsWhere node.follow.config node.id g.mine) (sym c.plan_cycle.ensures.lead) at)
 
 pub returns-then-is_turn_of_leader-clause-leads : goal.returns-then-is_turn_of_leader-clause-leads
 returns-then-is_turn_of_leader-clause-leads g c =

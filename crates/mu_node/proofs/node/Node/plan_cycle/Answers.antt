@@ -1,4 +1,4 @@
-use Rattle.std.proofs.Common.{◌≡◌, ◌∙◌, ap, false, refl, subst, sym}
+use Rattle.std.proofs.Common.{◌≡◌, ◌∙◌, ap, false, subst, sym}
 use Rattle.std.proofs.lemmas.Bool.{true≢false}
 use Rattle.mu_model.specs.Allowed.{Allowed}
 use Rattle.mu_follow.specs.CatchingUp.{or_else}
@@ -19,7 +19,7 @@ returns-clause-is g c =
     let k = node.follow.config in
     let may = c.background-due.ensures.may k node.id g.mine c.requires.0.possible c.requires.0.short c.requires.1 held in
     let due = c.background-due.ensures.due k node.id g.mine c.requires.0.possible c.requires.0.short c.requires.1 held in
-    let planned = c.background-due.ensures.stands false k node.id g.mine c.requires.1 c.requires.0.possible held in
+    let planned = c.background-due.ensures.stands k node.id g.mine c.requires.1 c.requires.0.possible held in
     let is : c.or_ahead.result ≡ or_else c.background-due.result (held_write_due c.background-due.new.self.zeal k node.id g.mine node.lead) = c.or_ahead.ensures k node.id g.mine c.requires.0.config c.requires.0.possible planned ∙ ap (λ (l : Lead). or_else c.background-due.result (held_write_due c.background-due.new.self.zeal k node.id g.mine l)) c.background-due.ensures.lead in
     let fits = cycle_fits c.background-due.new.self.zeal k node.id g.mine node.lead c.background-due.result held.lead c.requires.0.short held.beside.follow.inside may (cycle_writes_none k node.id g.mine (leads_at node.lead.place) c.background-due.result due) in
     record {
@@ -34,19 +34,19 @@ returns-clause-is g c =
     }
 
 pub returns-clause-planned : goal.returns-clause-planned
-returns-clause-planned g c full held =
+returns-clause-planned g c =
     let node = c.args.self.now in
-    c.background-due.ensures.stands full node.follow.config node.id g.mine c.requires.1 c.requires.0.possible held
+    c.background-due.ensures.stands node.follow.config node.id g.mine c.requires.1 c.requires.0.possible c.requires.0.stands
 
 pub returns-clause-cycle : goal.returns-clause-cycle
-returns-clause-cycle g c stands =
+returns-clause-cycle g c at =
     let node = c.args.self.now in
     let held = c.requires.0.stands in
     let k = node.follow.config in
-    let planned = c.background-due.ensures.stands false k node.id g.mine c.requires.1 c.requires.0.possible held in
+    let planned = c.background-due.ensures.stands k node.id g.mine c.requires.1 c.requires.0.possible held in
     let is : c.or_ahead.result ≡ or_else c.background-due.result (held_write_due c.background-due.new.self.zeal k node.id g.mine node.lead) = c.or_ahead.ensures k node.id g.mine c.requires.0.config c.requires.0.possible planned ∙ ap (λ (l : Lead). or_else c.background-due.result (held_write_due c.background-due.new.self.zeal k node.id g.mine l)) c.background-due.ensures.lead in
     record {
       first = c.background-due.result;
       background = c.background-due.ensures.due k node.id g.mine c.requires.0.possible c.requires.0.short c.requires.1 held;
-      whole = c.beside.ensures.due ∙ (is ∙ (ap (λ z. or_else c.background-due.result (held_write_due z k node.id g.mine node.lead)) c.background-due.ensures.keeps.zeal ∙ ap (or_else c.background-due.result) (ahead_is node.zeal k node.id g.mine node.lead stands.lead (stands.placed refl))));
+      whole = c.beside.ensures.due ∙ (is ∙ (ap (λ z. or_else c.background-due.result (held_write_due z k node.id g.mine node.lead)) c.background-due.ensures.keeps.zeal ∙ ap (or_else c.background-due.result) (ahead_is node.zeal k node.id g.mine node.lead held.lead at)));
     }

@@ -30,8 +30,8 @@ pub returns-in-Some-clause-is : goal.returns-in-Some-clause-is
 returns-in-Some-clause-is g c =
     let node = c.args.self.now in
     let lead = c.heed-heeded.new.self.lead in
-    let held = c.heed-heeded.ensures.heard in
-    let due = due_is node.follow.config node.id g.mine lead c.known.result.now c.due.result c.due.ensures.exact c.heed-heeded.ensures.named (c.known.ensures node.follow.config node.id g.mine (length g.mine) c.heed-heeded.ensures.heard.beside.follow) in
+    let held = c.heed-heeded.ensures.stands in
+    let due = due_is node.follow.config node.id g.mine lead c.known.result.now c.due.result c.due.ensures.exact c.heed-heeded.ensures.named (c.known.ensures node.follow.config node.id g.mine (length g.mine) c.heed-heeded.ensures.stands.beside.follow) in
     record {
       allowed = subst (λ d. Allowed node.follow.config node.id g.mine (verb_or_beat d)) c.in-Some.is
           (made_allowed node.follow.config node.id g.mine c.due.result c.requires.short held.beside.follow.inside
@@ -46,7 +46,7 @@ pub returns-in-None-clause-is : goal.returns-in-None-clause-is
 returns-in-None-clause-is g c =
     let node = c.args.self.now in
     let new = c.heed-heeded.new.self in
-    let held = c.heed-heeded.ensures.heard in
+    let held = c.heed-heeded.ensures.stands in
     let due = c.beside.ensures.due in
     let reads = subst (λ i. IfSome c.idle.result (λ verb. ReadsOn node.follow.config i g.mine verb)) c.heed-heeded.ensures.keeps.id
     (subst (λ (f : Follow). IfSome c.idle.result (λ verb. ReadsOn f.config new.id g.mine verb)) c.heed-heeded.ensures.follow c.idle.ensures.reads) in
@@ -68,23 +68,23 @@ pub returns-in-Some-clause-leads : goal.returns-in-Some-clause-leads
 returns-in-Some-clause-leads g c =
     let node = c.args.self.now in
     let lead = c.heed-heeded.new.self.lead in
-    let due = due_is node.follow.config node.id g.mine lead c.known.result.now c.due.result c.due.ensures.exact c.heed-heeded.ensures.named (c.known.ensures node.follow.config node.id g.mine (length g.mine) c.heed-heeded.ensures.heard.beside.follow) in
+    let due = due_is node.follow.config node.id g.mine lead c.known.result.now c.due.result c.due.ensures.exact c.heed-heeded.ensures.named (c.known.ensures node.follow.config node.id g.mine (length g.mine) c.heed-heeded.ensures.stands.beside.follow) in
     sym (ap (λ (o : Option Verb). is_some o) (sym c.heed-heeded.ensures.due ∙ (sym due ∙ c.in-Some.is)))
 
 pub returns-in-Some-clause-led : goal.returns-in-Some-clause-led
-returns-in-Some-clause-led g c stands =
+returns-in-Some-clause-led g c at =
     let node = c.args.self.now in
     let lead = c.heed-heeded.new.self.lead in
-    let due = due_is node.follow.config node.id g.mine lead c.known.result.now c.due.result c.due.ensures.exact c.heed-heeded.ensures.named (c.known.ensures node.follow.config node.id g.mine (length g.mine) c.heed-heeded.ensures.heard.beside.follow) in
+    let due = due_is node.follow.config node.id g.mine lead c.known.result.now c.due.result c.due.ensures.exact c.heed-heeded.ensures.named (c.known.ensures node.follow.config node.id g.mine (length g.mine) c.heed-heeded.ensures.stands.beside.follow) in
     sym (ap (λ o. or_else o (idle_due node.zeal node.follow.config node.id g.mine)) (sym c.heed-heeded.ensures.due ∙ (sym due ∙ c.in-Some.is)))
 
 pub returns-in-None-clause-led : goal.returns-in-None-clause-led
-returns-in-None-clause-led g c stands =
+returns-in-None-clause-led g c at =
     let node = c.args.self.now in
     let new = c.heed-heeded.new.self in
-    let due = due_is node.follow.config node.id g.mine new.lead c.known.result.now c.due.result c.due.ensures.exact c.heed-heeded.ensures.named (c.known.ensures node.follow.config node.id g.mine (length g.mine) c.heed-heeded.ensures.heard.beside.follow) in
+    let due = due_is node.follow.config node.id g.mine new.lead c.known.result.now c.due.result c.due.ensures.exact c.heed-heeded.ensures.named (c.known.ensures node.follow.config node.id g.mine (length g.mine) c.heed-heeded.ensures.stands.beside.follow) in
     let none : lead_due node.follow.config node.id g.mine node.lead ≡ None = sym c.heed-heeded.ensures.due ∙ (sym due ∙ c.in-None.is) in
-    let leading : c.is_leading-leading.result ≡ leads_at (place_after new.follow.config new.id g.mine) = c.is_leading-leading.ensures ∙ (ap leads_at (stands.placed refl).place
+    let leading : c.is_leading-leading.result ≡ leads_at (place_after new.follow.config new.id g.mine) = c.is_leading-leading.ensures ∙ (ap leads_at at.place
     ∙ (sym (ap (λ i. leads_at (place_after node.follow.config i g.mine)) c.heed-heeded.ensures.keeps.id) ∙ sym (ap (λ (f : Follow). leads_at (place_after f.config new.id g.mine)) c.heed-heeded.ensures.follow))) in
     c.beside.ensures.due
     ∙ (c.idle.ensures.exact leading
@@ -94,11 +94,11 @@ returns-in-None-clause-led g c stands =
     ∙ sym (ap (λ o. or_else o (idle_due node.zeal node.follow.config node.id g.mine)) none)))))
 
 pub returns-in-None-clause-idles : goal.returns-in-None-clause-idles
-returns-in-None-clause-idles g c stands off =
+returns-in-None-clause-idles g c at off =
     let node = c.args.self.now in
     let new = c.heed-heeded.new.self in
-    let due = due_is node.follow.config node.id g.mine new.lead c.known.result.now c.due.result c.due.ensures.exact c.heed-heeded.ensures.named (c.known.ensures node.follow.config node.id g.mine (length g.mine) c.heed-heeded.ensures.heard.beside.follow) in
-    let leading : c.is_leading-leading.result ≡ leads_at (place_after new.follow.config new.id g.mine) = c.is_leading-leading.ensures ∙ (ap leads_at (stands.placed refl).place
+    let due = due_is node.follow.config node.id g.mine new.lead c.known.result.now c.due.result c.due.ensures.exact c.heed-heeded.ensures.named (c.known.ensures node.follow.config node.id g.mine (length g.mine) c.heed-heeded.ensures.stands.beside.follow) in
+    let leading : c.is_leading-leading.result ≡ leads_at (place_after new.follow.config new.id g.mine) = c.is_leading-leading.ensures ∙ (ap leads_at at.place
     ∙ (sym (ap (λ i. leads_at (place_after node.follow.config i g.mine)) c.heed-heeded.ensures.keeps.id) ∙ sym (ap (λ (f : Follow). leads_at (place_after f.config new.id g.mine)) c.heed-heeded.ensures.follow))) in
     subst (λ d. IsIdle node.follow.config node.id g.mine new.lead (verb_or_beat d)) (sym c.beside.ensures.due)
     (idle_is_idle new.zeal node.follow.config node.id g.mine new.lead c.idle.result
@@ -106,7 +106,7 @@ returns-in-None-clause-idles g c stands off =
     (sym due ∙ c.in-None.is))
 
 pub returns-in-Some-clause-idles : goal.returns-in-Some-clause-idles
-returns-in-Some-clause-idles g c stands off = absurd (true≢false off)
+returns-in-Some-clause-idles g c at off = absurd (true≢false off)
 
 pub returns-in-Some-clause-stands : goal.returns-in-Some-clause-stands
 returns-in-Some-clause-stands g c = c.heed-heeded.ensures.stands
@@ -114,9 +114,15 @@ returns-in-Some-clause-stands g c = c.heed-heeded.ensures.stands
 pub returns-in-None-clause-stands : goal.returns-in-None-clause-stands
 returns-in-None-clause-stands g c = c.heed-heeded.ensures.stands
 
+pub returns-in-Some-clause-placed : goal.returns-in-Some-clause-placed
+returns-in-Some-clause-placed g c = c.heed-heeded.ensures.placed
+
+pub returns-in-None-clause-placed : goal.returns-in-None-clause-placed
+returns-in-None-clause-placed g c = c.heed-heeded.ensures.placed
+
 pub returns-in-None-clause-leads : goal.returns-in-None-clause-leads
 returns-in-None-clause-leads g c =
     let node = c.args.self.now in
     let lead = c.heed-heeded.new.self.lead in
-    let due = due_is node.follow.config node.id g.mine lead c.known.result.now c.due.result c.due.ensures.exact c.heed-heeded.ensures.named (c.known.ensures node.follow.config node.id g.mine (length g.mine) c.heed-heeded.ensures.heard.beside.follow) in
+    let due = due_is node.follow.config node.id g.mine lead c.known.result.now c.due.result c.due.ensures.exact c.heed-heeded.ensures.named (c.known.ensures node.follow.config node.id g.mine (length g.mine) c.heed-heeded.ensures.stands.beside.follow) in
     c.beside.ensures.leads ∙ sym (ap (λ (o : Option Verb). is_some o) (sym c.heed-heeded.ensures.due ∙ (sym due ∙ c.in-None.is)))

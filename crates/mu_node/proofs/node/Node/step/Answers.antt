@@ -11,12 +11,12 @@ use Rattle.mu_node.specs.declared.node.Node.{Node}
 use Rattle.mu_node.specs.Cycle.{IsMade}
 use Rattle.mu_node.specs.Due.{verb_or_beat}
 use Rattle.mu_node.specs.Journal.{FollowsTurn}
-use Rattle.mu_node.specs.Keeping.{KeepsSelf}
-use Rattle.mu_node.specs.Node.{LivesForNode, StandsAs, StandsForNode}
+use Rattle.mu_lead.specs.Journal.{IsWhere}
+use Rattle.mu_node.specs.Node.{StandsForLead, StandsForNode}
 use Rattle.mu_node.specs.Notes.{MovesGoing, SaysTook, TellsNote, TellsTook}
 use Rattle.mu_node.specs.Plans.{due_of}
 use Rattle.mu_node.proofs.AskedAgain.{asks_parts, moves_asked, tells_asked}
-use Rattle.mu_node.proofs.Moving.{in_full, moved, possible_own, to_own, to_port}
+use Rattle.mu_node.proofs.Moving.{moved, possible_own, to_own, to_port}
 use Rattle.mu_node.proofs.Turning.{going_moves, note_told}
 use Rattle.mu_node.proofs.node.Node.step.Goals as goal
 
@@ -30,7 +30,7 @@ decide-decision-requires g c =
       config = subst (λ x. IsConfig x) (sym own) c.requires.1.1.0;
       possible = to_own IsPossible own id c.requires.1.0 c.requires.1.1.1.0;
       short = to_own (λ x i l. length l < x.budget) own id c.requires.1.0 c.requires.1.1.1.1.0;
-      stands = to_own (λ x i l. LivesForNode x i l node) own id c.requires.1.0 held;
+      stands = to_own (λ x i l. StandsForNode x i l node) own id c.requires.1.0 held;
     }
 
 pub ask-answer-requires : goal.ask-answer-requires
@@ -55,53 +55,58 @@ settle-requires g c = c.decide-decision.ensures.decided
 pub settle-requires-else-decision : goal.settle-requires-else-decision
 settle-requires-else-decision g c = c.decide-decision.ensures.decided
 
--- what was made as it was due follows the turn, also by what the node is once it decided
-follows_own : (old new : Node) (mine : List Event) (verb : Verb) (answer : Answer) → KeepsSelf old new → outrun old.follow.config old.id mine ≡ None → IsMade old.zeal old.follow.config old.id mine verb → FollowsTurn new.zeal new.follow.config new.id mine (event_by new.id verb answer)
-follows_own old new mine verb answer keeps going made =
-    let it : FollowsTurn old.zeal old.follow.config old.id mine (event_by old.id verb answer) = record {
-      made = record { own = refl; going = going; zeal = old.zeal; made = made };
-      listed = made.replication;
-    } in
-    to_own {mine = mine} (λ x i l. FollowsTurn new.zeal x i l (event_by i verb answer)) keeps.config keeps.id refl
-    (subst (λ z. FollowsTurn z old.follow.config old.id mine (event_by old.id verb answer)) (sym keeps.zeal) it)
+-- what was made as it was due follows the turn
+follows : (node : Node) (mine : List Event) (verb : Verb) (answer : Answer) → outrun node.follow.config node.id mine ≡ None → IsMade node.zeal node.follow.config node.id mine verb → FollowsTurn node.zeal node.follow.config node.id mine (event_by node.id verb answer)
+follows node mine verb answer going made = record {
+  made = record { own = refl; going = going; zeal = node.zeal; made = made };
+  listed = made.replication;
+}
 
 pub returns-then-decision-clause-stands : goal.returns-then-decision-clause-stands
-returns-then-decision-clause-stands g c full was =
+returns-then-decision-clause-stands g c =
     let old = c.args.port.now in
     let now = c.ask-answer.new.self in
-    let node = c.args.self.now in
     let new = c.decide-decision.new.self in
-    let verb = c.decide-decision.result.plan.verb in
-    let answer = c.ask-answer.result in
-    let own = c.requires.1.1.1.1.1.0.beside.follow.config in
-    let id = c.requires.1.1.1.1.1.0.beside.id in
     let decide = c.decide-decision.ensures in
-    let going = to_own (λ x i l. outrun x i l ≡ None) own id c.requires.1.0 c.requires.1.1.1.1.1.1 in
-    let stands = to_own (λ x i l. StandsAs full x i l node) own id c.requires.1.0 was in
-    let follows : full ≡ true → FollowsTurn new.zeal new.follow.config new.id g.mine (event_by new.id verb answer) = λ whole.
-    follows_own node new g.mine verb answer decide.keeps going (decide.made (in_full full node.follow.config node.id g.mine node whole stands)) in
-    moved (g.P.Port.config old) (g.P.Port.config now) new.follow.config (g.P.Port.number old) (g.P.Port.number now) new.id (g.P.Port.part old) g.mine (g.P.Port.part now) (Verb.Ask 0) verb answer c.settle.new.self full
+    let held = c.requires.1.1.1.1.1.0.beside in
+    moved (λ x i l. StandsForNode x i l c.settle.new.self) (g.P.Port.config old) (g.P.Port.config now) new.follow.config (g.P.Port.number old) (g.P.Port.number now) new.id (g.P.Port.part old) g.mine (g.P.Port.part now) (Verb.Ask 0) c.decide-decision.result.plan.verb c.ask-answer.result
     (g.met.P.Port.same_config old now c.ask-answer.ensures.same) (g.met.P.Port.same_number old now c.ask-answer.ensures.same)
-    (decide.keeps.config ∙ own) (decide.keeps.id ∙ id) c.requires.1.0 (sym (decide.decided.asks c.if-decision.true).verb) c.ask-answer.ensures.part c.ask-answer.ensures.possible (c.settle.ensures.stands full (decide.stands full stands) follows)
+    (decide.keeps.config ∙ held.follow.config) (decide.keeps.id ∙ held.id) c.requires.1.0 (sym (decide.decided.asks c.if-decision.true).verb) c.ask-answer.ensures.part c.ask-answer.ensures.possible c.settle.ensures.stands
+
+pub returns-then-decision-clause-placed : goal.returns-then-decision-clause-placed
+returns-then-decision-clause-placed g c was =
+    let old = c.args.port.now in
+    let now = c.ask-answer.new.self in
+    let new = c.decide-decision.new.self in
+    let decide = c.decide-decision.ensures in
+    let held = c.requires.1.1.1.1.1.0.beside in
+    let at = to_own (λ x i l. IsWhere x i l c.args.self.now.lead) held.follow.config held.id c.requires.1.0 was in
+    moved (λ x i l. IsWhere x i l c.settle.new.self.lead) (g.P.Port.config old) (g.P.Port.config now) new.follow.config (g.P.Port.number old) (g.P.Port.number now) new.id (g.P.Port.part old) g.mine (g.P.Port.part now) (Verb.Ask 0) c.decide-decision.result.plan.verb c.ask-answer.result
+    (g.met.P.Port.same_config old now c.ask-answer.ensures.same) (g.met.P.Port.same_number old now c.ask-answer.ensures.same)
+    (decide.keeps.config ∙ held.follow.config) (decide.keeps.id ∙ held.id) c.requires.1.0 (sym (decide.decided.asks c.if-decision.true).verb) c.ask-answer.ensures.part c.ask-answer.ensures.possible (c.settle.ensures.placed (decide.placed at))
 
 pub returns-else-decision-clause-stands : goal.returns-else-decision-clause-stands
-returns-else-decision-clause-stands g c full was =
+returns-else-decision-clause-stands g c =
     let old = c.args.port.now in
     let now = c.step-answer.new.self in
-    let node = c.args.self.now in
     let new = c.decide-decision.new.self in
-    let verb = c.decide-decision.result.plan.verb in
-    let answer = c.step-answer.result in
-    let own = c.requires.1.1.1.1.1.0.beside.follow.config in
-    let id = c.requires.1.1.1.1.1.0.beside.id in
     let decide = c.decide-decision.ensures in
-    let going = to_own (λ x i l. outrun x i l ≡ None) own id c.requires.1.0 c.requires.1.1.1.1.1.1 in
-    let stands = to_own (λ x i l. StandsAs full x i l node) own id c.requires.1.0 was in
-    let follows : full ≡ true → FollowsTurn new.zeal new.follow.config new.id g.mine (event_by new.id verb answer) = λ whole.
-    follows_own node new g.mine verb answer decide.keeps going (decide.made (in_full full node.follow.config node.id g.mine node whole stands)) in
-    moved (g.P.Port.config old) (g.P.Port.config now) new.follow.config (g.P.Port.number old) (g.P.Port.number now) new.id (g.P.Port.part old) g.mine (g.P.Port.part now) c.verb.result verb answer c.settle-else-decision.new.self full
+    let held = c.requires.1.1.1.1.1.0.beside in
+    moved (λ x i l. StandsForNode x i l c.settle-else-decision.new.self) (g.P.Port.config old) (g.P.Port.config now) new.follow.config (g.P.Port.number old) (g.P.Port.number now) new.id (g.P.Port.part old) g.mine (g.P.Port.part now) c.verb.result c.decide-decision.result.plan.verb c.step-answer.result
     (g.met.P.Port.same_config old now c.step-answer.ensures.same) (g.met.P.Port.same_number old now c.step-answer.ensures.same)
-    (decide.keeps.config ∙ own) (decide.keeps.id ∙ id) c.requires.1.0 c.verb.ensures c.step-answer.ensures.part c.step-answer.ensures.possible (c.settle-else-decision.ensures.stands full (decide.stands full stands) follows)
+    (decide.keeps.config ∙ held.follow.config) (decide.keeps.id ∙ held.id) c.requires.1.0 c.verb.ensures c.step-answer.ensures.part c.step-answer.ensures.possible c.settle-else-decision.ensures.stands
+
+pub returns-else-decision-clause-placed : goal.returns-else-decision-clause-placed
+returns-else-decision-clause-placed g c was =
+    let old = c.args.port.now in
+    let now = c.step-answer.new.self in
+    let new = c.decide-decision.new.self in
+    let decide = c.decide-decision.ensures in
+    let held = c.requires.1.1.1.1.1.0.beside in
+    let at = to_own (λ x i l. IsWhere x i l c.args.self.now.lead) held.follow.config held.id c.requires.1.0 was in
+    moved (λ x i l. IsWhere x i l c.settle-else-decision.new.self.lead) (g.P.Port.config old) (g.P.Port.config now) new.follow.config (g.P.Port.number old) (g.P.Port.number now) new.id (g.P.Port.part old) g.mine (g.P.Port.part now) c.verb.result c.decide-decision.result.plan.verb c.step-answer.result
+    (g.met.P.Port.same_config old now c.step-answer.ensures.same) (g.met.P.Port.same_number old now c.step-answer.ensures.same)
+    (decide.keeps.config ∙ held.follow.config) (decide.keeps.id ∙ held.id) c.requires.1.0 c.verb.ensures c.step-answer.ensures.part c.step-answer.ensures.possible (c.settle-else-decision.ensures.placed (decide.placed at))
 
 pub returns-then-decision-clause-made : goal.returns-then-decision-clause-made
 returns-then-decision-clause-made g c was =
@@ -113,13 +118,14 @@ returns-then-decision-clause-made g c was =
     let decide = c.decide-decision.ensures in
     let on = c.if-decision.true in
     let asks = decide.asks on in
-    let stands = to_own (λ x i l. StandsForNode x i l node) own id c.requires.1.0 was in
+    let at = to_own (λ x i l. IsWhere x i l node.lead) own id c.requires.1.0 was in
     record {
       verb = Verb.Ask 0;
       answer = answer;
       part = c.ask-answer.ensures.part;
-      made = to_port (λ x i l. IsMade node.zeal x i l (Verb.Ask 0)) own id c.requires.1.0
-          (subst (λ v. IsMade node.zeal k node.id g.mine v) (decide.decided.asks on).verb (decide.made stands));
+      made = to_port (λ x i l. FollowsTurn node.zeal x i l (event_by i (Verb.Ask 0) answer)) own id c.requires.1.0
+          (follows node g.mine (Verb.Ask 0) answer (to_own (λ x i l. outrun x i l ≡ None) own id c.requires.1.0 c.requires.1.1.1.1.1.1)
+          (subst (λ v. IsMade node.zeal k node.id g.mine v) (decide.decided.asks on).verb (decide.made at)));
       tells = to_port (λ x i l. TellsNote node.zeal x i l node.lead answer c.settle.result) own id c.requires.1.0
           (subst (λ n. TellsNote node.zeal k node.id g.mine node.lead answer n) (sym (c.settle.ensures.asked on).heeds)
           (tells_asked node.zeal k node.id g.mine node.lead answer c.decide-decision.result.plan.heeded asks.odd asks.out asks.told));
@@ -143,7 +149,7 @@ returns-else-decision-clause-made g c was =
     let plans = decide.plans off in
     let took = c.settle-else-decision.ensures.took off in
     let due = due_of plan in
-    let stands = to_own (λ x i l. StandsForNode x i l node) own id c.requires.1.0 was in
+    let at = to_own (λ x i l. IsWhere x i l node.lead) own id c.requires.1.0 was in
     let possible = possible_own (g.P.Port.config old) (g.P.Port.config now) k (g.P.Port.number old) (g.P.Port.number now) node.id (g.P.Port.part old) g.mine (g.P.Port.part now) c.verb.result (verb_or_beat due) answer
     (g.met.P.Port.same_config old now c.step-answer.ensures.same) (g.met.P.Port.same_number old now c.step-answer.ensures.same)
     own id c.requires.1.0 (c.verb.ensures ∙ (decide.decided.plans off).made) c.step-answer.ensures.part c.step-answer.ensures.possible in
@@ -153,10 +159,11 @@ returns-else-decision-clause-made g c was =
       verb = c.verb.result;
       answer = answer;
       part = c.step-answer.ensures.part;
-      made = to_port (λ x i l. IsMade node.zeal x i l c.verb.result) own id c.requires.1.0
-          (subst (λ v. IsMade node.zeal k node.id g.mine v) (sym c.verb.ensures) (decide.made stands));
+      made = to_port (λ x i l. FollowsTurn node.zeal x i l (event_by i c.verb.result answer)) own id c.requires.1.0
+          (follows node g.mine c.verb.result answer (to_own (λ x i l. outrun x i l ≡ None) own id c.requires.1.0 c.requires.1.1.1.1.1.1)
+          (subst (λ v. IsMade node.zeal k node.id g.mine v) (sym c.verb.ensures) (decide.made at)));
       tells = to_port (λ x i l. TellsNote node.zeal x i l node.lead answer note) own id c.requires.1.0
-          (note_told node.zeal k node.id g.mine node.lead new.lead next plan.leads due plan.heeded answer note plans.leads (plans.led stands) plans.heeded possible tells plans.told says stands.lead (stands.placed refl) plans.calm);
+          (note_told node.zeal k node.id g.mine node.lead new.lead next plan.leads due plan.heeded answer note plans.leads (plans.led at) plans.heeded possible tells plans.told says (to_own (λ x i l. StandsForLead x i l node.lead) own id c.requires.1.0 c.requires.1.1.1.1.1.0.lead) at plans.calm);
     }
 
 pub returns-then-decision-clause-going : goal.returns-then-decision-clause-going
@@ -173,14 +180,14 @@ returns-then-decision-clause-going g c was =
     let asks = decide.asks c.if-decision.true in
     let asked = c.settle.ensures.asked c.if-decision.true in
     let named = (asks_parts node.zeal k node.id g.mine asks.out).1.0 in
-    let stands = to_own (λ x i l. StandsForNode x i l node) own id c.requires.1.0 was in
+    let at = to_own (λ x i l. IsWhere x i l node.lead) own id c.requires.1.0 was in
     let possible = possible_own (g.P.Port.config old) (g.P.Port.config now) k (g.P.Port.number old) (g.P.Port.number now) node.id (g.P.Port.part old) g.mine (g.P.Port.part now) (Verb.Ask 0) (Verb.Ask 0) answer
     (g.met.P.Port.same_config old now c.ask-answer.ensures.same) (g.met.P.Port.same_number old now c.ask-answer.ensures.same)
     own id c.requires.1.0 refl c.ask-answer.ensures.part c.ask-answer.ensures.possible in
     let goes = to_own {mine = g.mine} (λ x i l. IsPossible x i (event_by i (Verb.Ask 0) answer ∷ l) → next.under_way ≡ true) (sym decide.keeps.config) (sym decide.keeps.id) refl asked.going in
     to_port (λ x i l. MovesGoing x i l node.lead next c.settle.result) own id c.requires.1.0
     (subst (λ n. MovesGoing k node.id g.mine node.lead next n) (sym asked.heeds)
-    (moves_asked k node.id g.mine node.lead next c.decide-decision.result.plan.heeded asks.odd named (stands.placed refl) (goes possible) asks.told))
+    (moves_asked k node.id g.mine node.lead next c.decide-decision.result.plan.heeded asks.odd named at (goes possible) asks.told))
 
 pub returns-else-decision-clause-going : goal.returns-else-decision-clause-going
 returns-else-decision-clause-going g c was =
@@ -194,7 +201,7 @@ returns-else-decision-clause-going g c was =
     let id = c.requires.1.1.1.1.1.0.beside.id in
     let decide = c.decide-decision.ensures in
     let plans = decide.plans c.if-decision.false in
-    let stands = to_own (λ x i l. StandsForNode x i l node) own id c.requires.1.0 was in
+    let at = to_own (λ x i l. IsWhere x i l node.lead) own id c.requires.1.0 was in
     let says = to_own {mine = g.mine} (λ x i l. SaysTook x i l plan.leads (due_of plan) plan.heeded new.lead next answer note) (sym decide.keeps.config) (sym decide.keeps.id) refl (c.settle-else-decision.ensures.took c.if-decision.false).says in
     to_port (λ x i l. MovesGoing x i l node.lead next note) own id c.requires.1.0
-    (going_moves node.zeal node.follow.config node.id g.mine node.lead new.lead next plan.leads (due_of plan) plan.heeded answer note plans.leads (plans.led stands) plans.heeded plans.told plans.lead says)
+    (going_moves node.zeal node.follow.config node.id g.mine node.lead new.lead next plan.leads (due_of plan) plan.heeded answer note plans.leads (plans.led at) plans.heeded plans.told plans.lead says)

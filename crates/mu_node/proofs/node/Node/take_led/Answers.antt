@@ -1,4 +1,4 @@
-use Rattle.std.proofs.Common.{◌≡◌, ◌∙◌, ◌||◌, ◌∷◌, Some, ap, length, refl, subst, sym, true}
+use Rattle.std.proofs.Common.{◌≡◌, ◌∙◌, ◌||◌, ◌∷◌, Some, ap, length, refl, subst, sym}
 use Rattle.std.proofs.lemmas.Bool.{true≢false}
 use Rattle.mu_model.specs.Contents.{IsConfig}
 use Rattle.mu_model.specs.Knowledge.{grown, known}
@@ -15,9 +15,7 @@ use Rattle.mu_node.specs.Due.{lead_due}
 use Rattle.mu_node.specs.Node.{StandsForLead}
 use Rattle.mu_node.specs.Placed.{IsWherePlanned}
 use Rattle.mu_lead.specs.Journal.{IsWhere}
-use Rattle.mu_agree.specs.Moments.{AtEachStep}
 use Rattle.mu_node.specs.Cycle.{handed}
-use Rattle.mu_node.specs.Journal.{IsListed}
 use Rattle.mu_node.proofs.Answering.{answers_stay}
 use Rattle.mu_lead.specs.Lasting.{tables_of}
 use Rattle.mu_node.specs.Notes.{note_at}
@@ -46,9 +44,8 @@ returns g c =
     let log = λ (may : IsPossible k r (event_by r verb answer ∷ mine)).
     subst (λ x. HoldsValues x values c.log.result.now) (sym lead.config) (led_log k r mine verb answer c.note.new.self values c.log.result.now (λ none. c.note.ensures.stands mine may beside none) (λ entry some. c.note.ensures.awaits mine entry may beside some) (λ l n h. c.known-known.ensures k r l n h) (λ l n h. c.log.ensures k r l n h)) in
     record {
-      stands = λ full held follows reads possible.
-          let at : full ≡ true → IsWhere k r (event_by r verb answer ∷ mine) c.take-note.new.self = λ on.
-          where_after k r mine old c.take-note.new.self verb answer values lead (c.take-note.ensures.placed (log possible)) odd due possible (told possible) (led_where k r mine old verb odd due (subst (λ l. IsWherePlanned k r mine l) (sym c.note.ensures.keeps.lead) (held.placed on))) in
+      stands = λ reads possible.
+          let held = c.requires.planned in
           let taken = lead_takes k r mine old c.take-note.new.self verb answer values lead c.take-note.ensures.config c.take-note.ensures.id (c.take-note.ensures.stands (log possible)) due possible (told possible) in
           record {
             beside = led_beside k r mine verb answer c.note.new.self c.learn.new.self c.take-note.new.self values (length values) c.take-note.result c.requires.config possible
@@ -63,10 +60,11 @@ returns g c =
             handed = c.learn.ensures.keeps.handed ∙ (c.note.ensures.keeps.handed ∙ held.handed);
             answers = answers_stay k r (handed k r mine) (event_by r verb answer) mine c.args.self.now.answers c.learn.new.self.answers (c.learn.ensures.keeps.answers ∙ c.note.ensures.keeps.answers) c.args.self.now.follow.progress.handed held.beside.follow.progress.handed held.handed held.answers;
             reads = (held.reads, reads);
-            made = λ on. (held.made on, (follows on).made);
-            listed = λ on. subst (λ z. AtEachStep (IsListed z k r) (event_by r verb answer ∷ mine)) (sym (c.learn.ensures.keeps.zeal ∙ c.note.ensures.keeps.zeal)) (held.listed on, (follows on).listed);
-            placed = λ on. subst (λ l. IsWhere k r (event_by r verb answer ∷ mine) l) (sym c.learn.ensures.keeps.lead) (at on);
           };
+      placed = λ planned possible.
+          let at = led_where k r mine old verb odd due (subst (λ l. IsWherePlanned k r mine l) (sym c.note.ensures.keeps.lead) planned) in
+          subst (λ l. IsWhere k r (event_by r verb answer ∷ mine) l) (sym c.learn.ensures.keeps.lead)
+          (where_after k r mine old c.take-note.new.self verb answer values lead (c.take-note.ensures.placed (log possible)) odd due possible (told possible) at);
       zeal = c.learn.ensures.keeps.zeal ∙ c.note.ensures.keeps.zeal;
       stops = c.learn.ensures.keeps.stops ∙ c.note.ensures.keeps.stops;
       note = record {

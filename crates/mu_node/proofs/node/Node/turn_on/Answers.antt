@@ -1,4 +1,4 @@
-use Rattle.std.proofs.Common.{[], false, refl, subst}
+use Rattle.std.proofs.Common.{[], refl, subst}
 use Rattle.mu_model.specs.declared.script.Script.{Script}
 use Rattle.mu_node.specs.Turns.{TellsHalt}
 use Rattle.mu_node.proofs.Left.{is_unspent, is_unhalted}
@@ -11,10 +11,7 @@ step-requires g c =
     let mine = g.P.Port.part c.args.port.now in
     let script : Script = record { stops = c.args.self.now.stops.items; pauses = [] } in
     let possible = c.id-id.ensures.possible in
-    let told = c.halt.ensures k script r mine refl c.requires.config possible c.requires.lives in
+    let told = c.halt.ensures k script r mine refl c.requires.config possible c.requires.stands in
     let none = subst (λ o. TellsHalt k script r mine o) c.in-None.is told in
     let left = is_unspent k script r mine possible none in
-    λ κs lives. (lives, (refl, (c.requires.config, (possible, (left, (c.requires.lives, is_unhalted k script r mine none))))))
-
-pub returns-in-None-clause-lives : goal.returns-in-None-clause-lives
-returns-in-None-clause-lives g c = c.step.ensures.stands false c.requires.lives
+    λ κs lives. (lives, (refl, (c.requires.config, (possible, (left, (c.requires.stands, is_unhalted k script r mine none))))))

@@ -1,4 +1,0 @@
-mod AddedRows
-mod AttestedItems
-mod ItemLines
-mod JobLines

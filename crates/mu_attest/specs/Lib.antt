@@ -1,3 +1,0 @@
-pub mod Attestors
-pub mod Attests
-pub mod Traces
