@@ -3,7 +3,7 @@
 
     tools/speed/measure_alone.py
 
-Builds tools/anchors/alone_speed.rt without proofs in a copy of crates/ (tools/unproved_build.py: some minutes), and counts
+Builds tools/anchors/alone_speed.rs without proofs in a copy of crates/ (tools/unproved_build.py: some minutes), and counts
 by `valgrind --tool=callgrind` over the job 3x1500 of tools/speed/measure_speed.py: 252,000 steps by turns over a port, by `next`
 and `take`, and by `take_and_next`, with each access made on an array in the same program. All have to hand on as many
 entries; each line tells the instructions of a step, start and access included.
@@ -34,7 +34,7 @@ def built(room):
         written.write(f"{CRATE}: {BELOW}\n{told.read()}")
     sources = os.path.join(room, "crates", CRATE, "src")
     os.makedirs(sources)
-    shutil.copy(os.path.join(TOP, "tools", "anchors", f"{CRATE}.rt"), os.path.join(sources, "main.rt"))
+    shutil.copy(os.path.join(TOP, "tools", "anchors", f"{CRATE}.rs"), os.path.join(sources, "main.rt"))
     program = os.path.join(room, CRATE)
     subprocess.run([os.path.join(room, "tools", "unproved_build.py"), program, CRATE], check=True, capture_output=True)
     return program
