@@ -3,7 +3,7 @@
 
     tools/sources/trusted.py            the list
     tools/sources/trusted.py --check    tells which crate of the kit, and which folder of C, README's "What is trusted" doesn't
-                                name, and which access in C the list lacks; ./test calls it
+                                        name, and which access in C the list lacks; ./test calls it
 
 The toolchain and the statements of its standard library are trusted too; they aren't in the sources.
 """
