@@ -11,8 +11,9 @@
  * replicas that they hand out. Want of memory is an answer, MU_NO_MEMORY.
  *
  * A text goes to the room that you give: its first `room` bytes stand in `out`, and `*taken` is how
- * many bytes the whole text has. If that is more than `room`, give more room and call again. No text
- * ends with a zero byte. `room` may be 0, to ask for the length, and `out` null then.
+ * many bytes the whole text has. If that is more than `room`, give more room and call again: the text
+ * is made anew, so ample room spares that. No text ends with a zero byte. `room` may be 0, to ask for
+ * the length, and `out` null then.
  *
  * A call needs less than MU_STACK bytes of stack: measured 36 KB at most, and tested (small_stack.c).
  *
