@@ -33,7 +33,7 @@ static void step_replica(uint32_t k)
             expect(mu_replica_take(&calls.replicas[k], UINT64_MAX) == MU_STRAY, "a stray word that is taken");
             refused("a replica changed by a stray word");
         }
-        uint64_t found = made(&words_of[k][(size_t)o.host * words[k] + o.place], &o);
+        uint64_t found = made_alone(&words_of[k][(size_t)o.host * words[k] + o.place], &o);
         if (below(2)) {
             expect(mu_replica_take(&calls.replicas[k], found) == MU_DONE, "a word that is refused");
         } else {
