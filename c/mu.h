@@ -132,8 +132,9 @@ uint32_t mu_engine_new(mu_engine *engine, uint32_t replicas, uint32_t places, ui
 
 /* Submits the next command of a client, 0 to 15: a line as in a job, without its line feed, such as
  * `put a 5`. With MU_DONE `*row` is its row: how many commands came before it. Else it is 0 and the
- * engine is as it was: MU_NO_SUCH_CLIENT, MU_REFUSED if the line is no command, MU_FULL if the era has
- * no room until each of its commands has its reply (play rounds), or MU_NO_MEMORY; the first that is so. */
+ * engine is as it was: MU_NO_SUCH_CLIENT, MU_REFUSED if the line is no command (of a job with that line
+ * MU_WHY says what is expected; mu.hpp asks it), MU_FULL if the era has no room until each of its commands
+ * has its reply (play rounds), or MU_NO_MEMORY; the first that is so. */
 uint32_t mu_engine_submit(mu_engine *engine, uint32_t client, const void *line, size_t length,
                           uint64_t *row);
 

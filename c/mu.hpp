@@ -70,6 +70,25 @@ template <typename Call> std::pair<std::uint32_t, std::string> told(Call call, s
     }
 }
 
+/* What is expected in place of a line that is no command, as `mu why` says it of a job with that line; else nothing. */
+inline std::string expected_of(std::string_view line)
+{
+    const std::string job = "mu 1\nreplicas 1\nring 8\nbudget 1\nclient 0\n" + std::string(line) + "\nend\n";
+    const auto [status, text] = told([&](char *out, std::size_t room, std::size_t *taken) {
+        return mu_answer(MU_WHY, job.data(), job.size(), out, room, taken);
+    });
+    const std::size_t at = text.find("expected: ");
+    if (status != MU_REFUSED || text.compare(0, 15, "refused line 6 ") != 0 || at == std::string::npos)
+        return {};
+    return text.substr(at, text.find('\n', at) - at);
+}
+
+/* Throws what was refused of a command. */
+inline void accept_line(std::uint32_t status, std::string_view line)
+{
+    accept(status, status == MU_REFUSED ? expected_of(line) : std::string());
+}
+
 /* A reply of the store: done, none, or a text that the key has, had or keeps. */
 struct Reply {
     std::uint32_t kind; /* of mu_reply */
@@ -95,7 +114,7 @@ public:
     std::uint64_t submit(std::uint32_t client, std::string_view line)
     {
         std::uint64_t row = 0;
-        accept(mu_engine_submit(&held, client, line.data(), line.size(), &row));
+        accept_line(mu_engine_submit(&held, client, line.data(), line.size(), &row), line);
         return row;
     }
     void round() { accept(mu_engine_round(&held)); }
@@ -229,7 +248,7 @@ public:
     std::uint32_t append(std::uint32_t client, std::string_view line)
     {
         std::uint32_t row = 0;
-        accept(mu_replica_append(&held, client, line.data(), line.size(), &row));
+        accept_line(mu_replica_append(&held, client, line.data(), line.size(), &row), line);
         return row;
     }
 

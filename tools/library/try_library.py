@@ -215,7 +215,12 @@ def try_python(tried, mu_library):
         try:
             engine.submit(0, "put a")
         except mu_library.Refused as refused:
-            tried.expect("a refusal's words", str(refused), "MU_REFUSED: the line is no command")
+            tried.expect("a refusal's words", str(refused)[:60], "MU_REFUSED: the line is no command (expected: put KEY TEXT, ")
+        try:
+            engine.submit(0, b"get " + b"k" * 25)
+        except mu_library.Refused as refused:
+            tried.expect("a key that is refused", str(refused),
+                         "MU_REFUSED: the line is no command (expected: a key of 1 to 24 bytes, each from 33 to 126)")
 
 
 def try_letting_go(tried, mu_library):

@@ -15,6 +15,7 @@ import folders
 import bounds
 import trying
 from account import Region, Replica
+from beginning import begin
 from bounds import NotPromised
 from fairness import Run, Stretch, going_in
 from programs import tell
@@ -209,6 +210,7 @@ def told_of(path):
 
 
 def main():
+    begin(__doc__)
     if not sys.argv[1:]:
         return trying.run_or_write([], examples(), "premises")
     refuted = [path for path in sys.argv[1:] if told_of(path)]

@@ -14,6 +14,7 @@ import subprocess
 import sys
 
 import folders
+from beginning import begin
 from library_parts import PARTS
 from programs import TOP, tell
 
@@ -116,6 +117,7 @@ def judged():
 
 
 def main():
+    begin(__doc__)
     if sys.argv[1:] == ["--check"]:
         count, wrong = judged()
         return tell(wrong, f"trusted: {count - len(wrong)} named, {len(wrong)} missing")

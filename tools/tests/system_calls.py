@@ -17,6 +17,7 @@ import tempfile
 
 import folders
 import trying
+from beginning import begin
 from own_traces import preloaded
 from programs import tell
 
@@ -105,6 +106,7 @@ def tried(path_of):
 
 
 def main():
+    begin(__doc__)
     count, wrong = tried(trying.program_of)
     return tell(wrong, f"{count - len(wrong)} passed, {len(wrong)} failed")
 
