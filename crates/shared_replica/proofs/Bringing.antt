@@ -1,16 +1,14 @@
 -- What an access to the list brings.
-use Rattle.std.proofs.Common.{◌≡◌, ◌∙◌, ◌∷◌, ◌++◌, ◌+◌, ◌==◌, ◌≤◌, ℕ, List, [], ap, arith, inl, inr, refl, subst, sym}
+use Rattle.std.proofs.Common.{◌≡◌, ◌∙◌, ◌∷◌, ◌+◌, ◌==◌, ◌≤◌, ℕ, List, [], ap, arith, inl, inr, refl, subst, sym}
 use Rattle.std.specs.Prelude.{None, Some, is_some, suc, true, zero}
 use Rattle.std.specs.declared.option.Option.{Option}
-use Rattle.kv_store.specs.Commands.{Request}
-use Rattle.lone_replica.specs.declared.replica.Replica.{Replica}
 use Rattle.lone_replica.specs.Standing.{StandsForReplica}
 use Rattle.mu_inbox.specs.declared.access.Verb.{Verb as ListVerb}
 use Rattle.mu_inbox.specs.declared.inbox.Inbox.{Inbox}
 use Rattle.mu_inbox.specs.declared.taking.Came.{Came as ListCame}
 use Rattle.mu_inbox.specs.Entries.{IsRead}
 use Rattle.mu_inbox.specs.Memory.{Made, has_found, has_taken}
-use Rattle.mu_inbox.specs.Standing.{StandsForInbox, made_with}
+use Rattle.mu_inbox.specs.Standing.{IsNext as IsNextInList, StandsForInbox, is_done, made_with, with_due}
 use Rattle.mu_model.specs.declared.config.Config.{Config}
 use Rattle.mu_model.specs.declared.config.Row.{Row}
 use Rattle.mu_model.specs.Contents.{row_count}
@@ -18,7 +16,7 @@ use Rattle.shared_replica.specs.declared.shared.Found.{Found}
 use Rattle.shared_replica.specs.declared.shared.SharedReplica.{SharedReplica}
 use Rattle.shared_replica.specs.declared.taking.Came.{Came}
 use Rattle.shared_replica.specs.Knowing.{Knows, ReadsCommand, with_command}
-use Rattle.shared_replica.specs.Standing.{Appends, Brings, BringsBy, IsUnderWay, ListTook, Moment, StandsFor, TakesBy, TakesWord, knowing, with_made}
+use Rattle.shared_replica.specs.Standing.{Appends, BringsBy, IsUnderWay, ListTook, Moment, StandsFor, TakesBy, TakesWord, with_made}
 
 -- what is known stays known
 pub knows_on : (base c : Config) (own : List Made) (m : Made) (p : ℕ) → Knows base own p c → Knows base (m ∷ own) p c
@@ -54,8 +52,7 @@ free_by : (at : Moment) (x : SharedReplica) (due : Option ListVerb) (word found 
 free_by at x None word found list was is took = absurd took
 free_by at x (Some verb) word found list was is took =
     let made = made_with x.list verb word in
-    let place = took.came.0 in
-    (
+    let place = took.came.0 in (
       stands_on at made x list (Found.Read found) was took.stands took.id place (waits at x found was is),
       refl,
       inl (subst (λ (p : ℕ). has_found p (λ n. n == 0) (made ∷ at.list) ≡ true) (sym place) took.came.1),
@@ -64,21 +61,19 @@ free_by at x (Some verb) word found list was is took =
 
 closed_by : (at : Moment) (x : SharedReplica) (due : Option ListVerb) (word found : ℕ) (list : Inbox) → StandsFor at x → x.found ≡ Found.Unread found → ListTook at x due word list ListCame.Closed → BringsBy at x due word found Came.Ended (relisted x list (Found.Read found))
 closed_by at x None word found list was is took = absurd took
-closed_by at x (Some verb) word found list was is took =
-    (
-      stands_on at (made_with x.list verb word) x list (Found.Read found) was took.stands took.id took.came.0 (waits at x found was is),
-      refl,
-      inr took.came.1,
-      took.came.0,
-    )
+closed_by at x (Some verb) word found list was is took = (
+  stands_on at (made_with x.list verb word) x list (Found.Read found) was took.stands took.id took.came.0 (waits at x found was is),
+  refl,
+  inr took.came.1,
+  took.came.0,
+)
 
 placed_by : (at : Moment) (x : SharedReplica) (due : Option ListVerb) (word found p row : ℕ) (list : Inbox) → StandsFor at x → x.found ≡ Found.Unread found → ListTook at x due word list (ListCame.Taken p) → row ≡ row_count at.knows → BringsBy at x due word found (Came.Placed row) (relisted x list x.found)
 placed_by at x None word found p row list was is took numbered = absurd took
 placed_by at x (Some verb) word found p row list was is took numbered =
     let made = made_with x.list verb word in
     let place = took.came.0 in
-    let has = took.came.2 in
-    (
+    let has = took.came.2 in (
       stands_on at made x list x.found was took.stands took.id place was.found,
       is,
       numbered,
@@ -100,8 +95,7 @@ row_by at x y (Some verb) word found number row list was is took (command, words
     } in
     let knew = knows_on at.base at.knows at.list made x.list.place was.rows in
     let known : Knows at.base (made ∷ at.list) (suc x.list.place) (with_command at.knows command) =
-    (at.knows, command, [], made ∷ at.list, refl, reads, knew, refl) in
-    (
+    (at.knows, command, [], made ∷ at.list, refl, reads, knew, refl) in (
       command,
       record {
         replica = subst (λ (r : ℕ). StandsForReplica (with_command at.knows command) r at.own y.replica) (sym id) stands;
@@ -142,3 +136,11 @@ pub takes_row : (at : Moment) (x y : SharedReplica) (word found number : ℕ) (r
 takes_row at x y word found number row list was is took appended one other id same =
     found_waits at x (relisted y list y.found) word found (Came.Row number) is
     (row_by at x y x.list.due word found number row list was is took appended one other id same)
+
+none_done : (x : Inbox) (due : Option ListVerb) → IsNextInList x due None → is_done x ≡ true
+none_done x None is = is
+none_done x (Some verb) is = absurd is
+
+-- nothing comes next only if nothing more comes
+pub done_if_none : (x after : Inbox) → IsNextInList after after.due None → after ≡ with_due after.due x → is_done x ≡ true
+done_if_none x after is same = subst (λ (y : Inbox). is_done y ≡ true) same (none_done after after.due is)

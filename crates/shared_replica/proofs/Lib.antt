@@ -1,1 +1,2 @@
 mod Bringing
+mod Knowing

@@ -1,6 +1,6 @@
 -- stands for (shared), may take, goes on, takes: the value of a process stands for what its replica has
 -- come to and what it knows of the list; what it does next, and what a word brings.
-use Rattle.std.specs.Prelude.{List, None, Ok, Some, [], is_some, true, ℕ, ◌+◌, ◌==◌, ◌∷◌, ◌≡◌, ◌≤◌, ◌⊎◌}
+use Rattle.std.specs.Prelude.{Bool, List, None, Ok, Some, [], is_some, true, ℕ, ◌+◌, ◌==◌, ◌∷◌, ◌≡◌, ◌≤◌, ◌⊎◌}
 use Rattle.std.specs.declared.option.Option.{Option}
 use Rattle.kv_store.specs.Commands.{Request}
 use Rattle.kv_store.specs.declared.command.Op.{Op}
@@ -12,7 +12,7 @@ use Rattle.mu_inbox.specs.declared.access.Verb.{Verb as ListVerb}
 use Rattle.mu_inbox.specs.declared.inbox.Inbox.{Inbox}
 use Rattle.mu_inbox.specs.declared.taking.Came.{Came as ListCame}
 use Rattle.mu_inbox.specs.Memory.{Made, has_found, has_taken}
-use Rattle.mu_inbox.specs.Standing.{IsNext as IsNextInList, StandsForInbox, TakesVerb, made_with}
+use Rattle.mu_inbox.specs.Standing.{IsNext as IsNextInList, StandsForInbox, TakesVerb, is_done, made_with}
 use Rattle.mu_model.specs.declared.config.Config.{Config}
 use Rattle.mu_model.specs.declared.config.Row.{Row}
 use Rattle.mu_model.specs.Contents.{row_count}
@@ -83,18 +83,25 @@ own_found at r due (Found.Read word) = own_taking at r due word
 abbrev pub after_found : Moment → SharedReplica → Moment
 after_found at x = record at { own = own_found at x.id x.replica.due x.found }
 
+-- the list was read to its end since, or has come to its end
+abbrev pub HasReadList : Found → Bool → Type 0
+HasReadList Found.Nothing done = Unit {0}
+HasReadList (Found.Unread word) done = done ≡ true
+HasReadList (Found.Read word) done = Unit {0}
+
 -- what the replica alone does next
 abbrev pub next_of : LoneNext → Next
 next_of (LoneNext.Access access) = Next.Word access
 next_of (LoneNext.Halted end) = Next.Halted end
 
--- the replica has taken what it had found, and goes on
+-- the replica has taken what it had found, which it does once the list is read, and goes on
 pub record ReplicaGoesOn (at : Moment) (x : SharedReplica) (next : LoneNext) (after : SharedReplica) :
     Type 0 where
-      pub stands : StandsFor (after_found at x) after
-      pub does : IsNextOf after.replica.due next
-      pub taken : after.found ≡ Found.Nothing
-      pub list : after.list.place ≡ x.list.place
+  pub stands : StandsFor (after_found at x) after
+  pub does : IsNextOf after.replica.due next
+  pub taken : after.found ≡ Found.Nothing
+  pub read : HasReadList x.found (is_done x.list)
+  pub list : after.list.place ≡ x.list.place
 
 -- so it does if it makes an access to a host, or is halted; else the list is read
 abbrev pub GoesOn : Moment → SharedReplica → Next → SharedReplica → Type 0

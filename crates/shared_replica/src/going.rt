@@ -1,7 +1,8 @@
 //! What a replica does next.
-ghost use Rattle.std.specs.Prelude.{IfErr, IfOk, ◌≡◌};
+ghost use Rattle.std.specs.Prelude.{IfErr, IfOk, IfSome, None, Some, true, ◌≡◌};
 ghost use Rattle.shared_replica.specs.declared.going.Untaken.{Untaken as SomeUntaken};
-ghost use Rattle.shared_replica.specs.Standing.{GoesOn, MayTakeFound, Moment, StandsFor, TakesFound, next_of};
+ghost use Rattle.mu_inbox.specs.Standing.{IsNext as IsNextInList, is_done};
+ghost use Rattle.shared_replica.specs.Standing.{GoesOn, HasReadList, MayTakeFound, Moment, StandsFor, TakesFound, next_of};
 
 use crate::shared::{Found, SharedReplica};
 use mu_model::End;
@@ -62,11 +63,28 @@ impl SharedReplica {
         match self.found {
             Found::Nothing => Ok(Next::of(self.replica.next())),
             Found::Read(word) => self.next_after(word),
-            Found::Unread(word) => match self.list.next() {
+            Found::Unread(word) => match self.list_access() {
                 Some(access) => Ok(Next::List(access)),
                 None => self.next_after(word),
             },
         }
+    }
+
+    /// The next access to the list, or `None` if nothing more comes there.
+    fn list_access(&mut self) -> Option<mu_inbox::Access>
+        ghost at: { Moment }
+        requires { StandsFor at self.old }
+        ensures stands { StandsFor at self.new }
+        ensures some { IfSome result
+            (λ access. IsNextInList self.new.list self.new.list.due (Some access)) }
+        ensures none { result ≡ None → is_done self.old.list ≡ true }
+        ensures done { is_done self.new.list ≡ is_done self.old.list }
+        ensures place { self.new.list.place ≡ self.old.list.place }
+        ensures replica { self.new.replica ≡ self.old.replica }
+        ensures found { self.new.found ≡ self.old.found }
+        ensures id { self.new.id ≡ self.old.id }
+    {
+        self.list.next()
     }
 
     /// The replica takes the word that it found, and goes on.
@@ -74,6 +92,7 @@ impl SharedReplica {
         ghost at: { Moment }
         requires stands { StandsFor at self.old }
         requires found { TakesFound word self.old.found }
+        requires read { HasReadList self.old.found (is_done self.old.list) }
         requires right { MayTakeFound at self.old.id self.old.found self.old.replica.due }
         ensures goes { IfOk result (λ next. GoesOn at self.old next self.new) }
         ensures kept { IfErr result (λ why. (why ≡ SomeUntaken.Stray) × StandsFor at self.new) }

@@ -7,8 +7,7 @@ use Rattle.shared_replica.proofs.shared.SharedReplica.append.Goals as goal
 pub returns-in-Ok-clause-appends : goal.returns-in-Ok-clause-appends
 returns-in-Ok-clause-appends g c =
     let new = c.append.new.self in
-    let stands = subst (λ (r : ℕ). StandsForReplica (with_command g.at.knows (record { client = c.command.inside.client; number = c.command.inside.number; op = c.command.inside.op })) r g.at.own new) c.requires.same c.in-Ok.ensures.appended in
-    (
+    let stands = subst (λ (r : ℕ). StandsForReplica (with_command g.at.knows (record { client = c.command.inside.client; number = c.command.inside.number; op = c.command.inside.op })) r g.at.own new) c.requires.same c.in-Ok.ensures.appended in (
       c.in-Some.command,
       c.in-Some.ensures.words,
       c.in-Some.ensures.is,

@@ -6,5 +6,5 @@ ghost-next_after g a = g.at
 abbrev pub ghost-next : goal.ghost-next
 ghost-next g a = (g.at.knows, g.at.own)
 
-abbrev pub ghost-next-2 : goal.ghost-next-2
-ghost-next-2 g a = g.at.list
+abbrev pub ghost-list_access : goal.ghost-list_access
+ghost-list_access g a = g.at
