@@ -1,5 +1,5 @@
 //! One replica, the list that its commands come by, and what it has found.
-ghost use Rattle.std.specs.Prelude.{Err, IfErr, IfOk, None, Some, [], is_some, true, ◌+◌, ◌<◌, ◌↔◌, ◌≡◌, ◌≤◌};
+ghost use Rattle.std.specs.Prelude.{Err, IfErr, IfOk, None, Some, is_some, true, ◌+◌, ◌<◌, ◌↔◌, ◌≡◌, ◌≤◌};
 ghost use Rattle.kv_store.specs.Commands.{HasShortTexts};
 ghost use Rattle.lone_replica.specs.Appending.{row_of};
 ghost use Rattle.mu_inbox.specs.declared.inbox.Refusal.{Refusal as SomeRefusal};
