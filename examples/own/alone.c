@@ -1,7 +1,9 @@
-/* Three replicas in turn over an array of words: prints their trace, which is then found to be legal.
+/* Three replicas in turn over an array of words: prints their trace, which is then found to be legal. How an access is made
+ * stands in c/shared/access.h.
  *
  *     cc -std=c11 -Ic examples/own/alone.c out/libmu.a -o alone && ./alone */
 #include "mu.h"
+#include "shared/access.h"
 #include <stdio.h>
 #include <stdlib.h>
 #include <string.h>
@@ -9,21 +11,6 @@
 enum { REPLICAS = 3, LINE_BYTES = 192, TRACE_BYTES = 1 << 17 };
 
 static const char JOB[] = "mu 1\nreplicas 3\nring 8\nbudget 100000\nclient 0\nput a 5\nget a\nend\n";
-
-/* Makes one access, and tells the word that it found. */
-static uint64_t made(uint64_t *word, const mu_operation *o)
-{
-    uint64_t found = *word;
-    switch (o->kind) {
-    case MU_STORE: case MU_SWAP: *word = o->value; break;
-    case MU_RAISE: *word = found < o->value ? o->value : found; break;
-    case MU_ADD: *word = found + o->value; break;
-    case MU_SET_BITS: *word = found | o->value; break;
-    case MU_COMPARE: *word = found == o->expected ? o->value : found; break;
-    default: break;
-    }
-    return found;
-}
 
 int main(void)
 {
@@ -36,7 +23,7 @@ int main(void)
         if (mu_replica_new(&group[r], JOB, used, r, 0, 0) != MU_DONE)
             return 1;
     mu_replica_shape(&group[0], &hosts, &words);
-    uint64_t *memory = calloc((size_t)hosts * words, sizeof *memory);
+    _Atomic uint64_t *memory = calloc((size_t)hosts * words, sizeof *memory);
     for (uint32_t p = 0; memory && p < hosts; p++)
         memory[(size_t)p * words] = MU_FIRST_FENCE;
     for (uint32_t ended = 0; memory && ended < REPLICAS;) {

@@ -3,6 +3,7 @@
 #define CHANCE_H
 
 #include "mu.h"
+#include "shared/access.h"
 
 #include <stdio.h>
 #include <stdlib.h>
@@ -33,18 +34,11 @@ static inline uint32_t below(uint32_t most)
     return (uint32_t)((any_word() >> 16) % most);
 }
 
-/* An access to a word of this process alone. */
-static inline uint64_t made(uint64_t *word, const mu_operation *o)
+/* An access to a word that nobody else has. */
+static inline uint64_t made_alone(uint64_t *word, const mu_operation *o)
 {
     uint64_t found = *word;
-    switch (o->kind) {
-    case MU_STORE: case MU_SWAP: *word = o->value; break;
-    case MU_RAISE: *word = found < o->value ? o->value : found; break;
-    case MU_ADD: *word = found + o->value; break;
-    case MU_SET_BITS: *word = found | o->value; break;
-    case MU_COMPARE: *word = found == o->expected ? o->value : found; break;
-    default: break;
-    }
+    *word = left_by(o, found);
     return found;
 }
 

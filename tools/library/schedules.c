@@ -131,7 +131,7 @@ static void step(struct run *run, struct one *one)
         mu_operation again;
         if (mu_replica_next(&one->replica, &again) != MU_DONE || memcmp(&again, &one->operation, sizeof again) != 0)
             fail("another access");
-        one->found = made(&run->memory[(size_t)one->operation.host * run->words + one->operation.place], &again);
+        one->found = made_alone(&run->memory[(size_t)one->operation.host * run->words + one->operation.place], &again);
         one->event = run->events++;
         one->needs = run->used;
         if (run->used < one->decided)

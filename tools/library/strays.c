@@ -157,7 +157,7 @@ static void step(struct run *run, struct one *one, struct told *told)
         one->end = mu_replica_next(&one->replica, &one->operation) == MU_DONE ? GOES_ON : HALTED;
         one->moment = ASKED;
     } else if (one->moment == ASKED) {
-        one->found = made(word, &one->operation);
+        one->found = made_alone(word, &one->operation);
         note_stored(run, &one->operation);
         one->moment = MADE;
     } else {
