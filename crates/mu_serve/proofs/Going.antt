@@ -15,7 +15,7 @@ use Rattle.mu_report.specs.declared.responses.Response.{Response}
 use Rattle.mu_text.specs.Lines.{lines}
 use Rattle.mu_serve.proofs.LinesSoFar.{gave_after}
 use Rattle.mu_serve.specs.Incoming.{FindsNone, MayFollow}
-use Rattle.mu_serve.specs.NextLines.{AnswersNext, Moment}
+use Rattle.mu_serve.specs.NextLines.{AnswersInTurn, AnswersNext, Moment}
 use Rattle.mu_serve.specs.UnderWay.{UnderWay}
 use Rattle.mu_serve.specs.SessionLines.{said_of}
 use Rattle.mu_serve.specs.Sessions.{Answers, AnswersAll, AnswersSaid, PausesGoing, Refuses, Serves, ServesIfRoom, StopsOnce, Talk, is_stopped, next_waiting, own_response, own_waiting, still_of, told_of, with_submitted}
@@ -150,6 +150,15 @@ answers_more first between after (l ∷ answered) [] line responses all next = a
 answers_more first between after (l ∷ answered) (a ∷ answers) line responses all next =
     (all.0, all.1, answers_more all.0 between after answered answers line responses all.2 next)
 
+-- one more line answered in its turn
+pub in_turn_more : (first between now : Moment) (answers : List (List Response))
+    (step : AnswersNext between now) → AnswersInTurn first answers between
+    → AnswersInTurn first (answers ++ step.responses ∷ []) now
+in_turn_more first between now [] step all =
+    subst (λ m. AnswersInTurn m (step.responses ∷ []) now) all (now, step, refl, refl)
+in_turn_more first between now (a ∷ answers) step all =
+    (all.0, all.1, all.2, in_turn_more all.0 between now answers step all.3)
+
 -- a session begins: nothing was read, answered or written
 pub begins : (first : Moment) → first.talk.count ≡ 0 → first.talk.waiting ≡ []
     → first.incoming.held ≡ [] → first.incoming.room ≡ SESSION_LIMIT + 1
@@ -160,6 +169,7 @@ begins first count waiting held room going =
       answered = [];
       answers = [];
       session = refl;
+      in_turn = refl;
       taken = [];
       consumed = Consumes-nil first.left;
       counted = omega (arith, room);
@@ -197,6 +207,7 @@ goes_on first between now so step =
       answers = so.answers ++ step.responses ∷ [];
       session = answers_more first.talk between.talk now.talk so.answered so.answers
           takes.line step.responses so.session next.answers;
+      in_turn = in_turn_more first between now so.answers step so.in_turn;
       taken = so.taken ++ takes.taken;
       consumed = Consumes-trans first.left between.left now.left so.taken takes.taken so.consumed
           takes.reads.consumed;

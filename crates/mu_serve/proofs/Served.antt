@@ -23,7 +23,7 @@ use Rattle.mu_serve.proofs.LinesSoFar.{gave_after, gave_none}
 use Rattle.mu_serve.specs.Closing.{Closes, Reports}
 use Rattle.mu_serve.specs.Incoming.{GaveAll, IsStop, MayFollow, StopsReading}
 use Rattle.mu_serve.specs.NextLines.{FailsToWrite, FindsEnd, Halts, LeavesNext, Moment, WritesNothing}
-use Rattle.mu_serve.specs.Serving.{Ends, IsServed, ReadsAll, ReadsSome}
+use Rattle.mu_serve.specs.Serving.{AreInTurn, Begins, Ends, IsServed, ReadsAll, ReadsSome}
 use Rattle.mu_serve.specs.Sessions.{AnswersAll, first_talk}
 use Rattle.mu_serve.specs.UnderWay.{Finishes, Tells, UnderWay}
 use Rattle.mu_serve.specs.declared.TheConstants.{SESSION_LIMIT}
@@ -77,9 +77,27 @@ some_lines first between now next so going consumed few = (
   },
 )
 
+-- the answers so far, all of them written
+all_in_turn : (first between : Moment) (said : Option Said) → (so : UnderWay first between)
+    → AreInTurn first so.answers said
+all_in_turn first between said so = record {
+  whole = so.answers;
+  part = [];
+  parts = sym (append-nil so.answers);
+  last = between;
+  in_turn = so.in_turn;
+  most = omega arith;
+  all = nothing said;
+}
+  where
+    nothing : (said : Option Said) → IfSome said (λ _. [] ≡ [])
+    nothing None = tt
+    nothing (Some said) = refl
+
 -- the end of a session under way, once something is said
 closes_with : (replicas : ℕ) (first between : Moment) (left now : Option (List ℕ))
-    (read written_faults status : ℕ) (said : Said) → first.talk ≡ first_talk replicas
+    (read written_faults status : ℕ) (said : Said)
+    → Begins replicas first.left first.written first
     → (so : UnderWay first between)
     → Ends first.left left first.read read so.answered between.talk (Some said)
     → Tells between.written now between.wrote written_faults said status
@@ -89,8 +107,11 @@ closes_with replicas first between left now read written_faults status said begu
   answered = so.answered;
   answers = so.answers;
   talk = between.talk;
-  session = subst (λ t. AnswersAll t so.answered so.answers between.talk) begun so.session;
+  session = subst (λ t. AnswersAll t so.answered so.answers between.talk) begun.talk so.session;
   said = Some said;
+  first = first;
+  begins = begun;
+  in_turn = all_in_turn first between (Some said) so;
   ends = ends;
   taken = length (flat_map responses_text so.answers) + closed.taken;
   writes = wrote_after first.written between.written now first.wrote between.wrote written_faults
@@ -207,8 +228,8 @@ end_starves first between now so found =
     (found.same_read ∙ so.same_read, ([], (end_reads first between now so found).reads))
 
 -- writing failed after some bytes of the text of the last answer
-served_in_part : (replicas : ℕ) (first between now : Moment) → first.talk ≡ first_talk replicas
-    → UnderWay first between → FailsToWrite between now
+served_in_part : (replicas : ℕ) (first between now : Moment)
+    → Begins replicas first.left first.written first → UnderWay first between → FailsToWrite between now
     → IsServed replicas first.left now.left first.read now.read first.written now.written
     first.wrote now.wrote (code_of Status.WriteFault)
 served_in_part replicas first between now begun so fails =
@@ -223,9 +244,20 @@ served_in_part replicas first between now begun so fails =
       talk = now.talk;
       session = answers_more (first_talk replicas) between.talk now.talk so.answered so.answers
           takes.line fails.responses
-          (subst (λ t. AnswersAll t so.answered so.answers between.talk) begun so.session)
+          (subst (λ t. AnswersAll t so.answered so.answers between.talk) begun.talk so.session)
           next.answers;
       said = None;
+      first = first;
+      begins = begun;
+      in_turn = record {
+        whole = so.answers;
+        part = fails.responses ∷ [];
+        parts = refl;
+        last = between;
+        in_turn = so.in_turn;
+        most = omega arith;
+        all = tt;
+      };
       ends = (
         next.same_read ∙ so.same_read,
         (
@@ -267,6 +299,24 @@ never_begun replicas left written now read wrote wrote_now status closed = recor
   talk = first_talk replicas;
   session = refl;
   said = Some Said.NoMemory;
+  first = record {
+    left = left;
+    read = read;
+    written = written;
+    wrote = wrote;
+    incoming = record { held = []; room = 0; is_over = false };
+    talk = first_talk replicas;
+  };
+  begins = record { left_is = refl; written_is = refl; held = refl; talk = refl };
+  in_turn = record {
+    whole = [];
+    part = [];
+    parts = refl;
+    last = _;
+    in_turn = refl;
+    most = omega arith;
+    all = refl;
+  };
   ends = (
     refl,
     (
@@ -292,7 +342,7 @@ tells_from between now after faults status said nothing tells =
     (subst (λ b. Tells b after now.wrote faults said status) nothing.same_written tells)
 
 reported : (replicas : ℕ) (first between now : Moment) (after : Option (List ℕ))
-    (faults status : ℕ) (said : Said) → first.talk ≡ first_talk replicas
+    (faults status : ℕ) (said : Said) → Begins replicas first.left first.written first
     → UnderWay first between → FindsEnd between now
     → Reports between.talk said → Tells between.written after between.wrote faults said status
     → IsServed replicas first.left now.left first.read now.read first.written after first.wrote
@@ -307,7 +357,7 @@ reported replicas first between now after faults status _ begun so found closes 
 
 -- a session that was under way is served, whyever it ended
 pub served : (replicas : ℕ) (first between now : Moment) (after : Option (List ℕ))
-    (faults status : ℕ) (halt : Halt) → first.talk ≡ first_talk replicas
+    (faults status : ℕ) (halt : Halt) → Begins replicas first.left first.written first
     → UnderWay first between → Halts between now halt
     → Finishes halt now.talk now.written after now.wrote faults status
     → IsServed replicas first.left now.left first.read now.read first.written after first.wrote

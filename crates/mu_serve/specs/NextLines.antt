@@ -1,11 +1,12 @@
--- answers the next, halts, fares: what becomes of the next line of a session, and why none is answered.
-use Rattle.std.specs.Prelude.{List, None, Some, length, take, true, ℕ, ◌<◌, ◌≡◌, ◌⊎◌}
+-- answers the next, answers in turn, halts, fares: what becomes of the next line of a session, how lines
+-- are answered one after the other, and why none is answered.
+use Rattle.std.specs.Prelude.{List, None, Some, [], length, take, true, ℕ, ◌<◌, ◌∷◌, ◌≡◌, ◌⊎◌}
 use Rattle.std.specs.declared.option.Option.{Option}
 use Rattle.std.specs.Io.KnownBytes.{Appends}
 use Rattle.mu_io.specs.Faults.{Rose}
 use Rattle.mu_report.specs.Responses.{responses_text}
 use Rattle.mu_report.specs.declared.responses.Response.{Response}
-use Rattle.mu_serve.specs.Incoming.{FindsNone, StopsReading, TakesLine}
+use Rattle.mu_serve.specs.Incoming.{FindsNone, HasWholeLine, StopsReading, TakesLine}
 use Rattle.mu_serve.specs.Sessions.{Answers, Talk}
 use Rattle.mu_serve.specs.declared.answering.Halt.{Halt}
 use Rattle.mu_serve.specs.declared.incoming.Incoming.{Incoming}
@@ -19,10 +20,11 @@ pub record Moment : Type 0 where
   pub incoming : Incoming
   pub talk : Talk
 
--- the next line was taken, and this is its answer
+-- the next line was taken, and this is its answer; nothing was read for it if it was there as a whole
 pub record TakesNext (before after : Moment) (responses : List Response) : Type 0 where
   pub text : List ℕ
   pub takes : TakesLine before.left after.left before.incoming after.incoming text
+  pub waits : HasWholeLine before.incoming.held → after.left ≡ before.left
   pub answers : Answers before.talk takes.line responses after.talk
   pub same_read : after.read ≡ before.read
 
@@ -32,6 +34,14 @@ pub record AnswersNext (before after : Moment) : Type 0 where
   pub next : TakesNext before after responses
   pub written : Appends before.written after.written (responses_text responses)
   pub same_wrote : after.wrote ≡ before.wrote
+
+-- lines were answered one after the other, with these responses: at each moment between two of them all
+-- that was answered so far was written, and nothing of the next one
+abbrev pub AnswersInTurn : Moment → List (List Response) → Moment → Type 0
+AnswersInTurn first [] last = last ≡ first
+AnswersInTurn first (responses ∷ rest) last =
+    (between : Moment) × (next : AnswersNext first between) × (next.responses ≡ responses)
+    × AnswersInTurn between rest last
 
 -- nothing was written
 pub record WritesNothing (before after : Moment) : Type 0 where

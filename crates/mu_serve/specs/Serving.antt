@@ -1,4 +1,4 @@
--- served: how a session goes from its first line to its last one, and what is read and written.
+-- begins, served: how a session goes from its first line to its last one, and what is read and written.
 use Rattle.std.specs.Prelude.{List, None, Some, [], length, ℕ, ◌++◌, ◌+◌, ◌<◌, ◌≡◌, ◌≤◌, IfSome}
 use Rattle.std.specs.declared.option.Option.{Option}
 use Rattle.std.specs.Io.KnownBytes.{Consumes}
@@ -14,6 +14,7 @@ use Rattle.mu_shell.specs.Written.{Wrote}
 use Rattle.mu_text.specs.Lines.{lines}
 use Rattle.mu_serve.specs.Closing.{Closes}
 use Rattle.mu_serve.specs.Incoming.{GaveAll}
+use Rattle.mu_serve.specs.NextLines.{AnswersInTurn, Moment}
 use Rattle.mu_serve.specs.Sessions.{AnswersAll, Talk, first_talk}
 use Rattle.mu_serve.specs.declared.TheConstants.{SESSION_LIMIT}
 
@@ -67,8 +68,28 @@ closing_status (Some said) = status_for said
 abbrev pub spoken : List (List Response) → Option Said → List ℕ
 spoken answers said = flat_map responses_text answers ++ closing_text said
 
--- a session of this many replicas: its lines were answered one after the other, and what was written
--- is the text of that and of what is said at the end, or the first bytes of it, if the output failed
+-- a session of this many replicas before its first line: nothing was read, answered or written
+pub record Begins (replicas : ℕ) (left written : Option (List ℕ)) (first : Moment) : Type 0 where
+  pub left_is : first.left ≡ left
+  pub written_is : first.written ≡ written
+  pub held : first.incoming.held ≡ []
+  pub talk : first.talk ≡ first_talk replicas
+
+-- of these answers each was written before more was read than its line, but for the last one if the
+-- output failed at it: then nothing is said at the end
+pub record AreInTurn (first : Moment) (answers : List (List Response))
+    (said : Option Said) : Type 0 where
+  pub whole : List (List Response)
+  pub part : List (List Response)
+  pub parts : answers ≡ whole ++ part
+  pub last : Moment
+  pub in_turn : AnswersInTurn first whole last
+  pub most : length part ≤ 1
+  pub all : IfSome said (λ _. part ≡ [])
+
+-- a session of this many replicas: its lines were answered one after the other, each before more was
+-- read than it, and what was written is the text of that and of what is said at the end, or the first
+-- bytes of it, if the output failed
 pub record IsServed (replicas : ℕ) (left left_now : Option (List ℕ)) (read read_now : ℕ)
     (written written_now : Option (List ℕ)) (wrote wrote_now status : ℕ) : Type 0 where
   pub answered : List (List ℕ)
@@ -76,6 +97,9 @@ pub record IsServed (replicas : ℕ) (left left_now : Option (List ℕ)) (read r
   pub talk : Talk
   pub session : AnswersAll (first_talk replicas) answered answers talk
   pub said : Option Said
+  pub first : Moment
+  pub begins : Begins replicas left written first
+  pub in_turn : AreInTurn first answers said
   pub ends : Ends left left_now read read_now answered talk said
   pub taken : ℕ
   pub writes :

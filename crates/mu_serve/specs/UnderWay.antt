@@ -15,7 +15,7 @@ use Rattle.mu_shell.specs.Written.{Wrote}
 use Rattle.mu_text.specs.Lines.{lines}
 use Rattle.mu_serve.specs.Closing.{Reports}
 use Rattle.mu_serve.specs.Incoming.{GaveAll, MayFollow}
-use Rattle.mu_serve.specs.NextLines.{Moment}
+use Rattle.mu_serve.specs.NextLines.{AnswersInTurn, Moment}
 use Rattle.mu_serve.specs.Sessions.{AnswersAll, Talk}
 use Rattle.mu_serve.specs.declared.TheConstants.{SESSION_LIMIT}
 use Rattle.mu_serve.specs.declared.answering.Halt.{Halt}
@@ -25,6 +25,7 @@ pub record UnderWay (first now : Moment) : Type 0 where
   pub answered : List (List ℕ)
   pub answers : List (List Response)
   pub session : AnswersAll first.talk answered answers now.talk
+  pub in_turn : AnswersInTurn first answers now
   pub taken : List ℕ
   pub consumed : Consumes first.left now.left taken
   pub counted : now.incoming.room + length taken ≡ SESSION_LIMIT + 1

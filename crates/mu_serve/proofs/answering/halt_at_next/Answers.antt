@@ -31,6 +31,7 @@ returns-in-Ok-print_responses g c =
       next = record {
         text = c.in-Ok-Some.line;
         takes = takes;
+        waits = λ whole. ap g.S.Source.left (c.in-Ok-Some.ensures.held whole);
         answers = c.in-Ok.ensures takes.line takes.front;
         same_read = c.in-Ok-Some.ensures.same_faults;
       };
@@ -47,6 +48,7 @@ returns g c =
       next = record {
         text = c.in-Ok-Some.line;
         takes = takes;
+        waits = λ whole. ap g.S.Source.left (c.in-Ok-Some.ensures.held whole);
         answers = c.in-Ok.ensures takes.line takes.front;
         same_read = c.in-Ok-Some.ensures.same_faults;
       };

@@ -1,3 +1,4 @@
+use Rattle.std.proofs.Common.{refl}
 use Rattle.mu_serve.proofs.Served.{never_begun, served}
 use Rattle.mu_serve.proofs.serving.serve.Goals as goal
 
@@ -7,5 +8,11 @@ returns-in-Err g c = never_begun c.args.replicas _ _ _ _ _ _ _ c.status_of_end.e
 pub returns : goal.returns
 returns g c =
     let under_way = c.last_halt-halt.ensures in
-    served c.args.replicas _ under_way.0 _ _ _ _ _ c.in-Ok.ensures under_way.1 under_way.2
+    let begun = record {
+      left_is = refl;
+      written_is = refl;
+      held = c.new-incoming.ensures.held;
+      talk = c.in-Ok.ensures;
+    } in
+    served c.args.replicas _ under_way.0 _ _ _ _ _ begun under_way.1 under_way.2
     c.status_after.ensures
