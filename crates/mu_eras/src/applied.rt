@@ -17,8 +17,6 @@ use std::alloc::Global;
 pub(crate) struct Applied {
     /// Its store.
     pub(crate) store: Store,
-    /// How many keys the store has.
-    pub(crate) keys: usize,
     /// How many entries of the era's log it has applied.
     pub(crate) entries: usize,
     /// How many commands these are.
@@ -35,7 +33,6 @@ impl Applied {
     {
         Ok(Applied {
             store: Store::with_room(alloc, room)?,
-            keys: 0,
             entries: 0,
             commands: 0,
         })
@@ -142,16 +139,8 @@ impl Applied {
         ensures room { self.old.store.room ≤ self.new.store.room + 1 }
         ensures commands { self.new.commands ≡ self.old.commands + 1 }
     {
-        let key = command.op.parts().key;
-        let had = self.store.look(&key).is_some();
-        let reply = self.store.apply(command);
-        let has = self.store.look(&key).is_some();
-        self.keys = self
-            .keys
-            .saturating_add(usize::from(has))
-            .saturating_sub(usize::from(had));
         self.commands += 1;
-        reply
+        self.store.apply(command)
     }
 }
 
