@@ -109,6 +109,8 @@ void play_rests(void)
         expect(guarded[k] == UINT64_C(0x5a5a5a5a5a5a5a5a), "rests that are larger than mu.h says");
     memcpy(&calls.rests, guarded, sizeof calls.rests);
     mu_rests_wake(&calls.rests, any_word());
+    if (below(4) == 0)
+        mu_rests_hasten(&calls.rests);
 }
 
 void end_replicas(void)
