@@ -1,8 +1,8 @@
-/* chance.h: random numbers that are the same for the same seed, and an array's words, for what plays with the library. */
+/* chance.h: random numbers that are the same for the same seed, for what plays with the library. */
 #ifndef CHANCE_H
 #define CHANCE_H
 
-#include "mu.h"
+#include "../../examples/own/made.h"
 
 #include <stdio.h>
 #include <stdlib.h>
@@ -31,21 +31,6 @@ static inline void chance_begin(uint64_t seed)
 static inline uint32_t below(uint32_t most)
 {
     return (uint32_t)((any_word() >> 16) % most);
-}
-
-/* An access to a word of this process alone. */
-static inline uint64_t made(uint64_t *word, const mu_operation *o)
-{
-    uint64_t found = *word;
-    switch (o->kind) {
-    case MU_STORE: case MU_SWAP: *word = o->value; break;
-    case MU_RAISE: *word = found < o->value ? o->value : found; break;
-    case MU_ADD: *word = found + o->value; break;
-    case MU_SET_BITS: *word = found | o->value; break;
-    case MU_COMPARE: *word = found == o->expected ? o->value : found; break;
-    default: break;
-    }
-    return found;
 }
 
 #endif
