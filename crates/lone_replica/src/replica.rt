@@ -85,6 +85,7 @@ impl Replica {
 
     /// Its next access, or what has halted it. Told again before the word is taken it is the same,
     /// and changes nothing. Takes no memory.
+    #[inline(always)]
     pub fn next(&mut self) -> Next
         ghost at: { SomeConfig × Own }
         requires { StandsForReplica at.0 self.old.id at.1 self.old }

@@ -53,6 +53,7 @@ impl Accesses {
     }
 
     /// The access of a step that the replica may make.
+    #[inline(always)]
     pub fn access_of(&self, verb: &Verb) -> Access
         ghost at: { SomeConfig × Own }
         requires { MayAccess at.0 at.1 self.now verb.now }
@@ -87,6 +88,18 @@ impl Accesses {
         ensures { result ≡ may_be_told_of at.0 verb.now
             (name_of at.0 self.now.id (at.1).0 verb.now) word }
     {
+        with_each_verb!(*verb, named => self.may_find_for(config, &named, word))
+    }
+
+    /// The same, inlined where the verb is named.
+    #[inline(always)]
+    fn may_find_for(&self, config: &Config, verb: &Verb, word: u64) -> bool
+        ghost at: { SomeConfig × Own }
+        requires config { config.now ≡ at.0 }
+        requires may { MayAccess at.0 at.1 self.now verb.now }
+        ensures { result ≡ may_be_told_of at.0 verb.now
+            (name_of at.0 self.now.id (at.1).0 verb.now) word }
+    {
         let target = self.found.close_target();
         let name = self.layout.name_of(self.id, target, verb);
         may_be_told(config, verb, name, word)
@@ -95,6 +108,20 @@ impl Accesses {
     /// Takes the word that the access of a step found: its answer. Takes no memory.
     #[inline(always)]
     pub fn take(&mut self, verb: &Verb, word: u64) -> Answer
+        ghost at: { SomeConfig × Own }
+        requires { MayAccess at.0 at.1 self.old verb.now }
+        ensures answer { result ≡ answer_from (at.0).ring verb.now
+            (expected at.0 self.old.id (at.1).0 (at.1).1 verb.now) word }
+        ensures stands { StandsForAccesses at.0 self.old.id
+            (own_with at.0 self.old.id at.1 verb.now word) self.new }
+        ensures shape { self.new.shape ≡ self.old.shape }
+    {
+        with_each_verb!(*verb, named => self.take_for(&named, word))
+    }
+
+    /// The same, inlined where the verb is named.
+    #[inline(always)]
+    fn take_for(&mut self, verb: &Verb, word: u64) -> Answer
         ghost at: { SomeConfig × Own }
         requires { MayAccess at.0 at.1 self.old verb.now }
         ensures answer { result ≡ answer_from (at.0).ring verb.now

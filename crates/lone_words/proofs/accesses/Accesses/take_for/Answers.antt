@@ -6,7 +6,7 @@ use Rattle.mu_words.specs.Founds.{FoundIs}
 use Rattle.mu_words.specs.Verbs.{answer_from}
 use Rattle.mu_words.proofs.Limits.{config_is_limited}
 use Rattle.lone_words.proofs.Reaching.{is_prepared}
-use Rattle.lone_words.proofs.accesses.Accesses.take.Goals as goal
+use Rattle.lone_words.proofs.accesses.Accesses.take_for.Goals as goal
 
 pub note-requires : goal.note-requires
 note-requires g c =

@@ -5,7 +5,7 @@ use Rattle.mu_words.specs.declared.layout.Name.{Name}
 use Rattle.mu_words.specs.Verbs.{name_at}
 use Rattle.lone_words.specs.Right.{may_be_told}
 use Rattle.lone_words.proofs.Reaching.{name_is}
-use Rattle.lone_words.proofs.accesses.Accesses.may_find.Goals as goal
+use Rattle.lone_words.proofs.accesses.Accesses.may_find_for.Goals as goal
 
 pub may_be_told-requires : goal.may_be_told-requires
 may_be_told-requires g c = subst (λ (k : Config). row_count k ≤ 1500) (sym c.requires.0) c.requires.1.config.few
