@@ -11,8 +11,9 @@
  * replicas that they hand out. Want of memory is an answer, MU_NO_MEMORY.
  *
  * A text goes to the room that you give: its first `room` bytes stand in `out`, and `*taken` is how
- * many bytes the whole text has. If that is more than `room`, give more room and call again. No text
- * ends with a zero byte. `room` may be 0, to ask for the length, and `out` null then.
+ * many bytes the whole text has. If that is more than `room`, give more room and call again: the text
+ * is made anew, so ample room spares that. No text ends with a zero byte. `room` may be 0, to ask for
+ * the length, and `out` null then.
  *
  * A call needs less than MU_STACK bytes of stack: measured 36 KB at most, and tested (small_stack.c).
  *
@@ -132,8 +133,9 @@ uint32_t mu_engine_new(mu_engine *engine, uint32_t replicas, uint32_t places, ui
 
 /* Submits the next command of a client, 0 to 15: a line as in a job, without its line feed, such as
  * `put a 5`. With MU_DONE `*row` is its row: how many commands came before it. Else it is 0 and the
- * engine is as it was: MU_NO_SUCH_CLIENT, MU_REFUSED if the line is no command, MU_FULL if the era has
- * no room until each of its commands has its reply (play rounds), or MU_NO_MEMORY; the first that is so. */
+ * engine is as it was: MU_NO_SUCH_CLIENT, MU_REFUSED if the line is no command (of a job with that line
+ * MU_WHY says what is expected; mu.hpp asks it), MU_FULL if the era has no room until each of its commands
+ * has its reply (play rounds), or MU_NO_MEMORY; the first that is so. */
 uint32_t mu_engine_submit(mu_engine *engine, uint32_t client, const void *line, size_t length,
                           uint64_t *row);
 

@@ -56,6 +56,9 @@ inline void accept(std::uint32_t status, const std::string &told = {})
         throw Refused(status, told);
 }
 
+/* Room for what is long: a text that has too little is made twice. */
+constexpr std::size_t MANY_BYTES = std::size_t{1} << 20, MOST_TEXT = 64;
+
 /* The status and the whole text of a call, which is made again if the first room was too small. */
 template <typename Call> std::pair<std::uint32_t, std::string> told(Call call, std::size_t room = 4096)
 {
@@ -68,6 +71,23 @@ template <typename Call> std::pair<std::uint32_t, std::string> told(Call call, s
         if (is_whole)
             return {status, std::move(text)};
     }
+}
+
+/* What is expected in place of a line that is no command, as `mu why` says it of a job with that line; else nothing. */
+inline std::string expected_of(std::string_view line)
+{
+    const std::string job = "mu 1\nreplicas 1\nring 8\nbudget 1\nclient 0\n" + std::string(line) + "\nend\n";
+    const auto text = told([&](char *out, std::size_t room, std::size_t *taken) {
+        return mu_answer(MU_WHY, job.data(), job.size(), out, room, taken);
+    }).second;
+    const std::size_t at = text.rfind("refused line 6 ", 0) == 0 ? text.find("expected: ") : text.npos;
+    return at == text.npos ? "" : text.substr(at, text.find('\n', at) - at);
+}
+
+/* Throws what was refused of a command. */
+inline void accept_line(std::uint32_t status, std::string_view line)
+{
+    accept(status, status == MU_REFUSED ? expected_of(line) : std::string());
 }
 
 /* A reply of the store: done, none, or a text that the key has, had or keeps. */
@@ -95,7 +115,7 @@ public:
     std::uint64_t submit(std::uint32_t client, std::string_view line)
     {
         std::uint64_t row = 0;
-        accept(mu_engine_submit(&held, client, line.data(), line.size(), &row));
+        accept_line(mu_engine_submit(&held, client, line.data(), line.size(), &row), line);
         return row;
     }
     void round() { accept(mu_engine_round(&held)); }
@@ -109,11 +129,10 @@ public:
     std::optional<Reply> reply_in_time(std::uint64_t row, std::uint32_t rounds = 10000)
     {
         std::uint32_t kind = 0;
-        auto [status, text] = told(
-            [&](char *out, std::size_t room, std::size_t *taken) {
-                return mu_engine_until(&held, row, rounds, &kind, out, room, taken);
-            },
-            64);
+        const auto call = [&](char *out, std::size_t room, std::size_t *taken) {
+            return mu_engine_until(&held, row, rounds, &kind, out, room, taken);
+        };
+        auto [status, text] = told(call, MOST_TEXT);
         if (status == MU_UNFINISHED)
             return std::nullopt;
         accept(status);
@@ -135,9 +154,10 @@ public:
     /* The commands and the events so far of the era under way, as a trace. */
     std::string trace()
     {
-        auto [status, text] = told([&](char *out, std::size_t room, std::size_t *taken) {
+        const auto call = [&](char *out, std::size_t room, std::size_t *taken) {
             return mu_engine_trace(&held, out, room, taken);
-        });
+        };
+        auto [status, text] = told(call, MANY_BYTES);
         accept(status);
         return std::move(text);
     }
@@ -229,7 +249,7 @@ public:
     std::uint32_t append(std::uint32_t client, std::string_view line)
     {
         std::uint32_t row = 0;
-        accept(mu_replica_append(&held, client, line.data(), line.size(), &row));
+        accept_line(mu_replica_append(&held, client, line.data(), line.size(), &row), line);
         return row;
     }
 
@@ -247,11 +267,10 @@ public:
     std::optional<Reply> reply(std::uint32_t row)
     {
         std::uint32_t kind = 0;
-        auto [status, text] = told(
-            [&](char *out, std::size_t room, std::size_t *taken) {
-                return mu_replica_reply(&held, row, &kind, out, room, taken);
-            },
-            64);
+        const auto call = [&](char *out, std::size_t room, std::size_t *taken) {
+            return mu_replica_reply(&held, row, &kind, out, room, taken);
+        };
+        auto [status, text] = told(call, MOST_TEXT);
         if (status == MU_UNFINISHED)
             return std::nullopt;
         accept(status);
@@ -260,11 +279,10 @@ public:
     /* Its newest event, as a line of a trace; empty if it has none. */
     std::string event()
     {
-        auto [status, text] = told(
-            [&](char *out, std::size_t room, std::size_t *taken) {
-                return mu_replica_event(&held, out, room, taken);
-            },
-            192);
+        const auto call = [&](char *out, std::size_t room, std::size_t *taken) {
+            return mu_replica_event(&held, out, room, taken);
+        };
+        auto [status, text] = told(call, 192);
         if (status != MU_UNFINISHED)
             accept(status);
         return std::move(text);

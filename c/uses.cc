@@ -42,6 +42,11 @@ static void engines()
     expect("a get of another leader", value && value->kind == MU_REPLY_VALUE && value->text == "5");
     expect("a stopped replica", refusal([&] { moved.stop(0); }) == MU_STOPPED);
     expect("no line", refusal([&] { moved.submit(0, std::string_view()); }) == MU_REFUSED);
+    try {
+        moved.submit(0, "put a");
+    } catch (const mu::Refused &refused) {
+        expect("what is expected", std::string(refused.what()).rfind("MU_REFUSED: expected: put KEY TEXT, ", 0) == 0);
+    }
     expect("no row", refusal([&] { moved.reply(7); }) == MU_NO_SUCH_ROW);
     expect("who is held", moved.hold(0).stopped == 1 && moved.state().free == 2 && moved.state().leader == 1);
     moved.back(0);

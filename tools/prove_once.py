@@ -18,6 +18,7 @@ import tempfile
 import threading
 import time
 
+from beginning import begin
 from programs import CRATES, TOP, crates_below, need_toolchain, sources_sum
 from telling import telling
 
@@ -179,6 +180,7 @@ def at_once_asked(name, words):
 
 
 def main():
+    begin(__doc__)
     names = sys.argv[1:]
     if not names or not all(os.path.isdir(os.path.join(CRATES, it)) for it in names):
         print(__doc__.split("\n\n")[1])

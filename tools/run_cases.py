@@ -20,6 +20,7 @@ import sys
 
 import programs
 import trying
+from beginning import begin
 from stored import contents, is_made, names, rule_of, stands
 from telling import telling
 
@@ -115,6 +116,7 @@ def cases_at(path):
 
 
 def main():
+    begin(__doc__)
     given = sys.argv[1:]
     is_program = given and not os.path.isdir(given[0]) and not given[0].endswith(".table")
     program = given.pop(0) if is_program else None

@@ -17,7 +17,11 @@ MEANT = {USAGE: ("USAGE", "no such task or number, or it was let go"),
          OLD_ROW: ("OLD_ROW", "its reply isn't kept any more"), EMPTY: ("EMPTY", "there is no engine: it was let go")}
 REPLIES = {1: "done", 2: "value", 3: "none", 4: "kept"}
 TASKS = {"replay": 1, "trace": 2, "check": 3, "why": 4, "book": 5, "bulk": 6, "tell": 7, "attest": 8}
+# A job up to its first command, which stands in line 6.
+JOB_BEFORE, REFUSED_THERE, EXPECTED = b"mu 1\nreplicas 1\nring 8\nbudget 1\nclient 0\n", b"refused line 6 ", b"expected: "
 LAST_STEP, LAST_NUMBER, LAST_ROW, NOBODY = 9_999_999, 4_294_967_295, 18_446_744_073_709_551_615, 255
+# Room for what is long: a text that has too little is made twice.
+MANY_BYTES = 1 << 20
 TOP = os.path.dirname(os.path.dirname(os.path.dirname(os.path.abspath(__file__))))
 SIZE, TEXT, NUMBER, WIDE = ctypes.c_size_t, ctypes.c_char_p, ctypes.c_uint32, ctypes.c_uint64
 
@@ -183,16 +187,31 @@ class Judge(Owner):
 class Refused(Exception):
     """A call on an engine or a replica was refused; `status` and `name` say why, as c/mu.h has them."""
 
-    def __init__(self, status):
+    def __init__(self, status, told=""):
         self.status = status
         self.name, meant = MEANT.get(status, (str(status), "a status that c/mu.h doesn't have"))
-        super().__init__(f"MU_{self.name}: {meant}")
+        super().__init__(f"MU_{self.name}: {meant}{told}")
 
 
 def accepted(status):
     """Raises what was refused."""
     if status != DONE:
         raise Refused(status)
+
+
+def expected_of(line):
+    """What is expected in place of a line that is no command, as `mu why` says it of a job with that line; else nothing."""
+    _, told = answer("why", JOB_BEFORE + line + b"\nend\n")
+    if not told.startswith(REFUSED_THERE):
+        return ""
+    return f" ({told[told.index(EXPECTED):].decode().rstrip()})"
+
+
+def accepted_line(status, line):
+    """Raises what was refused of a command."""
+    if status == REFUSED:
+        raise Refused(status, expected_of(line))
+    accepted(status)
 
 
 class Engine(Owner):
@@ -207,7 +226,7 @@ class Engine(Owner):
     def submit(self, client, line):
         """Takes the next command of a client, and gives its row."""
         row, line = WIDE(), in_bytes(line)
-        accepted(library.mu_engine_submit(self.held, number(client), line, len(line), ctypes.byref(row)))
+        accepted_line(library.mu_engine_submit(self.held, number(client), line, len(line), ctypes.byref(row)), line)
         return row.value
 
     def round(self):
@@ -253,7 +272,7 @@ class Engine(Owner):
 
     def trace(self):
         """The commands and the events so far of the era under way, as a trace."""
-        status, text = told(library.mu_engine_trace, self.held)
+        status, text = told(library.mu_engine_trace, self.held, room=MANY_BYTES)
         accepted(status)
         return text
 
@@ -299,7 +318,7 @@ class Replica(Owner):
     def append(self, client, line):
         """Appends the next command of a client, and gives its row."""
         row, line = NUMBER(), in_bytes(line)
-        accepted(library.mu_replica_append(self.held, number(client), line, len(line), ctypes.byref(row)))
+        accepted_line(library.mu_replica_append(self.held, number(client), line, len(line), ctypes.byref(row)), line)
         return row.value
 
     def end(self):

@@ -11,8 +11,12 @@ import sys
 sys.path.insert(0, os.path.dirname(os.path.realpath(shutil.which("rt"))))
 import rtlib
 
+import folders
+from beginning import begin
+
 
 def main():
+    begin(__doc__)
     here = os.getcwd()
     # As the gate: a crate stands on the statements of those below it.
     rtlib.Crate.cuts_libraries = True

@@ -2,15 +2,15 @@
 """Tries the library for C, out/libmu.a and out/libmu.so, as ./library leaves them, or those of the folder $LIBMU_AT.
 
     tools/library/try_library.py                 each call from C, C++ and Python, also on a stack of MU_STACK bytes;
-                                         a thousand engines, each let go, in little memory; sessions of a
-                                         live engine from each, with random commands, stops and pauses; the
-                                         examples of examples/own; a long session with stops and returns,
-                                         flat in memory and instructions; and that a list judged event by event gets
-                                         the answer of the whole trace, over the judged traces and the stored
-                                         ones
+                                                 a thousand engines, each let go, in little memory; sessions of a
+                                                 live engine from each, with random commands, stops and pauses; the
+                                                 examples of examples/own; a long session with stops and returns,
+                                                 flat in memory and instructions; and that a list judged event by event gets
+                                                 the answer of the whole trace, over the judged traces and the stored
+                                                 ones
     tools/library/try_library.py FOLDER..        the same also over the traces of these folders of cases
     tools/library/try_library.py --quick         the same over no traces, and with few sessions: as ./test does with a library
-                                         without proofs
+                                                 without proofs
     tools/library/try_library.py --memory        how much memory a judge takes over a list of 64 MiB
 
 It needs a C compiler, and for C++ one that takes it.
@@ -215,7 +215,12 @@ def try_python(tried, mu_library):
         try:
             engine.submit(0, "put a")
         except mu_library.Refused as refused:
-            tried.expect("a refusal's words", str(refused), "MU_REFUSED: the line is no command")
+            tried.expect("a refusal's words", str(refused)[:60], "MU_REFUSED: the line is no command (expected: put KEY TEXT, ")
+        try:
+            engine.submit(0, b"get " + b"k" * 25)
+        except mu_library.Refused as refused:
+            tried.expect("a key that is refused", str(refused),
+                         "MU_REFUSED: the line is no command (expected: a key of 1 to 24 bytes, each from 33 to 126)")
 
 
 def try_letting_go(tried, mu_library):

@@ -1,11 +1,11 @@
 #!/usr/bin/env python3
 """Checks what the pages name: each path stands, each name is in some source, each link leads somewhere;
-that pages keep their budgets, that each command has its help, that each crate is on the map, and that the reasons
-of `mu why` have the words that are defined.
+that pages keep their budgets, that each command and each tool has its help, that each crate is on the map, and that the
+reasons of `mu why` have the words that are defined.
 
     tools/pages/pages.py        prints what is stale; the last line is `pages: N named, N stale`
 
-What stands between backquotes in README.md and docs/ is checked: a path from the top, from crates/, or
+What stands between backquotes in README.md, docs/ and the README.md of crates is checked: a path from the top, from crates/, or
 from the crate named before it; a name of code or of a definition. Words of the formats (lower case,
 without `_`) and commands are no names. The status is 1 if something is stale.
 """
@@ -41,6 +41,8 @@ OTHER_END = "; or, if it has none, in place of the last words: "
 # The budgets of docs/WORKING.md: the most words of a page, and of all together.
 MOST_WORDS, MOST_IN_README, MOST_IN_SUM = 3_600, 1_900, 40_000
 WORD = re.compile(r"\S*\w\S*")
+# How a tool heeds `--help`. What a launcher starts never gets it: the launcher answers.
+HELPS, LAUNCHED = re.compile(r"begin\(__doc__\)|ArgumentParser|\"--help\""), "tools/launchers/run_program.py"
 
 
 def files():
@@ -49,6 +51,13 @@ def files():
         below[:] = [it for it in below if it not in SKIPPED]
         for name in names:
             yield os.path.relpath(os.path.join(folder, name), TOP)
+
+
+def crate_pages():
+    """The pages of crates, which have no budget."""
+    for crate in sorted(os.listdir(os.path.join(TOP, "crates"))):
+        if os.path.exists(os.path.join(TOP, "crates", crate, "README.md")):
+            yield f"crates/{crate}/README.md"
 
 
 def pages():
@@ -146,6 +155,14 @@ def without_help():
             yield f"tools/launchers/program_help.bash: {form} isn't there"
 
 
+def tools_without_help():
+    """The tools that can be started and don't say with `--help` what they do."""
+    for folder, _, names in os.walk(os.path.join(TOP, "tools")):
+        for path in (os.path.relpath(os.path.join(folder, it), TOP) for it in sorted(names) if it.endswith(".py")):
+            if path != LAUNCHED and os.access(os.path.join(TOP, path), os.X_OK) and not HELPS.search(contents(path)):
+                yield f"{path}: --help isn't heeded"
+
+
 def defined_reasons():
     """The sentences of each reason of `mu why`, from their definition, each value in italics."""
     sentences = {}
@@ -184,7 +201,7 @@ def judged():
             known.add(path)
     words = words_of_sources(it for it in paths if not it.startswith("docs/"))
     named, stale = 0, []
-    for page in pages():
+    for page in [*pages(), *crate_pages()]:
         with open(os.path.join(TOP, page), encoding="utf-8") as text:
             for number, line in enumerate(text, 1):
                 found = [(it, stands(it, known) if is_path else it in words) for it, is_path in names_in(line)]
@@ -192,7 +209,7 @@ def judged():
                           if not it.startswith("http")]
                 named += len(found)
                 stale += [f"{page}:{number}: {it}" for it, good in found if not good]
-    return named, stale + list(too_long()) + list(without_help()) + off_the_map() + list(other_words())
+    return named, stale + list(too_long()) + list(without_help()) + list(tools_without_help()) + off_the_map() + list(other_words())
 
 
 def main():

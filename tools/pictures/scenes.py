@@ -14,6 +14,7 @@ import sys
 
 import folders
 import picture_cases
+from beginning import begin
 from programs import EXAMPLES
 
 SCENES = os.path.join(EXAMPLES, "scenes")
@@ -43,6 +44,7 @@ def scenes():
 
 def main():
     """Compares each scene, or stores its drawing."""
+    begin(__doc__)
     programs = [word for word in sys.argv[1:] if word != "--write"]
     if not programs:
         print(__doc__.split("\n\n")[1], file=sys.stderr)

@@ -24,6 +24,7 @@ from collections import Counter
 
 import folders
 import trying
+from beginning import begin
 from operations import drawn
 from programs import TOP
 from run_trials import Job, Store, Wrong, check_report
@@ -242,6 +243,7 @@ def tried(name, count, seed=1, mu_path=None, say=None, most=300):
 
 
 def main():
+    begin(__doc__)
     if len(sys.argv) < 3 or sys.argv[1] not in KINDS:
         print(__doc__)
         return 2

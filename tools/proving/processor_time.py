@@ -12,9 +12,9 @@ import time
 
 
 def main():
-    if not sys.argv[1:]:
-        print(__doc__.split("\n\n")[1])
-        return 1
+    if sys.argv[1:2] in ([], ["--help"]):
+        print(__doc__.strip())
+        return 0 if sys.argv[1:] else 1
     began = time.monotonic()
     status = subprocess.run(sys.argv[1:], check=False).returncode
     used = resource.getrusage(resource.RUSAGE_CHILDREN)

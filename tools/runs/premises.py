@@ -3,7 +3,7 @@
 
     tools/runs/premises.py TRACE [TRACE ..]   tells of each trace which premises hold, and whether what follows does
     tools/runs/premises.py                    runs the examples: for each clause a run that meets every premise, and for
-                                         each premise one that doesn't
+                                              each premise one that doesn't
 
 A clause whose premises no run meets promises nothing. The clauses are `lives` (its parts `committed` and `finished`)
 and `leads` of a replay, and `lives_if_fair` of a run. Bounds are computed from their definitions, and what a replica
@@ -15,6 +15,7 @@ import folders
 import bounds
 import trying
 from account import Region, Replica
+from beginning import begin
 from bounds import NotPromised
 from fairness import Run, Stretch, going_in
 from programs import tell
@@ -209,6 +210,7 @@ def told_of(path):
 
 
 def main():
+    begin(__doc__)
     if not sys.argv[1:]:
         return trying.run_or_write([], examples(), "premises")
     refuted = [path for path in sys.argv[1:] if told_of(path)]

@@ -11,6 +11,7 @@ import re
 import sys
 
 import folders
+from beginning import begin
 from programs import CRATES, tell
 from run_cases import contents
 
@@ -57,6 +58,7 @@ def judged():
 
 
 def main():
+    begin(__doc__)
     (gate, beside), wrong = judged()
     return tell(wrong, f"{gate} edits in the gate and {beside} beside it, of which {len(wrong)} don't fit")
 

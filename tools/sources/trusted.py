@@ -3,7 +3,7 @@
 
     tools/sources/trusted.py            the list
     tools/sources/trusted.py --check    tells which crate of the kit, and which folder of C, README's "What is trusted" doesn't
-                                name, and which access in C the list lacks; ./test calls it
+                                        name, and which access in C the list lacks; ./test calls it
 
 The toolchain and the statements of its standard library are trusted too; they aren't in the sources.
 """
@@ -14,6 +14,7 @@ import subprocess
 import sys
 
 import folders
+from beginning import begin
 from library_parts import PARTS
 from programs import TOP, tell
 
@@ -116,6 +117,7 @@ def judged():
 
 
 def main():
+    begin(__doc__)
     if sys.argv[1:] == ["--check"]:
         count, wrong = judged()
         return tell(wrong, f"trusted: {count - len(wrong)} named, {len(wrong)} missing")

@@ -15,6 +15,9 @@ import subprocess
 import sys
 import tempfile
 
+import folders
+from beginning import begin
+
 MOMENT = re.compile(r"moment (\d) (\w+)(?: (\d+))? at ([\d.]+)(?: put at ([\d.]+))?")
 
 
@@ -44,6 +47,7 @@ def part(values, percent):
 
 
 def main():
+    begin(__doc__)
     if len(sys.argv) < 4:
         print(__doc__)
         return 2

@@ -14,6 +14,7 @@ import tty
 
 import folders
 import trying
+from beginning import begin
 from programs import EXAMPLES, tell
 from run_cases import contents
 
@@ -97,6 +98,7 @@ def tried(path_of):
 
 
 def main():
+    begin(__doc__)
     count, wrong = tried(trying.program_of)
     return tell(wrong, f"{count - len(wrong)} passed, {len(wrong)} failed")
 

@@ -12,6 +12,7 @@ import sys
 
 import folders
 import trying
+from beginning import begin
 from programs import TOP
 from run_cases import table_cases
 
@@ -146,6 +147,7 @@ def made_cases():
 
 
 def main():
+    begin(__doc__)
     return trying.run_or_write(sys.argv[1:], [*made_cases(), fullest_session(), *astray_sessions(), LargestCase()], "made")
 
 

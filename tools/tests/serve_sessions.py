@@ -22,6 +22,7 @@ import threading
 
 import folders
 import trying
+from beginning import begin
 from operations import drawn, reply_to
 from programs import tell
 
@@ -255,6 +256,7 @@ def tried(path, count, seed):
 
 
 def main():
+    begin(__doc__)
     count, seed = ([int(word) for word in sys.argv[1:]] + [SESSIONS, SEED][len(sys.argv) - 1:])[:2]
     path = trying.program_of("mu")
     if path is None:

@@ -14,6 +14,7 @@ import time
 
 import folders
 import trying
+from beginning import begin
 from programs import TOP, tell
 from run_cases import table_cases
 
@@ -95,6 +96,7 @@ def late_troubles(launcher=os.path.join(TOP, "mu")):
 
 
 def main():
+    begin(__doc__)
     given = sys.argv[1:]
     count, wrong = tried(given[0] if given else trying.program_of("mu"), *given[1:2])
     return tell(wrong, f"{count - len(wrong)} passed, {len(wrong)} failed")
