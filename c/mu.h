@@ -326,6 +326,11 @@ uint32_t mu_rests_take(mu_rests *rests, const mu_operation *operation, uint64_t 
  * is so short that a sleep would take longer. To be asked once each time. */
 uint64_t mu_rests_due(mu_rests *rests, uint64_t moment, uint32_t *awake);
 
+/* How long to rest at the least after that access, asleep, if so many tasks want to run on so many
+ * processors: 100,000 after the last of a cycle if there are fewer processors than tasks, else 0. Who pauses
+ * so often takes no more than its share, and isn't kept from a processor for long. */
+uint64_t mu_rests_pace(const mu_rests *rests, uint32_t running, uint32_t processors);
+
 /* Another replica is known to have ended: the rests of the next eighty cycles are none. It counts as failed the
  * sooner, and another leads. */
 void mu_rests_hasten(mu_rests *rests);
