@@ -10,6 +10,8 @@ use Rattle.mu_model.specs.Histories.{history, part}
 use Rattle.mu_model.proofs.Basics.{same_some}
 use Rattle.mu_model.proofs.Lists.{each_pushed, get_front, get_push_here, get_push_other}
 use Rattle.mu_model.proofs.Parts.{filter-append, history-part}
+use Rattle.mu_node.specs.declared.zeal.Zeal.{Zeal}
+use Rattle.mu_node.specs.Held.{TakesDue}
 use Rattle.mu_engine.specs.declared.hold.Hold.{Hold}
 use Rattle.mu_engine.specs.Live.{is_free_at, takes_turn}
 use Rattle.mu_engine.specs.Rounds.{AreSteps, HasStep, IsHalted}
@@ -28,7 +30,7 @@ part_waits k events steps below =
 -- the steps with one more turn
 pub steps_on : (c : Config) (holds : List Hold) (events old new steps : List Event) (k : ℕ) (hold : Hold) → old ≡ events ++ steps → slice_get holds k ≡ Some hold → Plays c k hold old new → AreSteps c holds events k steps
     → (more : List Event) × (new ≡ events ++ more) × AreSteps c holds events (suc k) more
-steps_on c holds events old new steps k hold list held (inl none) was = (steps, none.0 ∙ list, record { free = free; ascending = was.ascending; all = all; none = was.none })
+steps_on c holds events old new steps k hold list held (inl none) was = (steps, none.0 ∙ list, record { free = free; ascending = was.ascending; all = all; none = was.none; due = was.due })
   where
     free : (i : ℕ) (e : Event) → slice_get steps i ≡ Some e → (e.by < suc k) × (takes_turn holds e.by ≡ true)
     free i e at = let had = was.free i e at in let low = had.0 in (omega (arith, low), had.1)
@@ -46,7 +48,7 @@ steps_on c holds events old new steps k hold list held (inl none) was = (steps, 
 steps_on c holds events old new steps k hold list held (inr one) was = (
   steps ++ e ∷ [],
   one.4 ∙ ap (λ l. l ++ e ∷ []) list ∙ append_assoc events steps (e ∷ []),
-  record { free = free; ascending = ascending; all = all; none = still },
+  record { free = free; ascending = ascending; all = all; none = still; due = due },
 )
   where
     e : Event
@@ -96,3 +98,9 @@ steps_on c holds events old new steps k hold list held (inr one) was = (
           let at = sym (get_push_other steps made.place one.0 other) ∙ made.there in
           was.none r (record { place = made.place; event = made.event; there = at; own = made.own }) halted
     ]
+
+    due : (i : ℕ) (f : Event) → slice_get (steps ++ one.0 ∷ []) i ≡ Some f → TakesDue Zeal.Eager c f.by (part f.by (history events)) f.verb
+    due =
+        let mine = ap (part_of k) list ∙ part_waits k events steps (λ i f at. (was.free i f at).0) in
+        each_pushed (λ i f. TakesDue Zeal.Eager c f.by (part f.by (history events)) f.verb) steps one.0 was.due
+        (subst (λ i. TakesDue Zeal.Eager c i (part_of i events) one.0.verb) (sym one.1) (subst (λ l. TakesDue Zeal.Eager c k l one.0.verb) mine one.5))

@@ -1,5 +1,5 @@
 -- The turn of a replica.
-use Rattle.std.proofs.Common.{◌≡◌, ◌∙◌, Bool, ℕ, false, true, List, [], ◌∷◌, ◌++◌, Some, inl, inr, refl, subst, sym, true≢false}
+use Rattle.std.proofs.Common.{◌≡◌, ◌∙◌, Bool, ℕ, false, true, List, [], ◌∷◌, ◌++◌, Some, ap, inl, inr, refl, subst, sym, true≢false}
 use Rattle.mu_model.specs.declared.config.Config.{Config}
 use Rattle.mu_model.specs.declared.event.Event.{Event}
 use Rattle.mu_model.specs.Histories.{history, part, event_by}
@@ -7,6 +7,8 @@ use Rattle.mu_model.proofs.Basics.{same_some}
 use Rattle.mu_port.specs.Keeping.{Held}
 use Rattle.mu_node.specs.declared.node.Node.{Node}
 use Rattle.mu_node.specs.declared.turn.Turn.{Turn}
+use Rattle.mu_node.specs.declared.zeal.Zeal.{Zeal}
+use Rattle.mu_node.specs.Held.{TakesDue, TookDue}
 use Rattle.mu_node.specs.Node.{StandsForNode}
 use Rattle.mu_node.specs.Turns.{IsTurnOn}
 use Rattle.mu_engine.specs.declared.hold.Hold.{Hold}
@@ -18,6 +20,7 @@ use Rattle.mu_engine.specs.Shapes.{no_script}
 pub record Turned (k0 k1 : Config) (r0 r1 : ℕ) (e0 e1 : List Event) (turn : Turn) (node : Node) : Type 0 where
   pub lives : StandsForNode k1 r1 (part r1 (history e1)) node
   pub did : IsTurnOn k0 no_script r0 (part r0 (history e0)) (part r1 (history e1)) (Some e0) (Some e1) turn
+  pub due : TookDue Zeal.Eager k0 r0 (part r0 (history e0)) (part r1 (history e1)) turn
 
 -- the same of the memory that the port holds
 pub turned : (c : Config) (old new : List Event) (p q : Held) (r id : ℕ) (turn : Turn) (node : Node)
@@ -33,11 +36,19 @@ turned c old new p q r id turn node at_id is_id config events at_same same_confi
     let h = subst (λ x. Turned c c r r x q.events turn node) events e in
     subst (λ x. Turned c c r r old x turn node) (sym after) h
 
+-- the event that came is one
+first_or : Event → List Event → Event
+first_or e [] = e
+first_or e (d ∷ events) = d
+
+same_first : (d e : Event) (mine now : List Event) → now ≡ d ∷ mine → now ≡ e ∷ mine → d ≡ e
+same_first d e mine now one other = ap (first_or d) (sym one ∙ other)
+
 -- what it adds to the events of a replica that nothing holds
 pub plays_on : (c : Config) (r : ℕ) (hold : Hold) (old new : List Event) (turn : Turn) (node : Node) → is_free hold ≡ true → Turned c c r r old new turn node → Plays c r hold old new
 plays_on c r hold old new (Turn.Took note) node free t =
     let e = event_by r t.did.1.verb t.did.1.answer in
-    inr (e, refl, free, (λ halted. cant (t.did.0 halted.end halted.ends) halted.halt), same_some new (old ++ e ∷ []) t.did.1.told.list)
+    inr (e, refl, free, (λ halted. cant (t.did.0 halted.end halted.ends) halted.halt), same_some new (old ++ e ∷ []) t.did.1.told.list, subst (TakesDue Zeal.Eager c r (part r (history old))) (ap (λ (x : Event). x.verb) (same_first (event_by r t.due.verb t.due.answer) e (part r (history old)) (part r (history new)) t.due.part t.did.1.part)) t.due.due)
   where
     cant : {b : Bool} → b ≡ false → b ≡ true → ⊥
     cant first second = true≢false (sym second ∙ first)

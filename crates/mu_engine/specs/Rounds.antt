@@ -1,4 +1,5 @@
--- round: what the replicas do in one round: in order of id each that nothing holds takes one turn.
+-- round: what the replicas do in one round: in order of id each that nothing holds takes one turn,
+-- by a step that is due.
 use Rattle.std.specs.Prelude.{List, Some, true, ℕ, ◌<◌, ◌≡◌, ◌⊎◌}
 use Rattle.std.specs.List.{slice_get}
 use Rattle.mu_model.specs.declared.config.Config.{Config}
@@ -6,6 +7,8 @@ use Rattle.mu_model.specs.declared.event.Event.{Event}
 use Rattle.mu_model.specs.declared.script.End.{End}
 use Rattle.mu_model.specs.Ends.{EndsBy}
 use Rattle.mu_model.specs.Histories.{history, part}
+use Rattle.mu_node.specs.declared.zeal.Zeal.{Zeal}
+use Rattle.mu_node.specs.Held.{TakesDue}
 use Rattle.mu_node.specs.Turns.{halts}
 use Rattle.mu_engine.specs.declared.hold.Hold.{Hold}
 use Rattle.mu_engine.specs.Live.{takes_turn}
@@ -41,6 +44,10 @@ pub record AreSteps (c : Config) (holds : List Hold) (events : List Event) (n : 
   -- and none if they do
   pub none :
       (r : ℕ) → HasStep r steps → IsHalted c r (part r (history events)) → ⊥
+  -- each is the step that is due to its replica, an eager one, by that replica's own events
+  pub due :
+      (k : ℕ) (e : Event) → slice_get steps k ≡ Some e
+      → TakesDue Zeal.Eager c e.by (part e.by (history events)) e.verb
 
 -- the steps of a whole round
 abbrev pub IsRound : Config → List Hold → List Event → List Event → Type 0

@@ -6,6 +6,7 @@ use Rattle.mu_model.specs.declared.event.Event.{Event}
 use Rattle.mu_model.specs.Histories.{history, part}
 use Rattle.mu_node.specs.Node.{StandsForNode}
 use Rattle.mu_node.specs.declared.zeal.Zeal.{Zeal}
+use Rattle.mu_node.specs.Held.{TakesDue}
 use Rattle.mu_engine.specs.declared.hold.Hold.{Hold}
 use Rattle.mu_engine.specs.declared.seat.Seat.{Seat}
 use Rattle.mu_engine.specs.Live.{is_free}
@@ -30,9 +31,9 @@ pub record AreSeated (c : Config) (events : List Event) (seats : List Seat) : Ty
   pub each : (r : ℕ) (seat : Seat) → slice_get seats r ≡ Some seat → Sits c r events seat
 
 -- what replica r, which is held so, adds to the events in its turn: nothing, if something holds it
--- or its events halt it, else one step
+-- or its events halt it, else the step that is due
 abbrev pub Plays : Config → ℕ → Hold → List Event → List Event → Type 0
 Plays c r hold old new =
     ((new ≡ old) × (is_free hold ≡ true → IsHalted c r (part_of r old)))
     ⊎ ((e : Event) × (e.by ≡ r) × (is_free hold ≡ true) × (IsHalted c r (part_of r old) → ⊥)
-    × (new ≡ old ++ e ∷ []))
+    × (new ≡ old ++ e ∷ []) × TakesDue Zeal.Eager c r (part_of r old) e.verb)

@@ -5,6 +5,7 @@ pub mod Deciding
 pub mod Due
 pub mod Following
 pub mod Growing
+pub mod Held
 pub mod Journal
 pub mod Keeping
 pub mod Node

@@ -4,6 +4,7 @@ ghost use Rattle.mu_model.specs.declared.event.Event.{Event as SomeEvent};
 ghost use Rattle.mu_lead.specs.Journal.{IsWhere};
 ghost use Rattle.mu_node.specs.Cycle.{IsMade};
 ghost use Rattle.mu_node.specs.Deciding.{HasDecided, IsPlacedAfter, IsReady, LeavesToAsk, PlansByTurn, SettlesAsk, SettlesPlan, StandsAfter};
+ghost use Rattle.mu_node.specs.Held.{IsMadeBy};
 ghost use Rattle.mu_node.specs.Keeping.{KeepsSelf, MayStep};
 
 use crate::node::Node;
@@ -41,6 +42,8 @@ impl Node {
         ensures keeps { KeepsSelf self.old self.new }
         ensures made { IsWhere self.old.follow.config self.old.id mine self.old.lead
             → IsMade self.old.zeal self.old.follow.config self.old.id mine result.plan.verb }
+        ensures held { IsMadeBy self.old.zeal self.old.follow.config self.old.id mine
+            self.old.lead result.plan.verb }
         ensures placed { IsWhere self.old.follow.config self.old.id mine self.old.lead
             → IsReady mine self.new result }
         ensures asks { result.again ≡ true → LeavesToAsk mine self.old result.plan.heeded }

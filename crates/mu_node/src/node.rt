@@ -7,6 +7,7 @@ ghost use Rattle.mu_model.specs.Ends.{outrun};
 ghost use Rattle.mu_model.specs.Parts.{IsPossible};
 ghost use Rattle.mu_model.specs.Room.{reserve};
 ghost use Rattle.mu_lead.specs.Journal.{IsWhere};
+ghost use Rattle.mu_node.specs.Held.{HasTakenDue, TookDue};
 ghost use Rattle.mu_node.specs.Keeping.{Ends};
 ghost use Rattle.mu_node.specs.Node.{StandsForNode};
 ghost use Rattle.mu_node.specs.Notes.{HasMade, MovesGoing, MovesTurn, TellsTurn};
@@ -127,6 +128,8 @@ impl Node {
         ensures turn { (script : Script) → script.stops ≡ self.old.stops.items
             → IsTurnOn (P.config port.old) script (P.number port.old) (P.part port.old)
             (P.part port.new) (P.whole port.old) (P.whole port.new) result }
+        ensures due { TookDue self.old.zeal (P.config port.old) (P.number port.old)
+            (P.part port.old) (P.part port.new) result }
     {
         let id = port.id();
         prove!(id == self.id);
@@ -196,6 +199,8 @@ impl Node {
         ensures made { IsWhere (P.config port.old) (P.number port.old) (P.part port.old)
             self.old.lead → HasMade self.old.zeal (P.config port.old) (P.number port.old)
             (P.part port.old) (P.part port.new) self.old.lead result }
+        ensures due { HasTakenDue self.old.zeal (P.config port.old) (P.number port.old)
+            (P.part port.old) (P.part port.new) }
         ensures going { IsWhere (P.config port.old) (P.number port.old) (P.part port.old)
             self.old.lead → MovesGoing (P.config port.old) (P.number port.old) (P.part port.old)
             self.old.lead self.new.lead result }

@@ -16,6 +16,7 @@ ghost use Rattle.mu_lead.specs.Beside.{leads_at};
 ghost use Rattle.mu_lead.specs.Journal.{IsWhere, place_after};
 ghost use Rattle.mu_lead.specs.Standing.{HasHeeded};
 ghost use Rattle.mu_node.specs.Cycle.{IsCycleDue};
+ghost use Rattle.mu_node.specs.Held.{IsCycleDueBy, IsDueBy, held_idle_due};
 ghost use Rattle.mu_node.specs.Keeping.{Becomes, IdlesBy, IsPlan, KeepsSelf, MayStep, MovesLead};
 ghost use Rattle.mu_node.specs.Plans.{due_of};
 ghost use Rattle.mu_node.specs.Due.{ReadsOn, held_write_due, idle_due, lead_due, verb_or_beat};
@@ -100,6 +101,8 @@ impl Node {
             → is_odd (length mine) ≡ false
             → IsCycleDue self.old.zeal self.old.follow.config self.old.id mine
             (leads_at self.old.lead.place) (due_of result) }
+        ensures due { IsDueBy self.old.zeal self.old.follow.config self.old.id mine self.old.lead
+            (due_of result) }
         ensures heeded { result.heeded
             ≡ note_before self.old.follow.config self.old.id mine self.old.lead }
         ensures told { is_odd (length mine) ≡ true
@@ -131,6 +134,10 @@ impl Node {
             → due_of result
             ≡ or_else (lead_due self.old.follow.config self.old.id mine self.old.lead)
             (idle_due self.old.zeal self.old.follow.config self.old.id mine) }
+        ensures held { due_of result
+            ≡ or_else (lead_due self.old.follow.config self.old.id mine self.old.lead)
+            (held_idle_due self.old.zeal self.old.follow.config self.old.id mine
+            (leads_at self.old.lead.place)) }
         ensures heeded { result.heeded
             ≡ heed_note self.old.follow.config self.old.id mine self.old.lead }
         ensures told { HasTold self.old.follow.config self.old.id mine self.old.lead self.new.lead }
@@ -160,6 +167,8 @@ impl Node {
         requires stands { StandsForFollow self.now.follow.config self.now.id mine self.now.follow }
         ensures exact { leading ≡ leads_at (place_after self.now.follow.config self.now.id mine)
             → result ≡ idle_due self.now.zeal self.now.follow.config self.now.id mine }
+        ensures held { result
+            ≡ held_idle_due self.now.zeal self.now.follow.config self.now.id mine leading }
         ensures reads { IfSome result
             (λ verb. ReadsOn self.now.follow.config self.now.id mine verb) }
         ensures allowed { IfSome result
@@ -190,6 +199,8 @@ impl Node {
         ensures cycle { IsWhere self.old.follow.config self.old.id mine self.old.lead
             → IsCycleDue self.old.zeal self.old.follow.config self.old.id mine
             (leads_at self.old.lead.place) (due_of result) }
+        ensures held { IsCycleDueBy self.old.zeal self.old.follow.config self.old.id mine
+            self.old.lead (due_of result) }
         ensures heeded { result.heeded ≡ SomeNote.Working }
         ensures lead { self.new.lead ≡ self.old.lead }
     {

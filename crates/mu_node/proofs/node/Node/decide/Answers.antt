@@ -162,3 +162,21 @@ returns-else-asks_out_of_turn-clause-plans g c off =
       told = plan.told;
       lead = plan.lead;
     }
+
+pub returns-then-asks_out_of_turn-clause-held : goal.returns-then-asks_out_of_turn-clause-held
+returns-then-asks_out_of_turn-clause-held g c =
+    let node = c.args.self.now in
+    let both = and_parts (asks_out_of_turn node.zeal node.follow.config node.id g.mine) (is_odd (length g.mine)) (sym c.asks_out_of_turn.ensures ∙ c.if-asks_out_of_turn.true) in
+    record {
+      again = λ odd out. refl;
+      calm = λ calm. absurd (true≢false (sym both.0 ∙ calm both.1));
+    }
+
+pub returns-else-asks_out_of_turn-clause-held : goal.returns-else-asks_out_of_turn-clause-held
+returns-else-asks_out_of_turn-clause-held g c =
+    let node = c.args.self.now in
+    let calm = left_calm (asks_out_of_turn node.zeal node.follow.config node.id g.mine) (is_odd (length g.mine)) (sym c.asks_out_of_turn.ensures ∙ c.if-asks_out_of_turn.false) in
+    record {
+      again = λ odd out. absurd (true≢false (sym out ∙ calm odd));
+      calm = λ still. record { due = due_of c.plan.result; is = c.plan.ensures.due; made = c.plan.ensures.is.made };
+    }

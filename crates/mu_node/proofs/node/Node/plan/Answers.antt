@@ -115,3 +115,21 @@ returns-then-is_turn_of_leader-clause-is g c = c.plan_led.ensures.is
 
 pub returns-else-is_turn_of_leader-clause-is : goal.returns-else-is_turn_of_leader-clause-is
 returns-else-is_turn_of_leader-clause-is g c = c.plan_cycle.ensures.is
+
+pub returns-then-is_turn_of_leader-clause-due : goal.returns-then-is_turn_of_leader-clause-due
+returns-then-is_turn_of_leader-clause-due g c =
+    let node = c.args.self.now in
+    let odd = parity c.steps.result (length g.mine) c.is_turn_of_leader.result true (c.steps.ensures node.follow.config node.id g.mine c.requires.stands.beside.follow) c.is_turn_of_leader.ensures c.if-is_turn_of_leader.true in
+    record {
+      replication = λ turn. c.plan_led.ensures.held;
+      background = λ even. absurd (true≢false (sym odd ∙ even));
+    }
+
+pub returns-else-is_turn_of_leader-clause-due : goal.returns-else-is_turn_of_leader-clause-due
+returns-else-is_turn_of_leader-clause-due g c =
+    let node = c.args.self.now in
+    let even = parity c.steps.result (length g.mine) c.is_turn_of_leader.result false (c.steps.ensures node.follow.config node.id g.mine c.requires.stands.beside.follow) c.is_turn_of_leader.ensures c.if-is_turn_of_leader.false in
+    record {
+      replication = λ odd. absurd (true≢false (sym odd ∙ even));
+      background = λ turn. c.plan_cycle.ensures.held;
+    }

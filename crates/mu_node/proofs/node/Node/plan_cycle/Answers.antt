@@ -50,3 +50,16 @@ returns-clause-cycle g c at =
       background = c.background-due.ensures.due k node.id g.mine c.requires.0.possible c.requires.0.short c.requires.1 held;
       whole = c.beside.ensures.due ∙ (is ∙ (ap (λ z. or_else c.background-due.result (held_write_due z k node.id g.mine node.lead)) c.background-due.ensures.keeps.zeal ∙ ap (or_else c.background-due.result) (ahead_is node.zeal k node.id g.mine node.lead held.lead at)));
     }
+
+pub returns-clause-held : goal.returns-clause-held
+returns-clause-held g c =
+    let node = c.args.self.now in
+    let held = c.requires.0.stands in
+    let k = node.follow.config in
+    let planned = c.background-due.ensures.stands k node.id g.mine c.requires.1 c.requires.0.possible held in
+    let is : c.or_ahead.result ≡ or_else c.background-due.result (held_write_due c.background-due.new.self.zeal k node.id g.mine node.lead) = c.or_ahead.ensures k node.id g.mine c.requires.0.config c.requires.0.possible planned ∙ ap (λ (l : Lead). or_else c.background-due.result (held_write_due c.background-due.new.self.zeal k node.id g.mine l)) c.background-due.ensures.lead in
+    record {
+      first = c.background-due.result;
+      background = c.background-due.ensures.due k node.id g.mine c.requires.0.possible c.requires.0.short c.requires.1 held;
+      whole = c.beside.ensures.due ∙ (is ∙ ap (λ z. or_else c.background-due.result (held_write_due z k node.id g.mine node.lead)) c.background-due.ensures.keeps.zeal);
+    }

@@ -16,6 +16,7 @@ use Rattle.mu_lead.specs.Standing.{verb_of}
 use Rattle.mu_lead.specs.Beside.{leads_at}
 use Rattle.mu_lead.specs.Journal.{place_after}
 use Rattle.mu_node.specs.Due.{FitsLead, IsIdle, ReadsOn, idle_due, lead_due, verb_or_beat}
+use Rattle.mu_node.specs.Held.{held_idle_due}
 use Rattle.mu_node.specs.Reads.{IsReadNext}
 use Rattle.mu_node.proofs.CatchingUp.{idle_fits, idle_is_idle}
 use Rattle.mu_node.proofs.Reading.{idle_reads, lead_reads}
@@ -126,3 +127,25 @@ returns-in-None-clause-leads g c =
     let lead = c.heed-heeded.new.self.lead in
     let due = due_is node.follow.config node.id g.mine lead c.known.result.now c.due.result c.due.ensures.exact c.heed-heeded.ensures.named (c.known.ensures node.follow.config node.id g.mine (length g.mine) c.heed-heeded.ensures.stands.beside.follow) in
     c.beside.ensures.leads ∙ sym (ap (λ (o : Option Verb). is_some o) (sym c.heed-heeded.ensures.due ∙ (sym due ∙ c.in-None.is)))
+
+pub returns-in-Some-clause-held : goal.returns-in-Some-clause-held
+returns-in-Some-clause-held g c =
+    let node = c.args.self.now in
+    let lead = c.heed-heeded.new.self.lead in
+    let due = due_is node.follow.config node.id g.mine lead c.known.result.now c.due.result c.due.ensures.exact c.heed-heeded.ensures.named (c.known.ensures node.follow.config node.id g.mine (length g.mine) c.heed-heeded.ensures.stands.beside.follow) in
+    sym (ap (λ o. or_else o (held_idle_due node.zeal node.follow.config node.id g.mine (leads_at node.lead.place))) (sym c.heed-heeded.ensures.due ∙ (sym due ∙ c.in-Some.is)))
+
+pub returns-in-None-clause-held : goal.returns-in-None-clause-held
+returns-in-None-clause-held g c =
+    let node = c.args.self.now in
+    let new = c.heed-heeded.new.self in
+    let leading = c.is_leading-leading.result in
+    let due = due_is node.follow.config node.id g.mine new.lead c.known.result.now c.due.result c.due.ensures.exact c.heed-heeded.ensures.named (c.known.ensures node.follow.config node.id g.mine (length g.mine) c.heed-heeded.ensures.stands.beside.follow) in
+    let none : lead_due node.follow.config node.id g.mine node.lead ≡ None = sym c.heed-heeded.ensures.due ∙ (sym due ∙ c.in-None.is) in
+    c.beside.ensures.due
+    ∙ (c.idle.ensures.held
+    ∙ (ap (λ (f : Follow). held_idle_due new.zeal f.config new.id g.mine leading) c.heed-heeded.ensures.follow
+    ∙ (ap (λ i. held_idle_due new.zeal node.follow.config i g.mine leading) c.heed-heeded.ensures.keeps.id
+    ∙ (ap (λ z. held_idle_due z node.follow.config node.id g.mine leading) c.heed-heeded.ensures.keeps.zeal
+    ∙ (ap (held_idle_due node.zeal node.follow.config node.id g.mine) c.is_leading-leading.ensures
+    ∙ sym (ap (λ o. or_else o (held_idle_due node.zeal node.follow.config node.id g.mine (leads_at node.lead.place))) none))))))

@@ -10,6 +10,7 @@ use Rattle.mu_model.specs.Parts.{IsPossible}
 use Rattle.mu_node.specs.declared.node.Node.{Node}
 use Rattle.mu_node.specs.Cycle.{IsMade}
 use Rattle.mu_node.specs.Due.{verb_or_beat}
+use Rattle.mu_node.specs.Held.{IsMadeBy, TakesDue}
 use Rattle.mu_node.specs.Journal.{FollowsTurn}
 use Rattle.mu_lead.specs.Journal.{IsWhere}
 use Rattle.mu_node.specs.Node.{StandsForLead, StandsForNode}
@@ -205,3 +206,37 @@ returns-else-decision-clause-going g c was =
     let says = to_own {mine = g.mine} (λ x i l. SaysTook x i l plan.leads (due_of plan) plan.heeded new.lead next answer note) (sym decide.keeps.config) (sym decide.keeps.id) refl (c.settle-else-decision.ensures.took c.if-decision.false).says in
     to_port (λ x i l. MovesGoing x i l node.lead next note) own id c.requires.1.0
     (going_moves node.zeal node.follow.config node.id g.mine node.lead new.lead next plan.leads (due_of plan) plan.heeded answer note plans.leads (plans.led at) plans.heeded plans.told plans.lead says)
+
+pub returns-then-decision-clause-due : goal.returns-then-decision-clause-due
+returns-then-decision-clause-due g c =
+    let node = c.args.self.now in
+    let own = c.requires.1.1.1.1.1.0.beside.follow.config in
+    let id = c.requires.1.1.1.1.1.0.beside.id in
+    let decide = c.decide-decision.ensures in
+    record {
+      verb = Verb.Ask 0;
+      answer = c.ask-answer.result;
+      part = c.ask-answer.ensures.part;
+      due = to_port (λ x i l. TakesDue node.zeal x i l (Verb.Ask 0)) own id c.requires.1.0 (record {
+        lead = node.lead;
+        stands = to_own (λ x i l. StandsForLead x i l node.lead) own id c.requires.1.0 c.requires.1.1.1.1.1.0.lead;
+        made = subst (λ v. IsMadeBy node.zeal node.follow.config node.id g.mine node.lead v) (decide.decided.asks c.if-decision.true).verb decide.held;
+      });
+    }
+
+pub returns-else-decision-clause-due : goal.returns-else-decision-clause-due
+returns-else-decision-clause-due g c =
+    let node = c.args.self.now in
+    let own = c.requires.1.1.1.1.1.0.beside.follow.config in
+    let id = c.requires.1.1.1.1.1.0.beside.id in
+    let decide = c.decide-decision.ensures in
+    record {
+      verb = c.verb.result;
+      answer = c.step-answer.result;
+      part = c.step-answer.ensures.part;
+      due = to_port (λ x i l. TakesDue node.zeal x i l c.verb.result) own id c.requires.1.0 (record {
+        lead = node.lead;
+        stands = to_own (λ x i l. StandsForLead x i l node.lead) own id c.requires.1.0 c.requires.1.1.1.1.1.0.lead;
+        made = subst (λ v. IsMadeBy node.zeal node.follow.config node.id g.mine node.lead v) (sym c.verb.ensures) decide.held;
+      });
+    }

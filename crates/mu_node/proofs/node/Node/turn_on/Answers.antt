@@ -15,3 +15,6 @@ step-requires g c =
     let none = subst (λ o. TellsHalt k script r mine o) c.in-None.is told in
     let left = is_unspent k script r mine possible none in
     λ κs lives. (lives, (refl, (c.requires.config, (possible, (left, (c.requires.stands, is_unhalted k script r mine none))))))
+
+pub returns-in-Some-clause-due : goal.returns-in-Some-clause-due
+returns-in-Some-clause-due g c = tt
