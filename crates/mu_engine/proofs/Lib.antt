@@ -5,6 +5,7 @@ pub mod Going
 mod Holds
 pub mod Lasting
 pub mod Linear
+mod Resting
 mod Seating
 mod Stepping
 mod Taking

@@ -3,6 +3,7 @@ pub mod Inside
 pub mod Laws
 pub mod Live
 pub mod Moments
+pub mod Resting
 pub mod Rounds
 pub mod Seats
 pub mod Shapes

@@ -6,6 +6,7 @@
 #![tactic(auto)]
 
 ghost use Rattle.mu_engine.specs.Laws.{GoesFurther, RepliesLast, RepliesStay, SessionsAreLinear};
+ghost use Rattle.mu_engine.specs.Resting.{LeadersRestWhenDone};
 
 mod engine;
 mod growing;
@@ -45,4 +46,10 @@ pub fn replies_last()
 /// Of three moments of a session the last goes on from the first.
 pub fn sessions_go_on()
     ensures { GoesFurther }
+{}
+
+/// No leader sleeps on: a replica that its scores name leader beats in a turn of its leader only if
+/// it knows all commands and every region is a member, or a look of it found that it was outrun.
+pub fn leaders_rest_when_done()
+    ensures { LeadersRestWhenDone }
 {}
