@@ -27,6 +27,19 @@ part_waits k events steps below =
     ap (part k) (reverse-append events steps) ∙ filter-append (λ e. e.by == k) (history steps) (history events)
     ∙ ap (λ l. l ++ part k (history events)) (sym (history-part k steps) ∙ ap reverse (none_own k steps below))
 
+-- before any turn there is none
+pub no_steps : (c : Config) (holds : List Hold) (events : List Event) → AreSteps c holds events 0 []
+no_steps c holds events = record {
+  free = λ k e at. cc;
+  ascending = λ j k d e first second low. cc;
+  all = λ r low turn. absurd (omega (arith, low));
+  none = λ r made halted. missing made.place made.event made.there;
+  due = λ k e at. cc;
+}
+  where
+    missing : (k : ℕ) (e : Event) → slice_get [] k ≡ Some e → ⊥
+    missing k e at = cc
+
 -- the steps with one more turn
 pub steps_on : (c : Config) (holds : List Hold) (events old new steps : List Event) (k : ℕ) (hold : Hold) → old ≡ events ++ steps → slice_get holds k ≡ Some hold → Plays c k hold old new → AreSteps c holds events k steps
     → (more : List Event) × (new ≡ events ++ more) × AreSteps c holds events (suc k) more

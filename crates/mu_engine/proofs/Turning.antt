@@ -37,7 +37,7 @@ turned c old new p q r id turn node at_id is_id config events at_same same_confi
     subst (λ x. Turned c c r r old x turn node) (sym after) h
 
 -- the event that came is one
-first_or : Event → List Event → Event
+abbrev first_or : Event → List Event → Event
 first_or e [] = e
 first_or e (d ∷ events) = d
 

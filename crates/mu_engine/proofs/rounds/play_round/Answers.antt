@@ -1,4 +1,4 @@
-use Rattle.std.proofs.Common.{◌≡◌, ◌∙◌, ◌<◌, ◌+◌, ◌++◌, suc, List, Some, ap, arith, length, length-set, map, subst, sym}
+use Rattle.std.proofs.Common.{◌≡◌, ◌∙◌, ◌<◌, ◌+◌, ◌++◌, suc, List, [], Some, ap, append-nil, arith, length, length-set, map, refl, subst, sym}
 use Rattle.std.specs.Prelude.{slice_index_or}
 use Rattle.std.specs.List.{slice_get}
 use Rattle.std.proofs.lemmas.List.{length-map}
@@ -10,7 +10,7 @@ use Rattle.mu_engine.specs.Rounds.{AreSteps}
 use Rattle.mu_engine.specs.Seats.{hold_of}
 use Rattle.mu_engine.proofs.Holds.{aged, aged_all, aged_next, changed_map, hold_there}
 use Rattle.mu_engine.proofs.Seating.{plays_there, seated_on, sits_own, sits_there}
-use Rattle.mu_engine.proofs.Stepping.{steps_on}
+use Rattle.mu_engine.proofs.Stepping.{no_steps, steps_on}
 use Rattle.mu_engine.proofs.rounds.play_round.Goals as goal
 
 pub play-requires-clause-inside : goal.play-requires-clause-inside
@@ -31,6 +31,20 @@ play-requires-clause-sits c =
     let low : k < length seats = omega (arith, c.loop-k-test.true, c.loop-k.invariant.count) in
     let sits = c.loop-k.invariant.seated.each k _ (slice_get-get_or seats k c.index-seats-k.result low) in
     sits_own c.loop-k.port.config c.args.port.now.config k c.loop-k.port.events _ c.loop-k.invariant.config sits
+
+pub loop-k-init : goal.loop-k-init
+loop-k-init c =
+    let port = c.args.port.now in
+    let seats = c.args.seats.now in
+    record {
+      config = refl;
+      limit = refl;
+      count = refl;
+      ahead = λ r above. refl;
+      seated = c.requires.seated;
+      holds = refl;
+      steps = ([], sym (append-nil port.events), no_steps port.config (map hold_of seats) port.events);
+    }
 
 pub loop-k-preserved : goal.loop-k-preserved
 loop-k-preserved c =
