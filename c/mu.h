@@ -11,8 +11,9 @@
  * replicas that they hand out. Want of memory is an answer, MU_NO_MEMORY.
  *
  * A text goes to the room that you give: its first `room` bytes stand in `out`, and `*taken` is how
- * many bytes the whole text has. If that is more than `room`, give more room and call again. No text
- * ends with a zero byte. `room` may be 0, to ask for the length, and `out` null then.
+ * many bytes the whole text has. If that is more than `room`, give more room and call again: the text
+ * is made anew, so ample room spares that. No text ends with a zero byte. `room` may be 0, to ask for
+ * the length, and `out` null then.
  *
  * A call needs less than MU_STACK bytes of stack: measured 36 KB at most, and tested (small_stack.c).
  *
@@ -324,6 +325,11 @@ uint32_t mu_rests_take(mu_rests *rests, const mu_operation *operation, uint64_t 
 /* How long to rest now, after an access that isn't MU_NOT_DUE: at most 8,192,000. `*awake` is 1 if that
  * is so short that a sleep would take longer. To be asked once each time. */
 uint64_t mu_rests_due(mu_rests *rests, uint64_t moment, uint32_t *awake);
+
+/* How long to rest at the least after that access, asleep, if so many tasks want to run on so many
+ * processors: 100,000 after the last of a cycle if there are fewer processors than tasks, else 0. Who pauses
+ * so often takes no more than its share, and isn't kept from a processor for long. */
+uint64_t mu_rests_pace(const mu_rests *rests, uint32_t running, uint32_t processors);
 
 /* Another replica is known to have ended: the rests of the next eighty cycles are none. It counts as failed the
  * sooner, and another leads. */

@@ -56,6 +56,9 @@ inline void accept(std::uint32_t status, const std::string &told = {})
         throw Refused(status, told);
 }
 
+/* Room for what is long: a text that has too little is made twice. */
+constexpr std::size_t MANY_BYTES = std::size_t{1} << 20, MOST_TEXT = 64;
+
 /* The status and the whole text of a call, which is made again if the first room was too small. */
 template <typename Call> std::pair<std::uint32_t, std::string> told(Call call, std::size_t room = 4096)
 {
@@ -74,13 +77,11 @@ template <typename Call> std::pair<std::uint32_t, std::string> told(Call call, s
 inline std::string expected_of(std::string_view line)
 {
     const std::string job = "mu 1\nreplicas 1\nring 8\nbudget 1\nclient 0\n" + std::string(line) + "\nend\n";
-    const auto [status, text] = told([&](char *out, std::size_t room, std::size_t *taken) {
+    const auto text = told([&](char *out, std::size_t room, std::size_t *taken) {
         return mu_answer(MU_WHY, job.data(), job.size(), out, room, taken);
-    });
-    const std::size_t at = text.find("expected: ");
-    if (status != MU_REFUSED || text.compare(0, 15, "refused line 6 ") != 0 || at == std::string::npos)
-        return {};
-    return text.substr(at, text.find('\n', at) - at);
+    }).second;
+    const std::size_t at = text.rfind("refused line 6 ", 0) == 0 ? text.find("expected: ") : text.npos;
+    return at == text.npos ? "" : text.substr(at, text.find('\n', at) - at);
 }
 
 /* Throws what was refused of a command. */
@@ -128,11 +129,10 @@ public:
     std::optional<Reply> reply_in_time(std::uint64_t row, std::uint32_t rounds = 10000)
     {
         std::uint32_t kind = 0;
-        auto [status, text] = told(
-            [&](char *out, std::size_t room, std::size_t *taken) {
-                return mu_engine_until(&held, row, rounds, &kind, out, room, taken);
-            },
-            64);
+        const auto call = [&](char *out, std::size_t room, std::size_t *taken) {
+            return mu_engine_until(&held, row, rounds, &kind, out, room, taken);
+        };
+        auto [status, text] = told(call, MOST_TEXT);
         if (status == MU_UNFINISHED)
             return std::nullopt;
         accept(status);
@@ -154,9 +154,10 @@ public:
     /* The commands and the events so far of the era under way, as a trace. */
     std::string trace()
     {
-        auto [status, text] = told([&](char *out, std::size_t room, std::size_t *taken) {
+        const auto call = [&](char *out, std::size_t room, std::size_t *taken) {
             return mu_engine_trace(&held, out, room, taken);
-        });
+        };
+        auto [status, text] = told(call, MANY_BYTES);
         accept(status);
         return std::move(text);
     }
@@ -266,11 +267,10 @@ public:
     std::optional<Reply> reply(std::uint32_t row)
     {
         std::uint32_t kind = 0;
-        auto [status, text] = told(
-            [&](char *out, std::size_t room, std::size_t *taken) {
-                return mu_replica_reply(&held, row, &kind, out, room, taken);
-            },
-            64);
+        const auto call = [&](char *out, std::size_t room, std::size_t *taken) {
+            return mu_replica_reply(&held, row, &kind, out, room, taken);
+        };
+        auto [status, text] = told(call, MOST_TEXT);
         if (status == MU_UNFINISHED)
             return std::nullopt;
         accept(status);
@@ -279,11 +279,10 @@ public:
     /* Its newest event, as a line of a trace; empty if it has none. */
     std::string event()
     {
-        auto [status, text] = told(
-            [&](char *out, std::size_t room, std::size_t *taken) {
-                return mu_replica_event(&held, out, room, taken);
-            },
-            192);
+        const auto call = [&](char *out, std::size_t room, std::size_t *taken) {
+            return mu_replica_event(&held, out, room, taken);
+        };
+        auto [status, text] = told(call, 192);
         if (status != MU_UNFINISHED)
             accept(status);
         return std::move(text);

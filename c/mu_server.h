@@ -32,7 +32,8 @@ uint32_t mu_server_new(mu_server *server, uint32_t replicas);
 uint32_t mu_server_open(mu_server *server, uint32_t *number);
 
 /* Takes the first `*taken` of the bytes that came on a connection: all that there is room for. MU_DONE,
- * or MU_NO_MEMORY, and none is taken. `length` isn't 0. Takes none of a connection that there isn't. */
+ * or MU_NO_MEMORY, and none is taken. `length` isn't 0. Takes none by a number that no connection had;
+ * what is taken of one that was closed is let go. */
 uint32_t mu_server_take(mu_server *server, uint32_t number, const void *bytes, size_t length,
                         size_t *taken);
 

@@ -43,13 +43,14 @@ static int all_read(struct asked *asked, char *const *words)
     return words_read(&asked->plan, words, own_read, asked);
 }
 
-static void card_asked(struct card *card, const struct asked *asked, const struct segment *segment, uint32_t self)
+/* A card that isn't open yet. */
+static struct card card_asked(const struct asked *asked, const struct segment *segment, uint32_t self)
 {
-    card->plan = &asked->plan;
-    card->provider = asked->provider;
-    card->limit = asked->limit * MILLISECOND;
-    card->self = self;
-    card->word_bytes = segment ? word_bytes(segment) : 8;
+    return (struct card){ .plan = &asked->plan,
+                          .provider = asked->provider,
+                          .limit = asked->limit * MILLISECOND,
+                          .self = self,
+                          .word_bytes = segment ? word_bytes(segment) : 8 };
 }
 
 /* The notes of a run, and on one machine the words: 0, or a status. */
@@ -73,27 +74,18 @@ static int segment_made(const struct asked *asked, const char *job, size_t lengt
 /* Opens the way to all hosts and runs the replica: 0, or 1 if it can't. */
 static int one_replica(const struct asked *asked, struct segment *segment, const struct hosts *hosts, uint32_t id, int is_alone)
 {
-    struct network *network = calloc(1, sizeof *network);
-    if (network == NULL)
-        return 1;
-    network->hosts = hosts;
-    network->linger = asked->linger * MILLISECOND;
-    card_asked(&network->card, asked, segment, id);
-    int status = network_opened(network) || run_networked(segment, network, is_alone);
-    card_close(&network->card);
-    free(network);
+    struct network network = { .card = card_asked(asked, segment, id), .hosts = hosts, .linger = asked->linger * MILLISECOND };
+    int status = network_opened(&network) || run_networked(segment, &network, is_alone);
+    card_close(&network.card);
     return status;
 }
 
+/* Serves words, until somebody ends it: 1 if it can't. */
 static int one_memory(const struct asked *asked, const struct segment *segment, const struct host *at, void *words, size_t bytes)
 {
-    struct card *card = calloc(1, sizeof *card);
-    if (card == NULL || words == NULL)
-        return 1;
-    card_asked(card, asked, segment, 0);
-    int status = memory_serve(card, at, words, bytes) != 0;
-    card_close(card);
-    free(card);
+    struct card card = card_asked(asked, segment, 0);
+    int status = words == NULL || memory_serve(&card, at, words, bytes);
+    card_close(&card);
     return status;
 }
 
@@ -103,11 +95,10 @@ static int is_provider(const struct asked *asked)
     pid_t process;
     int status = 0, is_child = started(&process);
     if (is_child > 0) {
-        struct card card = { 0 };
-        card_asked(&card, asked, NULL, 0);
-        int wrong = card_open(&card, NULL) != 0;
+        struct card card = card_asked(asked, NULL, 0);
+        status = card_open(&card, NULL);
         card_close(&card);
-        _exit(wrong);
+        _exit(status != 0);
     }
     return is_child == 0 && waitpid(process, &status, 0) == process && WIFEXITED(status) && WEXITSTATUS(status) == 0;
 }
@@ -169,60 +160,69 @@ static int run_job(const void *with, const char *job, size_t length)
     return status ? status : told;
 }
 
-/* The hosts of a file, and which of them is meant: 0, or -1 and a line. */
-static int host_read(const struct asked *asked, const char *id, const char *name, struct hosts *hosts, uint64_t *host)
+/* A host of a file, by itself. */
+struct lone {
+    const struct asked *asked;
+    const char *name; /* of the file */
+    struct hosts hosts;
+    uint64_t id;
+};
+
+/* Reads the host's id, the file of hosts, the job if one is to follow, and the words behind: 0; or -1 and a line. */
+static int lone_read(struct lone *lone, struct asked *asked, char *const *words, int has_job)
 {
-    if (hosts_read(&asked->plan, hosts, name))
+    for (int k = 1; k < 3 + has_job; k++)
+        if (words[k] == NULL) {
+            say(&asked->plan, "%s: it should be `%s ID HOSTS%s`", words[0], words[0], has_job ? " JOB" : "");
+            return -1;
+        }
+    lone->asked = asked;
+    lone->name = words[2];
+    if (all_read(asked, words + 3 + has_job) || hosts_read(&asked->plan, &lone->hosts, lone->name))
         return -1;
-    return number_read(&asked->plan, "host", id, 0, hosts->count - 1, host);
+    return number_read(&asked->plan, "host", words[1], 0, lone->hosts.count - 1, &lone->id);
 }
 
-static int run_memory(struct asked *asked, int count, char **words)
+static int run_memory(struct asked *asked, char *const *words)
 {
-    struct hosts hosts;
-    uint64_t host = 0;
+    struct lone lone;
     size_t bytes = 0;
-    if (count < 4) {
-        say(&asked->plan, "memory: it should be `memory ID HOSTS`");
-        return STATUS_USAGE;
-    }
-    if (all_read(asked, words + 4) || host_read(asked, words[2], words[3], &hosts, &host))
+    if (lone_read(&lone, asked, words, 0))
         return STATUS_USAGE;
     void *at = memory_new(&bytes);
-    return one_memory(asked, NULL, &hosts.host[host], at, bytes) ? STATUS_NO_ANSWER : STATUS_DONE;
+    return one_memory(asked, NULL, &lone.hosts.host[lone.id], at, bytes) ? STATUS_NO_ANSWER : STATUS_DONE;
 }
 
-/* One replica by itself: when it has an end, what it has. */
-static int run_alone(struct asked *asked, int count, char **words)
+/* One replica of a job: when it has an end, what it has. */
+static int run_one(const void *with, const char *job, size_t length)
 {
-    struct hosts hosts;
+    const struct lone *lone = with;
+    const struct asked *asked = lone->asked;
     struct group group = { 0 };
     struct segment *segment = NULL;
-    uint64_t id = 0;
-    size_t length = 0;
-    if (count < 5) {
-        say(&asked->plan, "replica: it should be `replica ID HOSTS JOB`");
+    uint32_t id = (uint32_t)lone->id;
+    int status = segment_made(asked, job, length, &segment);
+    if (status)
+        return status;
+    if (lone->hosts.count != segment->layout.replicas) {
+        say(&asked->plan, "the job has %u replicas, and %s %u hosts", segment->layout.replicas, lone->name, lone->hosts.count);
         return STATUS_USAGE;
     }
-    if (all_read(asked, words + 5) || host_read(asked, words[2], words[3], &hosts, &id))
+    atomic_store(&segment->go, 1);
+    return one_replica(asked, segment, &lone->hosts, id, 1) ? STATUS_NO_ANSWER
+                                                            : print_report(stdout, segment, &group, id, id + 1);
+}
+
+static int run_replica_alone(struct asked *asked, char *const *words)
+{
+    struct lone lone;
+    if (lone_read(&lone, asked, words, 1))
         return STATUS_USAGE;
     if (asked->plan.trace || asked->plan.count) {
         say(&asked->plan, "replica: kills, stops and a trace are for all on one machine");
         return STATUS_USAGE;
     }
-    char *job = text_read(&asked->plan, words[4], &length);
-    int status = job ? segment_made(asked, job, length, &segment) : STATUS_USAGE;
-    free(job);
-    if (status)
-        return status;
-    if (hosts.count != segment->layout.replicas) {
-        say(&asked->plan, "the job has %u replicas, and %s %u hosts", segment->layout.replicas, words[3], hosts.count);
-        return STATUS_USAGE;
-    }
-    atomic_store(&segment->go, 1);
-    if (one_replica(asked, segment, &hosts, (uint32_t)id, 1))
-        return STATUS_NO_ANSWER;
-    return print_report(stdout, segment, &group, (uint32_t)id, (uint32_t)id + 1);
+    return job_run(&asked->plan, words[3], run_one, &lone);
 }
 
 int main(int count, char **words)
@@ -234,8 +234,8 @@ int main(int count, char **words)
         return STATUS_USAGE;
     }
     if (strcmp(words[1], "memory") == 0)
-        return run_memory(&asked, count, words);
+        return run_memory(&asked, words + 1);
     if (strcmp(words[1], "replica") == 0)
-        return run_alone(&asked, count, words);
+        return run_replica_alone(&asked, words + 1);
     return all_read(&asked, words + 2) ? STATUS_USAGE : job_run(&asked.plan, words[1], run_job, &asked);
 }

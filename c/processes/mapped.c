@@ -20,7 +20,7 @@ int mapped_make(void *with, const mu_operation *op, uint64_t *found, struct even
 int run_mapped(struct segment *segment, uint32_t id)
 {
     struct mapped mapped = { .segment = segment, .id = id };
-    struct memory memory = { .make = mapped_make, .with = &mapped };
+    struct memory memory = { .make = mapped_make, .is_shared = 1, .with = &mapped };
     return run_replica(segment, id, &memory);
 }
 

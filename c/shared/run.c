@@ -19,7 +19,7 @@ struct run {
     struct page *page;
     const struct memory *memory;
     struct event *event; /* the next, in a traced run */
-    mu_rests rests;
+    struct rests rests;
     uint32_t due; /* an enum mu_due, after the last access */
     uint32_t rung; /* how often its bell had been rung when its cycle began */
     struct last_seen seen;
@@ -115,7 +115,7 @@ static int is_turned(struct run *run)
     ring_if_asked(run, &op);
     if (op.kind == MU_RAISE && op.place == HEAD)
         publish_applied(run);
-    run->due = mu_rests_take(&run->rests, &op, found, run->id, rows_at(&run->segment->layout));
+    run->due = mu_rests_take(&run->rests.told, &op, found, run->id, rows_at(&run->segment->layout));
     return 1;
 }
 
@@ -129,7 +129,7 @@ static int is_woken(struct run *run)
         return 0;
     if (!memory->await_ask)
         bell_await(&run->page->bell, run->rung);
-    mu_rests_wake(&run->rests, now());
+    mu_rests_wake(&run->rests.told, now());
     append_new(run);
     return atomic_load(&run->segment->over) == 0;
 }
@@ -177,6 +177,9 @@ static int is_ready(struct run *run)
     atomic_store(&run->page->state, READY);
     await(run, &segment->go);
     rests_begin(&run->rests, run->memory->await_ask ? 1 : layout->replicas, segment->longest_nap);
+    for (uint32_t id = 0; run->memory->is_shared && id < hosts; id++)
+        if (id != run->id)
+            rests_watch(&run->rests, atomic_load(&page_of(segment, id)->process));
     return 1;
 }
 
@@ -209,6 +212,7 @@ int run_replica(struct segment *segment, uint32_t id, const struct memory *memor
         if (run.due != MU_NOT_DUE)
             rest(&run.rests);
     tell_all(&run);
+    rests_end(&run.rests);
     mu_replica_free(&run.replica);
     return 0;
 }

@@ -12,6 +12,7 @@ struct memory {
     int (*make)(void *with, const mu_operation *op, uint64_t *found, struct event *event);
     /* Sleeps until another replica asks this one: 1; or 0 if it has waited long enough. NULL if the bell of its page does. */
     int (*await_ask)(void *with);
+    int is_shared; /* the words are this machine's, and the kernel knows when one of its processes ends */
     void *with;
 };
 

@@ -20,6 +20,8 @@ TASKS = {"replay": 1, "trace": 2, "check": 3, "why": 4, "book": 5, "bulk": 6, "t
 # A job up to its first command, which stands in line 6.
 JOB_BEFORE, REFUSED_THERE, EXPECTED = b"mu 1\nreplicas 1\nring 8\nbudget 1\nclient 0\n", b"refused line 6 ", b"expected: "
 LAST_STEP, LAST_NUMBER, LAST_ROW, NOBODY = 9_999_999, 4_294_967_295, 18_446_744_073_709_551_615, 255
+# Room for what is long: a text that has too little is made twice.
+MANY_BYTES = 1 << 20
 TOP = os.path.dirname(os.path.dirname(os.path.dirname(os.path.abspath(__file__))))
 SIZE, TEXT, NUMBER, WIDE = ctypes.c_size_t, ctypes.c_char_p, ctypes.c_uint32, ctypes.c_uint64
 
@@ -270,7 +272,7 @@ class Engine(Owner):
 
     def trace(self):
         """The commands and the events so far of the era under way, as a trace."""
-        status, text = told(library.mu_engine_trace, self.held)
+        status, text = told(library.mu_engine_trace, self.held, room=MANY_BYTES)
         accepted(status)
         return text
 

@@ -4,9 +4,10 @@
     tools/library/play_library.py                        1,000,000 calls, and 10,000 runs with a stray word
     tools/library/play_library.py CALLS RUNS [SEED]
 
-Calls (tools/library/calls/) go to judges, engines, replicas and rests that are there or not, with wrong numbers and lines and any
-room: under the sanitizers of addresses and of undefined behaviour, and a twentieth under valgrind. Nothing may change after
-a refusal, nothing be lost, nothing be reported. Into each run of replicas over an array (tools/library/strays.c) one word is written
+Calls (tools/library/calls/) go to judges, engines, replicas, rests and servers that are there or not, with wrong numbers and lines
+and any room: under the sanitizers of addresses and of undefined behaviour, and a twentieth under valgrind. Nothing may change after
+a refusal, nothing be lost, nothing be reported. Replicas on threads (tools/library/threads.c) run under the thread sanitizer: no race
+is reported, and no two tell different things. Into each run of replicas over an array (tools/library/strays.c) one word is written
 from outside: what `take` refuses has to be just what docs/ALONE.md says, and what became of the run is counted.
 
 The library is out/libmu.a, as ./library leaves it, or that of the folder $LIBMU_AT. One that isn't proved has checks; one of
@@ -32,6 +33,8 @@ SANITIZED = ["-O1", "-g", "-fsanitize=address,undefined", "-fno-sanitize-recover
 CALLS, RUNS = 1_000_000, 10_000
 # Under valgrind a call takes some thirty times as long.
 WATCHED_PART = 20
+# One run on threads for so many calls.
+CALLS_A_RUN = 5_000
 # How a run with a stray word may end.
 ENDS = re.compile(rb"(\w+) (\d+)[,;]")
 FAULTS = re.compile(rb"refused: (\d+), and refused that are to be taken: (\d+)")
@@ -79,6 +82,16 @@ def calls_played(folder, calls, seed):
     return tried, [it for it in wrong if it], left
 
 
+def threads_played(folder, runs, seed):
+    """How many ways were tried, what was wrong, and what is left out here."""
+    words = ["-O1", "-g", "-pthread", "-fsanitize=thread", "-I", os.path.join(TOP, "c", "shared")]
+    program = built(folder, "threads", words, [os.path.join(HERE, "threads.c")])
+    if program is None:
+        return 0, [], ["replicas on threads with the thread sanitizer, which the compiler lacks"]
+    fault = fault_of([program, str(runs), str(seed)], f"{runs} runs on threads")
+    return 1, [fault] if fault else [], []
+
+
 def strays_played(folder, runs, seed):
     """How the runs with a stray word ended, and in how many words `take` and the page differ."""
     program, ends, faults = built(folder, "strays", ["-O2"], [os.path.join(HERE, "strays.c")]), Counter(), 0
@@ -102,7 +115,9 @@ def played(calls, runs, seed=1):
     """How much was tried, what was wrong, what is left out here, and how the runs with a stray word ended."""
     with tempfile.TemporaryDirectory(prefix="played-") as folder:
         tried, wrong, left = calls_played(folder, calls, seed)
+        more, races, missing = threads_played(folder, max(1, calls // CALLS_A_RUN), seed)
         ends, faults = strays_played(folder, runs, seed)
+    tried, wrong, left = tried + more, wrong + races, left + missing
     if faults:
         wrong.append(f"{faults} stray words were taken or refused otherwise than docs/ALONE.md says, from seed {seed}")
     return tried + 1, wrong, left, ends

@@ -2,15 +2,16 @@
 """Tries the library for C, out/libmu.a and out/libmu.so, as ./library leaves them, or those of the folder $LIBMU_AT.
 
     tools/library/try_library.py                 each call from C, C++ and Python, also on a stack of MU_STACK bytes;
-                                         a thousand engines, each let go, in little memory; sessions of a
-                                         live engine from each, with random commands, stops and pauses; the
-                                         examples of examples/own; a long session with stops and returns,
-                                         flat in memory and instructions; and that a list judged event by event gets
-                                         the answer of the whole trace, over the judged traces and the stored
-                                         ones
+                                                 a thousand engines, each let go, in little memory; sessions of a
+                                                 live engine from each, with random commands, stops and pauses; the
+                                                 examples of examples/own; a long session with stops and returns,
+                                                 flat in memory and instructions; how many bytes engines, stores, servers,
+                                                 a judge and a replica ask for; and that a list judged event by event gets
+                                                 the answer of the whole trace, over the judged traces and the stored
+                                                 ones
     tools/library/try_library.py FOLDER..        the same also over the traces of these folders of cases
     tools/library/try_library.py --quick         the same over no traces, and with few sessions: as ./test does with a library
-                                         without proofs
+                                                 without proofs
     tools/library/try_library.py --memory        how much memory a judge takes over a list of 64 MiB
 
 It needs a C compiler, and for C++ one that takes it.
@@ -51,6 +52,18 @@ SCHEDULES, QUICK_SCHEDULES = 1000, 20
 # So many engines and judges are let go, or left to Python, and the process takes no more than this many KiB more than
 # after the first few: one of them takes 7 MB.
 ENGINES, FIRST_ENGINES, MORE_KIB = 1_000, 20, 8_192
+# How many bytes the heap is asked for at most (tools/library/rooms.c): less than 4 % above what was measured, so a store, a
+# list of events or a connection of twice its room is above.
+ROOMS = {
+    "an engine of few keys": 13_984_000,
+    "an engine of 7, long eras": 38_685_000,
+    "an engine of many keys": 16_273_000,
+    "a server of one connection": 12_785_000,
+    "a server of 100 connections": 8_325_000,
+    "a server of 100 that read no answers": 10_461_000,
+    "a judge of a large job": 6_204_000,
+    "a replica of a large job": 1_168_000,
+}
 # A number that has more than 32 bits, and the greatest that hasn't.
 TOO_LARGE, LARGEST = 4_294_967_296, 4_294_967_295
 # What the example of an engine has to print: its store's replies, and a stop between them.
@@ -241,6 +254,15 @@ def try_letting_go(tried, mu_library):
         tried.expect(f"{ENGINES} engines, {how}: KiB more below {MORE_KIB}", resident() - first < MORE_KIB, True)
 
 
+def try_rooms(tried, folder, compiler):
+    """How many bytes are asked for at most, whatever is touched: counted by a heap in place of that of c/."""
+    run = subprocess.run([built(compiler, folder, "rooms", "-std=c11", os.path.join(HERE, "rooms.c"))], stdout=subprocess.PIPE, check=False)
+    told = dict(line.rsplit(": ", 1) for line in run.stdout.decode().splitlines())
+    tried.expect("rooms.c", (run.returncode, set(told)), (0, set(ROOMS)))
+    for name, most in ROOMS.items():
+        tried.expect(f"{name}: {told.get(name)} bytes, at most {most}", int(told.get(name, most + 1)) <= most, True)
+
+
 def try_own(tried, folder, compiler):
     """The implementations of examples/own, right and wrong, judged in their own process."""
     program = built(compiler, folder, "judged", "-std=c11", "-pthread", "-DWITH_MU", os.path.join(OWN, "replicas.c"))
@@ -355,6 +377,7 @@ def main():
         try_long(tried, mu_library, folder, compiler)
         try_python(tried, mu_library)
         try_letting_go(tried, mu_library)
+        try_rooms(tried, folder, compiler)
         try_own(tried, folder, compiler)
     if sys.argv[1:] != ["--quick"]:
         try_traces(tried, mu_library, stored_traces([os.path.join(TOP, "cases", "trace"), *sys.argv[1:]]))

@@ -31,7 +31,7 @@ EXPORT = re.compile(r'pub extern "C" fn (\w+)\((.*?)\)', re.S)
 GIVEN = {"Global": "alloc", "u32": "0", "&[u8]": "&[]", "&mut [u8]": "out.as_mut_slice()", "&mut usize": "&mut taken",
          "&mut u32": "&mut number_{}", "&mut Handle": "&mut handle", "u64": "0", "&mut u64": "&mut wide",
          "&mut Operation": "&mut operation", "&Operation": "&operation", "&mut State": "&mut state", "&mut Hold": "&mut hold",
-         "&mut Rests": "&mut resting"}
+         "&mut Rests": "&mut resting", "&Rests": "&resting"}
 TEST = """
 #[test]
 fn each_export_is_made(rt: HostRuntime) {

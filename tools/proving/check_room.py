@@ -2,7 +2,7 @@
 """Makes a room in which `rt check` finds the libraries that the gate has proved on this machine, or refreshes it.
 
     tools/proving/check_room.py ROOM          makes it, if it isn't there: do so when ./prove or `rt ci` has passed over these
-                                      sources. Else copies the sources there, and no more
+                                              sources. Else copies the sources there, and no more
 
 Then `cd ROOM/crates/NAME; rt check --only FUNCTION`. What a check in a crate's folder keeps and what the gate keeps are
 two things: in a new clone the first check proves all crates below its own, for half an hour, and in the room it begins

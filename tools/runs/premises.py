@@ -3,7 +3,7 @@
 
     tools/runs/premises.py TRACE [TRACE ..]   tells of each trace which premises hold, and whether what follows does
     tools/runs/premises.py                    runs the examples: for each clause a run that meets every premise, and for
-                                         each premise one that doesn't
+                                              each premise one that doesn't
 
 A clause whose premises no run meets promises nothing. The clauses are `lives` (its parts `committed` and `finished`)
 and `leads` of a replay, and `lives_if_fair` of a run. Bounds are computed from their definitions, and what a replica

@@ -3,7 +3,7 @@
 where want of memory is said without an allocator's error.
 
     tools/sources/surface.py        a line for each; the last line is `surface: N shown, N unused, N hidden, N uncited, N idle,
-                            N made up`
+                                    N made up`
 
 Looked at are lemma files (`pub mod` in proofs/Lib.antt, used by an import of the file), and what
 src/lib.rt shows of other crates (`pub use other::..`, used by an import of the name from this crate). A

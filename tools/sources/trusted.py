@@ -2,8 +2,8 @@
 """Lists what a proof rests on besides the proofs: each `unsafe`, each export, each access that C makes, each crate of the kit.
 
     tools/sources/trusted.py            the list
-    tools/sources/trusted.py --check    tells which crate of the kit, and which folder of C, README's "What is trusted" doesn't
-                                name, and which access in C the list lacks; ./test calls it
+    tools/sources/trusted.py --check    tells which crate of the kit, folder of C or library README's "What is trusted" doesn't
+                                        name, and which access in C the list lacks; ./test calls it
 
 The toolchain and the statements of its standard library are trusted too; they aren't in the sources.
 """
@@ -15,6 +15,7 @@ import sys
 
 import folders
 from beginning import begin
+import c_programs
 from library_parts import PARTS
 from programs import TOP, tell
 
@@ -105,15 +106,21 @@ def c_folders():
     return sorted({os.path.relpath(os.path.dirname(path), TOP) for path in files("c", ".c")})
 
 
+def linked():
+    """The libraries beside the C library with which a program of c/ is linked."""
+    words = [word for _, words in c_programs.PARTS.values() for word in words]
+    return sorted({f"lib{word[2:]}" for word in words if word.startswith("-l")})
+
+
 def judged():
-    """How many crates of the kit and folders of C there are, and the list of accesses; which of them README doesn't name as
+    """How many crates of the kit, folders of C and libraries there are, and the list of accesses; which of them README doesn't name as
     trusted, and which accesses the list lacks."""
     said = text_of(os.path.join(TOP, "README.md")).split("## What is trusted", 1)[1].split("\n## ", 1)[0]
     # `core`, `std_heap` and the like are the standard library.
     named = [name for name in kit_crates() if not re.fullmatch(r"core|std_\w+", name)]
     named += c_folders()
-    missing = [f"README.md: {it} isn't named among what is trusted" for it in named if f"`{it}`" not in said]
-    return len(named) + 1, [*missing, *unlisted()]
+    missing = [it for it in named if f"`{it}`" not in said] + [it for it in linked() if it not in said]
+    return len(named) + len(linked()) + 1, [*(f"README.md: {it} isn't named among what is trusted" for it in missing), *unlisted()]
 
 
 def main():
@@ -122,7 +129,7 @@ def main():
         count, wrong = judged()
         return tell(wrong, f"trusted: {count - len(wrong)} named, {len(wrong)} missing")
     for what, lines in (("unsafe", unsafes()), ("exports", exports()), ("accesses in C", accesses()),
-                        ("crates of the kit", kit_crates()), ("folders of C", c_folders())):
+                        ("crates of the kit", kit_crates()), ("folders of C", c_folders()), ("libraries", linked())):
         lines = list(lines)
         print(f"{what}: {len(lines)}", *(f"    {line}" for line in lines), sep="\n")
     return 0

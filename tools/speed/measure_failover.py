@@ -6,18 +6,28 @@
 PROGRAM is ./mu_processes, ./mu_fabric or what they run. The leader of a job of 800 commands (60 over a network) is killed
 once a random number of entries is decided. Told are microseconds from the kill until another replica first asks to be
 granted, and until the put by which another's first entry is committed: least, 10 %, middle, 90 %, 99 %, most. Runs in
-which somebody else had asked before the kill are left out, and counted. With `fifo` all run at real-time rank.
+which somebody else had asked before the kill are left out, and counted. With `fifo` all run at real-time rank, and with
+`load=N` beside so many loops that do nothing.
+
+Of `mu`, whose `run` has threads, nobody can be killed, and nobody tells moments: told is how long its threads take if nobody
+stops, in the middle, and how much longer if the leader is stopped by the script at a random step.
 """
 import os
 import random
 import re
+import statistics
 import subprocess
 import sys
 import tempfile
 
 import folders
 from beginning import begin
+from measure_processes import microseconds
+from measure_speed import even, job
+from own_traces import preloaded
 
+# So many steps of the leader of three are a command.
+STEPS = 28
 MOMENT = re.compile(r"moment (\d) (\w+)(?: (\d+))? at ([\d.]+)(?: put at ([\d.]+))?")
 
 
@@ -46,14 +56,49 @@ def part(values, percent):
     return sorted(values)[min(len(values) - 1, len(values) * percent // 100)]
 
 
+def parts_of(name, values):
+    return f"{name}: " + ", ".join(f"{part(values, percent):,.0f}" for percent in (0, 10, 50, 90, 99, 100))
+
+
+def threads(program, replicas, stops, first):
+    """Runs of threads in turn, whole and with a leader that stops."""
+    draw, whole, stopped, unfinished = random.Random(1), [], [], 0
+    with tempfile.TemporaryDirectory(prefix="failover-") as room:
+        path, loaded = os.path.join(room, "job"), preloaded("spans", room)
+        for _ in range(stops):
+            for times, script in ((whole, []), (stopped, [(0, draw.randint(50, 500) * STEPS)])):
+                with open(path, "wb") as out:
+                    out.write(job(replicas, even(800), 2, 1, stops=script))
+                took, is_whole = microseconds(program, path, loaded, first)
+                unfinished += not is_whole
+                times.append(took)
+    middle = statistics.median(whole)
+    print(f"threads take {middle:,.0f} in the middle; " + parts_of("longer if the leader stops", [it - middle for it in stopped]))
+    print(f"{stops} stops; not all commands done: {unfinished} of {2 * stops} runs")
+
+
 def main():
     begin(__doc__)
+    words = sys.argv[4:]
+    load = [int(word[5:]) for word in words if word.startswith("load=")]
+    loops = [subprocess.Popen(["timeout", "600", "bash", "-c", "while :; do :; done"]) for _ in range(sum(load))]
+    try:
+        return measured([word for word in words if not word.startswith("load=")])
+    finally:
+        for loop in loops:
+            loop.terminate()
+
+
+def measured(words):
     if len(sys.argv) < 4:
         print(__doc__)
         return 2
-    program, replicas, kills, words = os.path.abspath(sys.argv[1]), int(sys.argv[2]), int(sys.argv[3]), sys.argv[4:]
+    program, replicas, kills = os.path.abspath(sys.argv[1]), int(sys.argv[2]), int(sys.argv[3])
     is_fifo, is_fabric = "fifo" in words, "fabric" in os.path.basename(program)
     words = [word for word in words if word != "fifo"]
+    if os.path.basename(program) == "mu":
+        threads(program, replicas, kills, ["chrt", "-f", "1"] if is_fifo else [])
+        return 0
     commands, draw, told, left, unfinished = (60 if is_fabric else 800), random.Random(1), [], {}, 0
     with tempfile.TemporaryDirectory(prefix="failover-") as room:
         job = os.path.join(room, "job")
@@ -70,7 +115,7 @@ def main():
             else:
                 told.append(times)
     for name, values in zip(("asks", "commits"), zip(*told)):
-        print(f"{name}: " + ", ".join(f"{part(values, percent):,.0f}" for percent in (0, 10, 50, 90, 99, 100)))
+        print(parts_of(name, values))
     print(f"{len(told)} kills; left out: {left or 'none'}; not all commands done: {unfinished}")
     return 0
 

@@ -1,11 +1,13 @@
 #!/usr/bin/env python3
 """Whether each thin line of a picture, whom a replica names, says at each drawn step what holds then.
 
-    tools/tests/drawn_names.py                         the drawings of tools/accounts/picture_cases.py, which ./test compares with those
-                                                 of mu_draw, of all stored legal traces: whole and from the middle on, in
-                                                 brief and not; whom a replica names is computed by tools/accounts/account.py
-    tools/tests/drawn_names.py MU_DRAW MU [TRACE ..]   these or the stored traces, drawn by this program; at the first, the last
-                                                 and two other rows whom each names is what `mu show` says
+    tools/tests/drawn_names.py                         the drawings of tools/accounts/picture_cases.py, which ./test
+                                                       compares with those of mu_draw, of all stored legal traces:
+                                                       whole and from the middle on, in brief and not; whom a
+                                                       replica names is computed by tools/accounts/account.py
+    tools/tests/drawn_names.py MU_DRAW MU [TRACE ..]   these or the stored traces, drawn by this program; at the first,
+                                                       the last and two other rows whom each names is what `mu show`
+                                                       says
 
 The status is 1 if a line lies.
 """

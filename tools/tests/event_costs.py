@@ -3,7 +3,7 @@
 many, by instructions (`valgrind --tool=callgrind`): a cost that grows with what is known, or with the rows, fails.
 
     tools/tests/event_costs.py      the program that ./prove left, or an unproved build; the last line is
-                              `N passed, M failed`
+                                    `N passed, M failed`
 
 No clause says so: contracts say which row is next, and not over how many it was looked for.
 """

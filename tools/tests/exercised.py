@@ -2,7 +2,7 @@
 """Tells what a run exercised, of what its judgement rests on: `legal` says only that what happened was allowed.
 
     tools/tests/exercised.py TRACE ..     of each trace a line with how often each of these occurred, and what didn't;
-                                    of several also one of all. What never occurred is untested
+                                          of several also one of all. What never occurred is untested
     tools/tests/exercised.py              compares itself with plain counts over the traces of examples/
 
     leaders          replicas that put an entry

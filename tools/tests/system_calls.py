@@ -5,7 +5,7 @@ The threads of `mu run` yield for each round
 of a pause, and sleep while nothing gets done, but not long (if there is a C compiler: a C file is loaded that counts).
 
     tools/tests/system_calls.py      the program that ./prove left, or an unproved build; the last line is
-                               `N passed, M failed`
+                                     `N passed, M failed`
 
 No clause says so: a contract speaks of the bytes that were read and written, and a source or a sink may take fewer than it
 is handed; and that a yield or a sleep was asked of the system no contract can say.

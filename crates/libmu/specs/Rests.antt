@@ -1,5 +1,5 @@
--- sign of, due told: what an access as C makes it shows, and what C is told of rests.
-use Rattle.std.specs.Prelude.{if◌then◌else◌, nat_le, ℕ, ◌&&◌, ◌==◌, ◌||◌}
+-- sign of, due told, pace of: what an access as C makes it shows, and what C is told of rests.
+use Rattle.std.specs.Prelude.{if◌then◌else◌, nat_le, nat_lt, ℕ, ◌&&◌, ◌==◌, ◌||◌}
 use Rattle.libmu.specs.declared.Operation.{Operation}
 use Rattle.mu_rest.specs.Rests.{may_rest}
 use Rattle.mu_rest.specs.declared.rests.Rests.{Rests}
@@ -39,3 +39,9 @@ abbrev pub due_told : Rests → ℕ
 due_told rests =
     if rests.progress.ended then (if nat_le 2 rests.progress.quiet then 3 else 2)
     else (if may_rest rests then 1 else 0)
+
+-- the least rest after the last step, in nanoseconds, if so many tasks want to run on so many
+-- processors: a pause after each cycle, if there are fewer processors
+abbrev pub pace_of : Rests → ℕ → ℕ → ℕ
+pace_of rests running processors =
+    if rests.progress.ended && nat_lt processors running then 100_000 else 0

@@ -1,6 +1,6 @@
 //! The calls for C on how long a process rests between the steps of its replica.
 ghost use Rattle.std.specs.Prelude.{List, [], nat_lt, ◌==◌, ◌∷◌, ◌≡◌};
-ghost use Rattle.libmu.specs.Rests.{due_told, sign_of, sign_of_compare, sign_of_load, sign_of_store};
+ghost use Rattle.libmu.specs.Rests.{due_told, pace_of, sign_of, sign_of_compare, sign_of_load, sign_of_store};
 ghost use Rattle.mu_rest.specs.Cycles.{BeginsAmong, BeginsCycle};
 ghost use Rattle.mu_rest.specs.Rests.{HasSettings, Hastens, StandsForRests, Tells};
 ghost use Rattle.mu_rest.specs.Signs.{IsOfSeven};
@@ -42,6 +42,9 @@ const MAY_BE_DUE: u32 = 1;
 const CYCLE_ENDED: u32 = 2;
 
 const QUIET: u32 = 3;
+
+/// How long a process pauses after each cycle if others keep it from a processor, in nanoseconds.
+const PACE: u64 = 100_000;
 
 /// So many cycles without a change are quiet: in one a replica sees each ask.
 const QUIET_CYCLES: u16 = 2;
@@ -95,6 +98,19 @@ pub extern "C" fn mu_rests_due(rests: &mut Rests, moment: u64, awake: &mut u32) 
     let rest = rests.rest(moment);
     *awake = u32::from(rest.awake);
     rest.nanoseconds
+}
+
+/// The least rest after the last step, if so many tasks want to run on so many processors. It isn't
+/// counted as a rest of the cycle.
+#[unsafe(no_mangle)]
+pub extern "C" fn mu_rests_pace(rests: &Rests, running: u32, processors: u32) -> u64
+    ensures { result ≡ pace_of rests.now running processors }
+{
+    if rests.has_ended_cycle() && processors < running {
+        PACE
+    } else {
+        0
+    }
 }
 
 /// A cycle begins after a sleep that was no rest: there is something to do.

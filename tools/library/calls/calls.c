@@ -1,6 +1,7 @@
-/* Random calls of mu.h in random order: on what is there and what isn't, with wrong numbers and lines, and room for all of a text,
- * some or none. After a refusal what can be seen of a judge, an engine or a replica has to be as it was; nothing may be written
- * behind the room of a text, nor a number told by a call that tells none. Built with sanitizers, or run by valgrind, it finds more.
+/* Random calls of mu.h and mu_server.h in random order: on what is there and what isn't, with wrong numbers and lines, and room
+ * for all of a text, some or none. After a refusal what can be seen of a judge, an engine, a replica or a server has to be as it
+ * was; nothing may be written behind the room of a text, nor a number told by a call that tells none. Built with sanitizers, or
+ * run by valgrind, it finds more.
  *
  *     cc -std=c11 -Ic tools/library/calls/calls.c (and the others there) out/libmu.a -o calls && ./calls CALLS SEED */
 #include "calls.h"
@@ -38,8 +39,10 @@ int main(int count, char **given)
             play_rests();
         else if (kind < 16)
             play_judge();
-        else if (kind < 40)
+        else if (kind < 36)
             play_engine();
+        else if (kind < 44)
+            play_server();
         else
             play_replica();
     }
@@ -48,6 +51,7 @@ int main(int count, char **given)
         mu_engine_free(&calls.engines[k]);
     }
     end_replicas();
+    end_servers();
     free(calls.out);
     printf("%llu calls, %llu refused or asked: nothing changed by these\n", (unsigned long long)calls.count,
            (unsigned long long)calls.refusals);

@@ -47,6 +47,8 @@ void play_judge(void);
 void play_engine(void);
 void play_replica(void);
 void play_rests(void);
+void play_server(void);
 void end_replicas(void);
+void end_servers(void);
 
 #endif

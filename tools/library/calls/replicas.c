@@ -44,7 +44,10 @@ static void step_replica(uint32_t k)
         expect(due <= MU_QUIET, "what is due");
         if (below(4) == 0)
             expect(mu_rests_due(&calls.rests, below(8) ? n * 1000 : any_word(), &awake) <= 8192000 && awake <= 1, "a rest");
-        calls.count += 4;
+        uint32_t running = below(9), processors = below(9);
+        uint64_t pace = mu_rests_pace(&calls.rests, running, processors);
+        expect(pace == (due >= MU_CYCLE_ENDED && processors < running ? 100000 : 0), "a pause");
+        calls.count += 5;
     }
 }
 
@@ -109,6 +112,8 @@ void play_rests(void)
         expect(guarded[k] == UINT64_C(0x5a5a5a5a5a5a5a5a), "rests that are larger than mu.h says");
     memcpy(&calls.rests, guarded, sizeof calls.rests);
     mu_rests_wake(&calls.rests, any_word());
+    if (below(4) == 0)
+        mu_rests_hasten(&calls.rests);
 }
 
 void end_replicas(void)

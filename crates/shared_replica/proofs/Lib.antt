@@ -1,0 +1,2 @@
+mod Bringing
+mod Knowing

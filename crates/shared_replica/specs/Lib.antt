@@ -1,0 +1,3 @@
+pub mod Knowing
+pub mod Standing
+pub mod Orders
