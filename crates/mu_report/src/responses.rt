@@ -4,7 +4,7 @@ ghost use Rattle.std.specs.Fmt.{decimal};
 ghost use Rattle.std.specs.Io.KnownBytes.{Appends};
 ghost use Rattle.mu_io.specs.Faults.{Rose};
 ghost use Rattle.mu_report.specs.declared.line.TheConstants.{LINE_BYTES};
-ghost use Rattle.mu_report.specs.Responses.{response_line, responses_text};
+ghost use Rattle.mu_report.specs.Responses.{help_words, response_line, responses_text};
 ghost use Rattle.mu_report.specs.Words.{name_of};
 
 use crate::line::{HasLine, Line, print_each};
@@ -28,6 +28,10 @@ pub enum Response {
     Stops(u8),
     /// This replica is passed over for this many rounds.
     Pauses(u8, u32),
+    /// Nothing holds this replica from here on.
+    Back(u8),
+    /// The lines that a session takes.
+    Help,
     /// Nothing is done.
     Refused {
         /// The number of the line, counted from 1.
@@ -47,6 +51,8 @@ impl HasLine for Response {
             Response::Client(client) => client_line(*client),
             Response::Stops(replica) => stop_line(*replica),
             Response::Pauses(replica, rounds) => pause_line(*replica, *rounds),
+            Response::Back(replica) => back_line(*replica),
+            Response::Help => help_line(),
             Response::Refused { line, cause } => refusal(*line, *cause),
         }
     }
@@ -83,6 +89,29 @@ fn stop_line(replica: u8) -> Line
     line.push(b"replica ");
     line.push_number(u64::from(replica));
     line.push(b" stops");
+    line
+}
+
+/// A replica that nothing holds from here on.
+fn back_line(replica: u8) -> Line
+    ensures bytes { result ≡ codes "replica " ++ decimal replica ++ codes " is back" }
+    ensures room { length result < LINE_BYTES }
+{
+    let mut line = Line::new();
+    line.push(b"replica ");
+    line.push_number(u64::from(replica));
+    line.push(b" is back");
+    line
+}
+
+/// The lines that a session takes.
+fn help_line() -> Line
+    ensures bytes { result ≡ help_words }
+    ensures room { length result < LINE_BYTES }
+{
+    let mut line = Line::new();
+    line.push(b"put K V, get K, del K, cas K O V, swap K V, ");
+    line.push(b"client C, stop R, pause R ROUNDS, back R, help");
     line
 }
 

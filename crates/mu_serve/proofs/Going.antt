@@ -22,7 +22,7 @@ use Rattle.mu_serve.specs.Sessions.{Answers, AnswersAll, AnswersSaid, PausesGoin
 use Rattle.mu_serve.specs.declared.incoming.Incoming.{Incoming}
 use Rattle.mu_serve.specs.declared.TheConstants.{SESSION_LIMIT}
 use Rattle.mu_serve.specs.declared.session_lines.SessionLine.{SessionLine}
-use Rattle.mu_serve.specs.declared.session_lines.SessionLine.TheVariants.{Client, Operation, Stop, Pause}
+use Rattle.mu_serve.specs.declared.session_lines.SessionLine.TheVariants.{Client, Operation, Stop, Pause, Back, Help}
 use Rattle.mu_serve.specs.declared.waiting.Waiting.{Waiting}
 
 -- an answer counts its line; of the commands that wait it adds one at most, and it tells of each of
@@ -125,6 +125,12 @@ counts_said (Says (Stop r)) before after responses stops =
     counts_stopped (is_stopped (slice_get before.live.holds r)) r before after responses stops
 counts_said (Says (Pause r rounds)) before after responses pauses =
     counts_paused (is_stopped (slice_get before.live.holds r)) r rounds before after responses pauses
+counts_said (Says (Back r)) before after responses back =
+    counts_one before after responses _ back.0 (ap (λ t. t.waiting) back.1)
+    (ap (λ t. t.count) back.1)
+counts_said (Says Help) before after responses helps =
+    counts_one before after responses _ helps.0 (ap (λ t. t.waiting) helps.1)
+    (ap (λ t. t.count) helps.1)
 
 counts : (line : List ℕ) (before after : Talk) (responses : List Response)
     → Answers before line responses after → Counts before after responses

@@ -26,7 +26,7 @@ use Rattle.mu_serve.specs.Laws.{WasTold}
 use Rattle.mu_serve.specs.SessionLines.{said_of}
 use Rattle.mu_serve.specs.Sessions.{Answers, AnswersAll, AnswersSaid, AreKnown, IsAfter, IsNext, PausesGoing, Refuses, Serves, ServesIfRoom, StopsOnce, Talk, WaitsFor, first_talk, is_stopped, next_waiting, own_response, own_waiting, shape_of, still_of, told_of, with_submitted}
 use Rattle.mu_serve.specs.declared.session_lines.SessionLine.{SessionLine}
-use Rattle.mu_serve.specs.declared.session_lines.SessionLine.TheVariants.{Client, Operation, Stop, Pause}
+use Rattle.mu_serve.specs.declared.session_lines.SessionLine.TheVariants.{Client, Operation, Stop, Pause, Back, Help}
 use Rattle.mu_serve.specs.declared.waiting.Waiting.{Waiting}
 
 -- rounds add events alone
@@ -170,6 +170,12 @@ stops_other r command reply same = cc
 
 pauses_other : (r rounds : ℕ) → IsOther (response.Pauses r rounds)
 pauses_other r rounds command reply same = cc
+
+back_other : (r : ℕ) → IsOther (response.Back r)
+back_other r command reply same = cc
+
+help_other : IsOther response.Help
+help_other command reply same = cc
 
 none_other : (own : Request) → IsOther (response.NoReply own)
 none_other own command reply same = cc
@@ -342,6 +348,12 @@ leads_said (Says (Stop r)) before after responses at stops =
 leads_said (Says (Pause r rounds)) before after responses at pauses =
     leads_paused (is_stopped (slice_get before.live.holds r)) r rounds before after responses at
     pauses
+leads_said (Says (Back r)) before after responses at back =
+    leads_still before after responses _ at (back_other r) back.0 (ap (λ t. t.live.job) back.1)
+    (ap (λ t. t.live.events) back.1) (ap (λ t. t.waiting) back.1)
+leads_said (Says Help) before after responses at helps =
+    leads_still before after responses _ at help_other helps.0 (ap (λ t. t.live.job) helps.1)
+    (ap (λ t. t.live.events) helps.1) (ap (λ t. t.waiting) helps.1)
 
 leads_line : (line : List ℕ) (before after : Talk) (responses : List Response) → StandsAt before
     → Answers before line responses after → Leads before after responses

@@ -1,6 +1,6 @@
--- session line: what a line of a session says: a command as in a job, the client from here on, a stop
--- or a pause of a replica, or the cause why it says nothing.
-use Rattle.std.specs.Prelude.{ℕ, ◌<◌, ◌≤◌, List, [], ◌∷◌, length, nat_lt, codes, None, Some, if◌then◌else◌}
+-- session line: what a line of a session says: a command as in a job, the client from here on, a stop,
+-- a pause or the end of both of a replica, which lines there are, or the cause why it says nothing.
+use Rattle.std.specs.Prelude.{ℕ, ◌<◌, ◌≤◌, List, [], ◌∷◌, length, nat_lt, codes, None, Some, ⊤, if◌then◌else◌}
 use Rattle.std.specs.declared.option.Option.{Option}
 use Rattle.kv_store.specs.Commands.{HasShortTexts}
 use Rattle.kv_store.specs.declared.command.Op.{Op}
@@ -12,7 +12,7 @@ use Rattle.mu_text.specs.Lines.{is_first, words}
 use Rattle.mu_text.specs.Numbers.{below, number_of, within}
 use Rattle.mu_text.specs.declared.line_text.TheConstants.{LINE_BYTES}
 use Rattle.mu_serve.specs.declared.session_lines.SessionLine.{SessionLine}
-use Rattle.mu_serve.specs.declared.session_lines.SessionLine.TheVariants.{Client, Operation, Stop, Pause}
+use Rattle.mu_serve.specs.declared.session_lines.SessionLine.TheVariants.{Client, Operation, Stop, Pause, Back, Help}
 
 -- the client of this number, if there may be one
 abbrev pub client_numbered : Option ℕ → Line SessionLine
@@ -34,6 +34,16 @@ stop_of (Some replica) = Says (Stop replica)
 abbrev pub stop_line : ℕ → List (List ℕ) → Line SessionLine
 stop_line replicas (name ∷ replica ∷ []) = stop_of (below replicas (number_of replica))
 stop_line replicas _ = Wrong SCRIPT
+
+-- the end of what holds this replica, if there is one
+abbrev pub back_of : Option ℕ → Line SessionLine
+back_of None = Wrong SCRIPT
+back_of (Some replica) = Says (Back replica)
+
+-- a line `back R`
+abbrev pub back_line : ℕ → List (List ℕ) → Line SessionLine
+back_line replicas (name ∷ replica ∷ []) = back_of (below replicas (number_of replica))
+back_line replicas _ = Wrong SCRIPT
 
 -- the pause of this replica for this many rounds, if there are both
 abbrev pub pause_of : Option ℕ → Option ℕ → Line SessionLine
@@ -68,6 +78,8 @@ session_line replicas words =
     if is_first (codes "client") words then client_line words
     else if is_first (codes "stop") words then stop_line replicas words
     else if is_first (codes "pause") words then pause_line replicas words
+    else if is_first (codes "back") words then back_line replicas words
+    else if is_first (codes "help") words then Says Help
     else command_line (operation_of words)
 
 -- what a line says: nothing if it is longer than a line may be
@@ -81,5 +93,7 @@ abbrev pub IsInReach : ℕ → SessionLine → Type 0
 IsInReach replicas (Client client) = client < MOST_CLIENTS
 IsInReach replicas (Operation op) = HasShortTexts op
 IsInReach replicas (Stop replica) = replica < replicas
+IsInReach replicas (Back replica) = replica < replicas
+IsInReach replicas Help = ⊤
 IsInReach replicas (Pause replica rounds) =
     (replica < replicas) × (1 ≤ rounds) × (rounds ≤ MOST_ROUNDS)

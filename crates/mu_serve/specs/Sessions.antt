@@ -4,7 +4,7 @@ use Rattle.std.specs.declared.option.Option.{Option}
 use Rattle.std.specs.List.{slice_get}
 use Rattle.kv_store.specs.declared.command.Op.{Op}
 use Rattle.kv_store.specs.declared.store.Reply.{Reply}
-use Rattle.mu_engine.specs.Live.{Live, after_round, changed_at, first_live, next_command, paused, stopped, submitted}
+use Rattle.mu_engine.specs.Live.{Live, after_round, changed_at, first_live, free, held, next_command, paused, stopped, submitted}
 use Rattle.mu_engine.specs.Moments.{IsMoment}
 use Rattle.mu_engine.specs.Telling.{TellsNow}
 use Rattle.mu_engine.specs.Rounds.{IsRound}
@@ -21,7 +21,7 @@ use Rattle.mu_report.specs.declared.responses.Response.TheVariants as response
 use Rattle.mu_serve.specs.SessionLines.{said_of}
 use Rattle.mu_serve.specs.declared.session.TheConstants.{WAIT_ROUNDS}
 use Rattle.mu_serve.specs.declared.session_lines.SessionLine.{SessionLine}
-use Rattle.mu_serve.specs.declared.session_lines.SessionLine.TheVariants.{Client, Operation, Stop, Pause}
+use Rattle.mu_serve.specs.declared.session_lines.SessionLine.TheVariants.{Client, Operation, Stop, Pause, Back, Help}
 use Rattle.mu_serve.specs.declared.waiting.Waiting.{Waiting}
 
 -- where a session is: its engine, the client of the next commands, how many lines were answered, and
@@ -78,6 +78,11 @@ PausesGoing true r rounds before responses after = Refuses SCRIPT before respons
 PausesGoing false r rounds before responses after =
     (responses ≡ response.Pauses r rounds ∷ [])
     × (after ≡ one_more (holding (paused rounds) r before))
+
+-- nothing holds a replica from here on
+abbrev pub ComesBack : ℕ → Talk → List Response → Talk → Type 0
+ComesBack r before responses after =
+    (responses ≡ response.Back r ∷ []) × (after ≡ one_more (holding (held free) r before))
 
 -- one round
 pub record IsNext (before after : Live) : Type 0 where
@@ -195,6 +200,9 @@ AnswersSaid (Says (Stop r)) before responses after =
     StopsOnce (is_stopped (slice_get before.live.holds r)) r before responses after
 AnswersSaid (Says (Pause r rounds)) before responses after =
     PausesGoing (is_stopped (slice_get before.live.holds r)) r rounds before responses after
+AnswersSaid (Says (Back r)) before responses after = ComesBack r before responses after
+AnswersSaid (Says Help) before responses after =
+    (responses ≡ response.Help ∷ []) × (after ≡ one_more before)
 
 -- a line is answered
 abbrev pub Answers : Talk → List ℕ → List Response → Talk → Type 0

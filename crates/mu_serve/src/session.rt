@@ -12,7 +12,7 @@ use crate::closing::account_at_end;
 use crate::session_lines::{SessionLine, session_line};
 use crate::waiting::{Sorted, Waiting, sorted_by_reply};
 use kv_store::{Command, Op, Reply};
-use mu_engine::{Engine, Refusal, Shape};
+use mu_engine::{Engine, Hold, Refusal, Shape};
 use mu_input::cause::{SCRIPT, TOO_MANY};
 use mu_input::{MOST_COMMANDS, MOST_RING, MOST_STEPS};
 use mu_model::NoMemory;
@@ -24,6 +24,12 @@ use std::slice;
 
 /// For how many rounds a command waits for its reply at most.
 pub const WAIT_ROUNDS: u32 = 10_000;
+
+/// What holds a replica that is back.
+const FREE: Hold = Hold {
+    stopped: false,
+    rounds: 0,
+};
 
 /// An engine, and the talk so far. Contracts see both.
 #[derive(Drop)]
@@ -97,6 +103,8 @@ impl Session {
             Ok(SessionLine::Operation(op)) => self.ask(op),
             Ok(SessionLine::Stop(replica)) => self.stop(replica),
             Ok(SessionLine::Pause(replica, rounds)) => self.pause(replica, rounds),
+            Ok(SessionLine::Back(replica)) => self.back(replica),
+            Ok(SessionLine::Help) => self.help(),
             Err(cause) => self.refuse(cause),
         }
     }
@@ -170,6 +178,29 @@ impl Session {
         self.count += 1;
         self.engine.pause(replica, rounds);
         only(self.alloc, &Response::Pauses(replica, rounds))
+    }
+
+    /// Nothing holds a replica from here on.
+    fn back(&mut self, replica: u8) -> Result<Vec<Response>, NoMemory>
+        requires count { self.old.count + 1 < 2 ^ 32 }
+        requires there { replica < self.old.live.job.config.replicas }
+        ensures { IfOk result (λ responses.
+            AnswersSaid (SaysLine (saying.Back replica)) self.old responses.items self.new) }
+    {
+        let _config = self.engine.config();
+        self.count += 1;
+        self.engine.hold(replica, FREE);
+        only(self.alloc, &Response::Back(replica))
+    }
+
+    /// The lines that there are.
+    fn help(&mut self) -> Result<Vec<Response>, NoMemory>
+        requires { self.old.count + 1 < 2 ^ 32 }
+        ensures { IfOk result (λ responses.
+            AnswersSaid (SaysLine saying.Help) self.old responses.items self.new) }
+    {
+        self.count += 1;
+        only(self.alloc, &Response::Help)
     }
 
     /// The current client asks for this.

@@ -3,7 +3,7 @@ ghost use Rattle.std.specs.Prelude.{◌≡◌, ◌<◌, ◌≤◌, ℕ, List, ma
 ghost use Rattle.mu_input.specs.Operations.{operation_of};
 ghost use Rattle.mu_input.specs.declared.TheConstants.{MOST_ROUNDS as MOST_PAUSED};
 ghost use Rattle.mu_input.specs.Readings.{Tells};
-ghost use Rattle.mu_serve.specs.SessionLines.{client_line, command_line, pause_line, pause_of, pause_rounds, pause_words, said_of, session_line, stop_line, IsInReach};
+ghost use Rattle.mu_serve.specs.SessionLines.{back_line, client_line, command_line, pause_line, pause_of, pause_rounds, pause_words, said_of, session_line, stop_line, IsInReach};
 ghost use Rattle.mu_text.specs.Lines.{words};
 ghost use Rattle.mu_text.specs.declared.line_text.TheConstants.{LINE_BYTES as MOST_KEPT};
 
@@ -19,18 +19,22 @@ pub enum SessionLine {
     Client(u8),
     /// The current client asks for this.
     Operation(Op),
-    /// `stop R`: this replica stops for good.
+    /// `stop R`: this replica stops until it is back.
     Stop(u8),
     /// `pause R ROUNDS`: this replica is passed over for this many rounds, 1 to 10,000.
     Pause(u8, u32),
+    /// `back R`: nothing holds this replica from here on, neither a stop nor a pause.
+    Back(u8),
+    /// `help`: which lines there are.
+    Help,
 }
 
 /// What a line says of which this is the front, in a session of this many replicas.
 ///
 /// # Errors
 ///
-/// The cause: 5 a `client` line without a number, 9 with one above 15, 10 a line `stop` or `pause`
-/// that is none of a replica of the session, 17 a line of 192 bytes or more, and of any other line
+/// The cause: 5 a `client` line without a number, 9 with one above 15, 10 a line `stop`, `pause`
+/// or `back` that is none of a replica of the session, 17 a line of 192 bytes or more, and of any other line
 /// the cause that it has in a job where a command is expected: 6, 7 or 8.
 pub fn session_line(replicas: u8, front: &Line) -> Result<SessionLine, u8>
     ensures reading { (line : List ℕ) → front.now ≡ take MOST_KEPT line
@@ -63,6 +67,10 @@ fn said_of_words(replicas: u8, words: &[&[u8]]) -> Result<SessionLine, u8>
         stop_of(replicas, words)
     } else if is_first(words, b"pause") {
         pause_of(replicas, words)
+    } else if is_first(words, b"back") {
+        back_of(replicas, words)
+    } else if is_first(words, b"help") {
+        Ok(SessionLine::Help)
     } else {
         command_of(words)
     }
@@ -93,6 +101,20 @@ fn stop_of(replicas: u8, words: &[&[u8]]) -> Result<SessionLine, u8>
     };
     match replica_of(word, replicas) {
         Some(replica) => Ok(SessionLine::Stop(replica)),
+        None => Err(SCRIPT),
+    }
+}
+
+/// A line `back R`.
+fn back_of(replicas: u8, words: &[&[u8]]) -> Result<SessionLine, u8>
+    ensures reading { Tells result (back_line replicas (map (λ word. word.now) words.now)) }
+    ensures reach { IfOk result (IsInReach replicas) }
+{
+    let [_, word] = words else {
+        return Err(SCRIPT);
+    };
+    match replica_of(word, replicas) {
+        Some(replica) => Ok(SessionLine::Back(replica)),
         None => Err(SCRIPT),
     }
 }
