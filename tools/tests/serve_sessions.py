@@ -3,7 +3,7 @@
 
     tools/tests/serve_sessions.py [COUNT [SEED]]    100 sessions if no number is given; the last line is `N passed, M failed`
 
-A session has one to seven replicas, clients that take turns, bad lines, pauses, and stops. At its end it may have quiet
+A session has one to seven replicas, clients that take turns, bad lines, pauses, stops and returns. At its end it may have quiet
 lines, which are commands alone: some, or more than the ring has places. Some sessions are held line by line: the answer
 is read before the next line is written. It is checked that
 
@@ -74,6 +74,10 @@ def random_lines(chance, replicas):
             if 2 * len(stopped | {replica}) < replicas or chance.random() < 0.05:
                 stopped.add(replica)
                 lines.append(f"stop {replica}")
+        elif draw < 0.12 and stopped:
+            replica = chance.choice(sorted(stopped))
+            stopped.remove(replica)
+            lines.append(f"back {replica}")
         elif draw < 0.17:
             lines.append(f"pause {chance.randrange(replicas)} {chance.randint(1, MOST_PAUSE)}")
         elif draw < 0.24:
@@ -111,6 +115,10 @@ class Session:
             self.stopped.add(int(words[1]))
             self.quiet = 0
             ensure(answer == f"replica {words[1]} stops", f"{answer!r} to {line!r}")
+        elif words[0] == "back":
+            self.stopped.discard(int(words[1]))
+            self.quiet = 0
+            ensure(answer == f"replica {words[1]} is back", f"{answer!r} to {line!r}")
         elif words[0] == "pause":
             self.quiet = 0
             ensure(answer == f"replica {words[1]} pauses for {words[2]} rounds", f"{answer!r} to {line!r}")

@@ -1,5 +1,6 @@
--- session line: what a line of a session says: a command as in a job, the client from here on, a stop,
--- a pause or the end of both of a replica, which lines there are, or the cause why it says nothing.
+-- session line: what a line of a session says: a command as in a job, the client from here on, a
+-- stop or a pause of a replica or the end of both, which lines there are, or the cause why it says
+-- nothing.
 use Rattle.std.specs.Prelude.{ℕ, ◌<◌, ◌≤◌, List, [], ◌∷◌, length, nat_lt, codes, None, Some, ⊤, if◌then◌else◌}
 use Rattle.std.specs.declared.option.Option.{Option}
 use Rattle.kv_store.specs.Commands.{HasShortTexts}
